@@ -1,0 +1,6 @@
+pub mod Names
+pub mod Trees
+pub mod Document
+pub mod Place
+pub mod Values
+pub mod Pyx

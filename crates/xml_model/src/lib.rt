@@ -1,0 +1,18 @@
+//! Documents: trees of elements, attributes, texts and instructions, and what is meant by them.
+//!
+//! Contracts see a `Node`, an `Attr` and a `Doc` as plain values. The definitions that every crate
+//! above rests on stand here: which documents are valid (`Document`), places and their order
+//! (`Place`), and how lines of PYX spell a document (`Pyx`), with the laws between them
+//! (`pyx_is_read_again`, `what_is_read_is_valid`).
+//! Nothing is refused here: a call ends with its answer or, where it takes memory, `NoMemory`.
+#![tactic(auto)]
+
+mod laws;
+mod limits;
+mod node;
+mod place;
+
+pub use laws::{pyx_is_read_again, what_is_read_is_valid};
+pub use limits::{DEPTH_MAX, NAME_BYTES_MAX, NODES_MAX, TEXT_BYTES_MAX};
+pub use node::{Attr, AttrList, Doc, Measure, Node, NodeList, RefusedLine};
+pub use place::{Place, PlaceStep, place_order};

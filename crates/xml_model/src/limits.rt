@@ -1,0 +1,11 @@
+/// The most bytes of a name of an element, an attribute or an instruction.
+pub const NAME_BYTES_MAX: usize = 255;
+
+/// The most elements that may be open at once.
+pub const DEPTH_MAX: usize = 512;
+
+/// The most nodes of a document. Attributes count, the document itself does not.
+pub const NODES_MAX: u64 = 4_194_304;
+
+/// The most bytes of all values of a document.
+pub const TEXT_BYTES_MAX: u64 = 268_435_456;
