@@ -7,8 +7,10 @@
 //! Nothing is refused here: a call ends with its answer or, where it takes memory, `NoMemory`.
 #![tactic(auto)]
 
+mod copy;
 mod laws;
 mod limits;
+mod measure;
 mod node;
 mod place;
 

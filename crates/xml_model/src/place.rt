@@ -1,4 +1,4 @@
-ghost use Rattle.std.specs.Prelude.{◌≡◌};
+ghost use Rattle.std.specs.Prelude.{◌≡◌, []};
 ghost use Rattle.xml_model.specs.Place.{place_cmp, step_cmp};
 
 use std::cmp::Ordering;
@@ -28,14 +28,24 @@ fn step_order(a: &PlaceStep, b: &PlaceStep) -> Ordering
 fn steps_order(a: &[PlaceStep], b: &[PlaceStep]) -> Ordering
     ensures { result ≡ place_cmp a.now b.now }
 {
-    match (a, b) {
-        ([], []) => Ordering::Equal,
-        ([], _) => Ordering::Less,
-        (_, []) => Ordering::Greater,
-        ([s, p @ ..], [t, q @ ..]) => match step_order(s, t) {
-            Ordering::Equal => steps_order(p, q),
-            different => different,
+    match a {
+        [] => empty_order(b),
+        [s, p @ ..] => match b {
+            [] => Ordering::Greater,
+            [t, q @ ..] => match step_order(s, t) {
+                Ordering::Equal => steps_order(p, q),
+                different => different,
+            },
         },
+    }
+}
+
+fn empty_order(b: &[PlaceStep]) -> Ordering
+    ensures { result ≡ place_cmp [] b.now }
+{
+    match b {
+        [] => Ordering::Equal,
+        [_, ..] => Ordering::Less,
     }
 }
 
