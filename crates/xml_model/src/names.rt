@@ -1,0 +1,41 @@
+ghost use Rattle.std.specs.Prelude.{◌≡◌};
+ghost use Rattle.std.specs.List.{list_all};
+ghost use Rattle.xml_model.specs.Names as spec;
+
+use crate::limits::NAME_BYTES_MAX;
+
+fn begins_name(b: u8) -> bool
+    ensures { result ≡ spec.begins_name b }
+{
+    b.is_ascii_alphabetic() || b == b'_' || b == b':' || b >= 128
+}
+
+fn continues_name(b: u8) -> bool
+    ensures { result ≡ spec.continues_name b }
+{
+    begins_name(b) || b.is_ascii_digit() || b == b'-' || b == b'.'
+}
+
+fn continue_name(bytes: &[u8]) -> bool
+    ensures { result ≡ list_all spec.continues_name bytes.now }
+{
+    bytes.iter().all(|b| continues_name(*b))
+}
+
+fn is_name_of(bytes: &[u8]) -> bool
+    ensures { result ≡ spec.is_name bytes.now }
+{
+    match bytes {
+        [] => false,
+        [first, rest @ ..] => {
+            begins_name(*first) && (continue_name(rest) && bytes.len() <= NAME_BYTES_MAX)
+        }
+    }
+}
+
+/// Whether a text is a name of an element, an attribute or an instruction. Takes no memory.
+pub fn is_name(text: &str) -> bool
+    ensures { result ≡ spec.is_name text.now }
+{
+    is_name_of(text.as_bytes())
+}
