@@ -1,0 +1,12 @@
+use Rattle.std.proofs.Common.{◌≡◌, ◌++◌, length}
+use denote.Text.{Utf8}
+use denote.Shadow.{shadow}
+use Rattle.xml_model.specs.Values as spec
+use Rattle.pyx_text.specs.Replacing.{replaced, tab, line_or_tab}
+use Rattle.pyx_text.proofs.escape.push_tabs.Given as goal
+
+abbrev pub invariant-loop-before : goal.invariant-loop-before
+invariant-loop-before l = shadow (Utf8 l.rest) × (l.line ++ replaced tab l.rest ≡ l.initial.line ++ replaced tab l.value)
+
+abbrev pub decreases-loop-before : goal.decreases-loop-before
+decreases-loop-before l = length l.rest
