@@ -2,3 +2,4 @@ pub mod Escapes
 pub mod Lines
 pub mod Nodes
 pub mod ReadAgain
+pub mod ReadIsValid

@@ -75,6 +75,10 @@ taken_after line f r rest e n = rw (e, n) refl
 pub same_bytes : (bs : List ℕ) → bytes_eq bs bs ≡ true
 same_bytes bs = (bytes_eq-Decides bs bs).1 refl
 
+-- whether two names are the same does not depend on their order
+pub bytes_eq_sym : (xs ys : List ℕ) → bytes_eq xs ys ≡ false → bytes_eq ys xs ≡ false
+bytes_eq_sym xs ys e = false_from_ne_true _ (λ h. true≢false (sym ((bytes_eq-Decides xs ys).1 (sym ((bytes_eq-Decides ys xs).0 h))) ∙ e))
+
 -- characters that are a node of their own
 texts_added_one : (value : List ℕ) (here : List Node) → 0 < length value → ends_in_text here ≡ false → texts_added value here ≡ 1
 texts_added_one [] here h e = absurd (omega arith)

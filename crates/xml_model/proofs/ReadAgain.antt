@@ -1,8 +1,7 @@
 -- What is written as PYX is read again.
-use Rattle.std.proofs.Common.{◌≡◌, ℕ, suc, ◌+◌, ◌<◌, ◌≤◌, Bool, true, false, ◌&&◌, IsTrue, List, [], ◌∷◌, ◌++◌, map, length, Ok, refl, ap, sym, ◌∙◌, subst, append_assoc, append-nil, arith, true≢false}
+use Rattle.std.proofs.Common.{◌≡◌, ℕ, suc, ◌+◌, ◌<◌, ◌≤◌, Bool, true, false, ◌&&◌, IsTrue, List, [], ◌∷◌, ◌++◌, map, length, Ok, refl, ap, sym, ◌∙◌, subst, append_assoc, append-nil, arith}
 use Rattle.std.specs.Str.{bytes_eq}
-use Rattle.std.proofs.lemmas.Bool.{or_parts, false_from_ne_true}
-use Rattle.std.proofs.lemmas.Slice.Eq.{bytes_eq-Decides}
+use Rattle.std.proofs.lemmas.Bool.{or_parts}
 use Rattle.xml_model.specs.declared.limits.TheConstants.{DEPTH_MAX, NODES_MAX, TEXT_BYTES_MAX}
 use Rattle.xml_model.specs.declared.node.Attr.{Attr}
 use Rattle.xml_model.specs.declared.node.Doc.{Doc}
@@ -13,12 +12,8 @@ use Rattle.xml_model.specs.Trees.{count_of, count_node, count_step, bytes_of, by
 use Rattle.xml_model.specs.Values.{escaped}
 use Rattle.xml_model.specs.Document.{IsValid, IsFormed, AreFormed, AllFormed, IsApart, AreAttributes, is_text}
 use Rattle.xml_model.specs.Pyx.{Line, OpenElement, ends_in_text, after, next_line, attribute_line, behind_target, pyx_step, pyx_node, pyx_of, start, ended, ◌>>=◌, read, pyx}
-use Rattle.xml_model.proofs.Lines.{state, opened, begins_after, ends_after, attribute_after, characters_after, instruction_after}
+use Rattle.xml_model.proofs.Lines.{bytes_eq_sym, state, opened, begins_after, ends_after, attribute_after, characters_after, instruction_after}
 use Rattle.xml_model.proofs.Nodes.{fold-Text, fold-Pi, fold-Element, fold-Element', made-Element', is_text-layer}
-
--- whether two names are the same does not depend on their order
-bytes_eq_sym : (xs ys : List ℕ) → bytes_eq xs ys ≡ false → bytes_eq ys xs ≡ false
-bytes_eq_sym xs ys e = false_from_ne_true _ (λ h. true≢false (sym ((bytes_eq-Decides xs ys).1 (sym ((bytes_eq-Decides ys xs).0 h))) ∙ e))
 
 not_behind : (name : List ℕ) (done : List Attr) (a : Attr) (more : List Attr) → has_attribute name (done ++ a ∷ more) ≡ false → bytes_eq a.name name ≡ false
 not_behind name [] a more h = (or_parts _ _ h).0
