@@ -3,3 +3,4 @@ pub mod Lines
 pub mod Nodes
 pub mod ReadAgain
 pub mod ReadIsValid
+pub mod TextAgain

@@ -43,7 +43,7 @@ behind_space_none (b ∷ bs) h = let p = and_parts _ _ h in behind_space-cons b 
 continues : (b : ℕ) → begins_name b ≡ true → continues_name b ≡ true
 continues b e = rw e refl
 
-name_continues : (name : List ℕ) → IsTrue (is_name name) → list_all continues_name name ≡ true
+pub name_continues : (name : List ℕ) → IsTrue (is_name name) → list_all continues_name name ≡ true
 name_continues [] h = cc
 name_continues (b ∷ bs) h =
     let p = and_parts _ _ h in
