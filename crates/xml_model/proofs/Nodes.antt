@@ -38,32 +38,39 @@ is_text-layer (Pi target value) = rw (outs-Pi target value) refl
 
 -- a list of nodes with one more at the end
 
+-- it adds its own number of nodes
 pub count_of-push : (xs : List Node) (x : Node) → count_of (xs ++ x ∷ []) ≡ count_of xs + count_node x
 count_of-push [] x = omega arith
 count_of-push (y ∷ xs) x = omega (arith, count_of-push xs x)
 
+-- it adds the bytes of its own values
 pub bytes_of-push : (xs : List Node) (x : Node) → bytes_of (xs ++ x ∷ []) ≡ bytes_of xs + bytes_node x
 bytes_of-push [] x = omega arith
 bytes_of-push (y ∷ xs) x = omega (arith, bytes_of-push xs x)
 
+-- the list is as deep as the deeper of both
 pub depth_of-push : (xs : List Node) (x : Node) → depth_of (xs ++ x ∷ []) ≡ max (depth_of xs) (depth_node x)
 depth_of-push [] x = omega arith
 depth_of-push (y ∷ xs) x = omega (arith, depth_of-push xs x)
 
+-- it stays well-formed, if the node is
 pub AllFormed-push : (xs : List Node) (x : Node) → AllFormed xs → IsFormed x → AllFormed (xs ++ x ∷ [])
 AllFormed-push [] x formed h = (h, tt)
 AllFormed-push (y ∷ xs) x formed h = (formed.0, AllFormed-push xs x formed.1 h)
 
+-- no two texts become neighbours, if the node is no text
 pub IsApart-push : (after : Bool) (xs : List Node) (x : Node) → IsApart after xs → is_text x ≡ false → IsApart after (xs ++ x ∷ [])
 IsApart-push after [] x apart h = (and_right after _ h, tt)
 IsApart-push after (y ∷ xs) x apart h = (apart.0, IsApart-push (is_text y) xs x apart.1 h)
 
 -- an element of well-formed parts is well-formed
 
+-- a row of well-formed nodes is well-formed
 row_formed : (m : _) (row : Row_of-Node m) → AllFormed (items-the_row-Node m row) → AreFormed row
 row_formed _ end_of-Node formed = tt
 row_formed _ (more_of-Node x row) formed = (formed.0, row_formed _ row formed.1)
 
+-- so is an element, by its name, its attributes and its children
 pub formed-Element : (name : List ℕ) (attrs : List Attr) (kids : List Node) → IsTrue (is_name name) → AreAttributes attrs → IsApart false kids → AllFormed kids → IsFormed (Element name attrs kids)
 formed-Element name attrs kids named are apart formed =
     let whole = sym (items_hidden-the_row-Node-0 kids) in

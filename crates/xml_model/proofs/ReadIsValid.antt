@@ -56,16 +56,19 @@ passed false why o e = (refl, e)
 
 -- one attribute more, of a new name
 
+-- a name that none of the attributes has, nor the new one, is not among them all
 not_among-push : (name : List ℕ) (attrs : List Attr) (a : Attr) → has_attribute name attrs ≡ false → bytes_eq a.name name ≡ false → has_attribute name (attrs ++ a ∷ []) ≡ false
 not_among-push name [] a h e = or_from _ _ e refl
 not_among-push name (d ∷ attrs) a h e = let p = or_parts _ _ h in or_from _ _ p.0 (not_among-push name attrs a p.1 e)
 
+-- attributes stay attributes with one more of a new name
 AreAttributes-push : (attrs : List Attr) (a : Attr) → AreAttributes attrs → IsTrue (is_name a.name) → has_attribute a.name attrs ≡ false → AreAttributes (attrs ++ a ∷ [])
 AreAttributes-push [] a are named new = (named, refl, tt)
 AreAttributes-push (d ∷ attrs) a are named new =
     let p = or_parts _ _ new in
     (are.0, not_among-push d.name attrs a are.1 (bytes_eq_sym d.name a.name p.0), AreAttributes-push attrs a are.2 named p.1)
 
+-- the bytes of values grow by those of the new one
 value_bytes-push : (attrs : List Attr) (a : Attr) → value_bytes (attrs ++ a ∷ []) ≡ value_bytes attrs + length a.value
 value_bytes-push [] a = omega arith
 value_bytes-push (d ∷ attrs) a = omega (arith, value_bytes-push attrs a)
@@ -78,6 +81,7 @@ record Grows (first : Bool) (value : List ℕ) (here now : List Node) (added : �
   pub nodes : count_of now ≡ count_of here + added
   pub bytes : bytes_of now ≡ bytes_of here + length value
 
+-- they are the first node, where there is none
 characters_first : (c : ℕ) (cs : List ℕ) → Grows false (c ∷ cs) [] (with_characters (c ∷ cs) []) 1
 characters_first c cs =
     let d = fold-Text ℕ depth_step (c ∷ cs) in
@@ -85,7 +89,7 @@ characters_first c cs =
     let b = fold-Text ℕ bytes_step (c ∷ cs) in
     record { formed = λ h. (omega arith, tt); apart = λ h. (refl, tt); deep = omega arith; nodes = omega arith; bytes = omega arith }
 
--- they are a text of their own behind an element or an instruction, and go into a text
+-- they are a text of their own behind an element or an instruction
 characters_beside : (first : Bool) (c : ℕ) (cs : List ℕ) (x : Node) → is_text x ≡ false → Grows first (c ∷ cs) (x ∷ []) (x ∷ Text (c ∷ cs) ∷ []) 1
 characters_beside first c cs x other =
     let d = fold-Text ℕ depth_step (c ∷ cs) in
@@ -93,6 +97,7 @@ characters_beside first c cs x other =
     let b = fold-Text ℕ bytes_step (c ∷ cs) in
     record { formed = λ h. (h.0, (omega arith, tt)); apart = λ h. (h.0, (and_left _ _ other, tt)); deep = omega arith; nodes = omega arith; bytes = omega arith }
 
+-- they go into a text
 characters_joined : (first : Bool) (c : ℕ) (cs : List ℕ) (value : List ℕ) → Grows first (c ∷ cs) (Text value ∷ []) (Text (value ++ c ∷ cs) ∷ []) 0
 characters_joined first c cs value =
     let d = fold-Text ℕ depth_step (value ++ c ∷ cs) in
@@ -104,23 +109,27 @@ characters_joined first c cs value =
     let all = length-append value (c ∷ cs) in
     record { formed = λ h. (omega arith, tt); apart = λ h. h; deep = omega arith; nodes = omega arith; bytes = omega arith }
 
+-- they go by the last node
 characters_last : (first : Bool) (c : ℕ) (cs : List ℕ) (x : Node) → Grows first (c ∷ cs) (x ∷ []) (with_characters (c ∷ cs) (x ∷ [])) (texts_added (c ∷ cs) (x ∷ []))
 characters_last first c cs (Element' name attrs s row) = rw (outs-Element' name attrs s row) (characters_beside first c cs (Element' name attrs s row) refl)
 characters_last first c cs (Text value) = rw (outs-Text value) (characters_joined first c cs value)
 characters_last first c cs (Pi target value) = rw (outs-Pi target value) (characters_beside first c cs (Pi target value) refl)
 
+-- they change nothing before the last node
 characters_more : (first : Bool) (c : ℕ) (cs : List ℕ) (x : Node) (more : List Node) → Grows first (c ∷ cs) (x ∷ more) (with_characters (c ∷ cs) (x ∷ more)) (texts_added (c ∷ cs) (x ∷ more))
 characters_more first c cs x [] = characters_last first c cs x
 characters_more first c cs x (y ∷ more) =
     let g = characters_more (is_text x) c cs y more in
     record { formed = λ h. (h.0, g.formed h.1); apart = λ h. (h.0, g.apart h.1); deep = omega (arith, g.deep); nodes = omega (arith, g.nodes); bytes = omega (arith, g.bytes) }
 
+-- so they do, whatever the nodes are
 characters_grow : (c : ℕ) (cs : List ℕ) (here : List Node) → Grows false (c ∷ cs) here (with_characters (c ∷ cs) here) (texts_added (c ∷ cs) here)
 characters_grow c cs [] = characters_first c cs
 characters_grow c cs (x ∷ more) = characters_more false c cs x more
 
 -- what is taken keeps it
 
+-- a beginning of an element
 begins_kept : (name : List ℕ) (r : Reading) → refusal (begins name) r ≡ None → IsSound r.stack r.here r.nodes r.bytes
     → IsSound (record { name = name; attrs = []; before = r.here } ∷ r.stack) [] (r.nodes + 1) r.bytes
 begins_kept name r e s =
@@ -140,6 +149,7 @@ begins_kept name r e s =
       short = s.short;
     }
 
+-- an end of an element
 ends_kept : (name : List ℕ) (stack : List OpenElement) (r : Reading) → closes name stack ≡ true → IsSound stack r.here r.nodes r.bytes
     → IsSound (closed stack r).stack (closed stack r).here (closed stack r).nodes (closed stack r).bytes
 ends_kept name [] r e s = cc
@@ -157,6 +167,7 @@ ends_kept name (o ∷ outer) r e s =
       short = s.short;
     }
 
+-- an attribute
 attribute_kept : (a : Attr) (stack : List OpenElement) (here : List Node) (n b : ℕ) → IsTrue (is_name a.name) → has_already a.name stack ≡ false → n + 1 ≤ NODES_MAX → b + length a.value ≤ TEXT_BYTES_MAX
     → IsSound stack here n b → IsSound (with_attribute a stack) here (n + 1) (b + length a.value)
 attribute_kept a [] here n b named new few short s =
@@ -174,6 +185,7 @@ attribute_kept a (o ∷ outer) here n b named new few short s =
       short = short;
     }
 
+-- characters
 characters_kept : (value : List ℕ) (stack : List OpenElement) (here : List Node) (n b : ℕ) → n + texts_added value here ≤ NODES_MAX → b + length value ≤ TEXT_BYTES_MAX
     → IsSound stack here n b → IsSound stack (with_characters value here) (n + texts_added value here) (b + length value)
 characters_kept [] stack here n b few short s =
@@ -191,6 +203,7 @@ characters_kept (c ∷ cs) stack here n b few short s =
       short = short;
     }
 
+-- an instruction
 instruction_kept : (target value : List ℕ) (stack : List OpenElement) (here : List Node) (n b : ℕ) → IsTrue (is_name target) → n + 1 ≤ NODES_MAX → b + length value ≤ TEXT_BYTES_MAX
     → IsSound stack here n b → IsSound stack (here ++ Pi target value ∷ []) (n + 1) (b + length value)
 instruction_kept target value stack here n b named few short s =
@@ -206,6 +219,7 @@ instruction_kept target value stack here n b named few short s =
       short = short;
     }
 
+-- any line that is not refused
 kept : (f : Form) (r : Reading) → refusal f r ≡ None → IsSound r.stack r.here r.nodes r.bytes → IsSound (taken f r).stack (taken f r).here (taken f r).nodes (taken f r).bytes
 kept no_form r e s = cc
 kept (begins name) r e s = begins_kept name r e s
@@ -232,16 +246,19 @@ kept (instruction target value) r e s =
 
 -- what stands behind an answer
 
+-- an answer that went on to another one was there
 ok_parts : {A B : Type 0} (o : Result A RefusedLine) (f : A → Result B RefusedLine) (b : B) → (o >>= f) ≡ Ok b → (a : A) × (o ≡ Ok a) × (f a ≡ Ok b)
 ok_parts (Ok a) f b e = (a, refl, e)
 ok_parts (Err x) f b e = cc
 
+-- a line that was read keeps it
 stepped_kept : (o : Option PyxRefusal) (f : Form) (r then : Reading) → refusal f r ≡ o → stepped o f r ≡ Ok then → IsSound r.stack r.here r.nodes r.bytes → IsSound then.stack then.here then.nodes then.bytes
 stepped_kept (Some why) f r then e g s = cc
 stepped_kept None f r then e g s =
     let same : record (taken f r) { lines = next_line r.lines } ≡ then = cc in
     subst (λ q. IsSound q.stack q.here q.nodes q.bytes) same (kept f r e s)
 
+-- all lines that were read keep it
 after_kept : (lines : List Line) (r then : Reading) → after lines r ≡ Ok then → IsSound r.stack r.here r.nodes r.bytes → IsSound then.stack then.here then.nodes then.bytes
 after_kept [] r then e s = let same : r ≡ then = cc in subst (λ q. IsSound q.stack q.here q.nodes q.bytes) same s
 after_kept (line ∷ lines) r then e s =
@@ -256,9 +273,11 @@ ended_valid [] r doc e s =
     subst IsValid same (record { formed = s.formed; apart = s.apart; depth = omega (arith, s.deep); nodes = omega (arith, s.counted, s.few); text = omega (arith, s.measured, s.short) })
 ended_valid (f ∷ outer) r doc e s = cc
 
+-- it holds at the start
 start_sound : IsSound [] [] 0 0
 start_sound = record { are_open = tt; formed = tt; apart = tt; deep = omega arith; counted = omega arith; few = omega arith; measured = omega arith; short = omega arith }
 
+-- what lines are read as is a valid document
 pub read_is_valid : (lines : List Line) (doc : Doc) → read lines ≡ Ok doc → IsValid doc
 read_is_valid lines doc e =
     let p = ok_parts (after lines start) ended doc e in
