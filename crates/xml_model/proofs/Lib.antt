@@ -1,0 +1,6 @@
+pub mod Escapes
+pub mod Lines
+pub mod Nodes
+pub mod ReadAgain
+pub mod ReadIsValid
+pub mod TextAgain
