@@ -1,0 +1,20 @@
+-- A count of faults, and what an answer says of it.
+use Rattle.std.specs.Prelude.{◌≡◌, ◌<◌, ◌≤◌, ◌⊎◌, ◌+◌, ℕ, min, Result, IsErr}
+
+-- the count has risen, or it stood and stands at the end of 64 bits
+abbrev pub Rose : ℕ → ℕ → Type 0
+Rose before now = (before < now) ⊎ ((before ≡ 18446744073709551615) × (now ≡ 18446744073709551615))
+
+-- it rose, and did not fall
+pub record Rises (before now : ℕ) : Type 0 where
+  pub later : before ≤ now
+  pub rose : Rose before now
+
+-- the count doesn't fall, and a call fails only where it rose
+pub record HasCause {T E : Type 0} (before now : ℕ) (result : Result T E) : Type 0 where
+  pub later : before ≤ now
+  pub failed : IsErr result → Rose before now
+
+-- one more, or the end of 64 bits
+abbrev pub up : ℕ → ℕ
+up n = min (n + 1) 18446744073709551615
