@@ -1,5 +1,7 @@
 -- What reading does at the end of a list of nodes looks at the last node alone.
-use Rattle.std.proofs.Common.{◌≡◌, ◌≢◌, ℕ, ◌+◌, List, [], ◌∷◌, ◌++◌, refl, ap, ◌∙◌, append_assoc}
+use Rattle.std.proofs.Common.{◌≡◌, ◌≢◌, ℕ, ◌+◌, List, [], ◌∷◌, ◌++◌, ◌-◌, ◌<◌, length, get_or, take, refl, ap, sym, ◌∙◌, arith}
+use Rattle.std.proofs.Math.Seq.{take-length}
+use Rattle.std.proofs.lemmas.List.{take_more}
 use Rattle.xml_model.specs.declared.node.Node.{Node, out-Node}
 use Rattle.xml_model.specs.declared.node.Node.TheVariants.{Element, Text, Pi, outs-Element, outs-Text, outs-Pi}
 use Rattle.xml_model.specs.declared.node.Attr.{Attr}
@@ -9,6 +11,15 @@ pub ends_in_text-last : (nodes : List Node) (n : Node) → ends_in_text (nodes +
 ends_in_text-last [] n = refl
 ends_in_text-last (x ∷ []) n = refl
 ends_in_text-last (x ∷ y ∷ nodes) n = ends_in_text-last (y ∷ nodes) n
+
+-- the last node, found by its index
+pub ends_in_text-at : (nodes : List Node) (n : Node) → 0 < length nodes → n ≡ get_or nodes (length nodes - 1) n → ends_in_text nodes ≡ is_text_layer (out-Node n)
+ends_in_text-at nodes n some at =
+    let count : length nodes ≡ (length nodes - 1) + 1 = omega arith in
+    let within : (length nodes - 1) < length nodes = omega arith in
+    let split : nodes ≡ take (length nodes - 1) nodes ++ get_or nodes (length nodes - 1) n ∷ [] =
+    sym (take-length nodes) ∙ (ap (λ k. take k nodes) count ∙ take_more nodes (length nodes - 1) n within) in
+    ap ends_in_text split ∙ (ends_in_text-last (take (length nodes - 1) nodes) (get_or nodes (length nodes - 1) n) ∙ ap (λ m. is_text_layer (out-Node m)) (sym at))
 
 pub with_characters-last : (value : List ℕ) (nodes : List Node) (n : Node) → value ≢ [] → with_characters value (nodes ++ n ∷ []) ≡ nodes ++ added_to (out-Node n) value n
 with_characters-last [] nodes n some = elim (some refl) [ ]

@@ -1,3 +1,4 @@
 pub mod Cuts
 pub mod Progress
+pub mod Reader
 pub mod Replacing

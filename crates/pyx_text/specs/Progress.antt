@@ -1,5 +1,6 @@
 -- What a reader under way has read.
-use Rattle.std.specs.Prelude.{◌≡◌, List, map, reverse, Result, Ok, Err}
+use Rattle.std.specs.Prelude.{◌≡◌, List, map, reverse, Option, None, Some, Result, Ok, Err}
+use Rattle.xml_model.specs.declared.node.RefusedLine.{RefusedLine}
 use Rattle.xml_model.specs.Pyx.{Reading, OpenElement, Form, refusal, stepped}
 use Rattle.pyx_text.specs.declared.fault.PyxFault.{PyxFault}
 use Rattle.pyx_text.specs.declared.fault.PyxFault.TheVariants.{Refused, NoMemory}
@@ -21,3 +22,7 @@ abbrev pub Takes : {T : Type 0} → Result T PyxFault → Reading → Reading �
 Takes (Ok x) old new form = stepped (refusal form old) form old ≡ Ok new
 Takes (Err (Refused e)) old new form = stepped (refusal form old) form old ≡ Err e
 Takes (Err NoMemory) old new form = new ≡ old
+
+abbrev pub read_so_far : Option RefusedLine → Progress → Result Reading RefusedLine
+read_so_far None p = Ok (reading_of p)
+read_so_far (Some refusal) p = Err refusal

@@ -85,7 +85,11 @@ fn ends_in_text(nodes: &[Node]) -> bool
 pub(crate) fn texts_added(value: &Str, here: &[Node]) -> u64
     ensures { result ≡ spec.texts_added value.now here.now }
 {
-    if value.is_empty() || ends_in_text(here) { 0 } else { 1 }
+    if value.is_empty() || ends_in_text(here) {
+        0
+    } else {
+        1
+    }
 }
 
 /// Adds characters at the end. After an error nothing has changed.
@@ -105,8 +109,20 @@ pub(crate) fn add_characters(here: &mut Vec<Node>, value: Str) -> Result<(), Pyx
             push_both(here, Node::Element { name, attrs, kids }, value);
             Ok(())
         }
-        Some(Node::Pi { target, value: text }) => {
-            push_both(here, Node::Pi { target, value: text }, value);
+        Some(
+            Node::Pi {
+                target,
+                value: text,
+            },
+        ) => {
+            push_both(
+                here,
+                Node::Pi {
+                    target,
+                    value: text,
+                },
+                value,
+            );
             Ok(())
         }
         None => {
@@ -136,4 +152,3 @@ pub(crate) fn join_text(here: &mut Vec<Node>, mut first: Str, more: &Str) -> Res
     push_in_room(here, Node::Text { value: first });
     Ok(joined?)
 }
-

@@ -14,7 +14,8 @@ fn cut(text: &str, mark: char) -> Option<(&str, &str)>
     text.split_once(mark)
 }
 
-fn behind(text: &str, mark: char) -> Option<&str>
+/// What stands behind the mark, where the text begins with it.
+pub(crate) fn behind(text: &str, mark: char) -> Option<&str>
     requires { mark < 128 }
     ensures { MatchOption result ((rest : List ℕ) → text.now ≢ mark ∷ rest) (λ x. text.now ≡ mark ∷ x.now) }
 {
@@ -33,13 +34,25 @@ fn escape_at(after: &str) -> Escape<'_>
     ensures rest { length result.rest.now ≤ length after.now }
 {
     if let Some(rest) = behind(after, 'n') {
-        Escape { stands_for: "\n", rest }
+        Escape {
+            stands_for: "\n",
+            rest,
+        }
     } else if let Some(rest) = behind(after, 't') {
-        Escape { stands_for: "\t", rest }
+        Escape {
+            stands_for: "\t",
+            rest,
+        }
     } else if let Some(rest) = behind(after, '\\') {
-        Escape { stands_for: "\\", rest }
+        Escape {
+            stands_for: "\\",
+            rest,
+        }
     } else {
-        Escape { stands_for: "\\", rest: after }
+        Escape {
+            stands_for: "\\",
+            rest: after,
+        }
     }
 }
 

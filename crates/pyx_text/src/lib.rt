@@ -4,7 +4,10 @@
 mod edits;
 mod escape;
 mod fault;
+mod lines;
 mod progress;
+mod reader;
 mod room;
 
 pub use fault::PyxFault;
+pub use reader::PyxReader;

@@ -6,7 +6,7 @@ use crate::fault::PyxFault;
 use crate::room::push_in_room;
 use std::alloc::Global;
 use std::mem;
-use xml_model::{Attr, DEPTH_MAX, NODES_MAX, Node, RefusedLine, TEXT_BYTES_MAX, is_name};
+use xml_model::{Attr, DEPTH_MAX, Doc, NODES_MAX, Node, RefusedLine, TEXT_BYTES_MAX, is_name};
 use xq_ast::{Items, PyxRefusal, Sequence, Str};
 
 /// An element that is open, with its attributes so far and the nodes before it in its list.
@@ -34,6 +34,7 @@ pub(crate) struct Progress {
 impl Progress {
     ghost use Rattle.pyx_text.specs.Progress.{reading_of, stack_of, Takes};
     ghost use Rattle.xml_model.specs.Pyx.{start};
+    ghost use Rattle.pyx_text.specs.Reader.{Ends};
 
     pub(crate) fn new(alloc: Global) -> Progress
         ensures { reading_of result ≡ start }
@@ -50,7 +51,7 @@ impl Progress {
     }
 
     /// The refusal of the next line.
-    fn refused(&self, why: PyxRefusal) -> PyxFault
+    pub(crate) fn refused(&self, why: PyxRefusal) -> PyxFault
         ensures { result ≡ PyxFault.Refused (record { why = why; line = spec.next_line self.now.lines }) }
     {
         PyxFault::Refused(RefusedLine {
@@ -98,11 +99,25 @@ impl Progress {
         if !closes_innermost(&self.stack, name) {
             return Err(self.refused(PyxRefusal::EndMismatch));
         }
-        let Some(OpenTag { name, attrs, mut before }) = self.stack.pop() else {
+        let Some(
+            OpenTag {
+                name,
+                attrs,
+                mut before,
+            },
+        ) = self.stack.pop()
+        else {
             return Err(self.refused(PyxRefusal::EndMismatch));
         };
         if before.reserve(1).is_err() {
-            push_in_room(&mut self.stack, OpenTag { name, attrs, before });
+            push_in_room(
+                &mut self.stack,
+                OpenTag {
+                    name,
+                    attrs,
+                    before,
+                },
+            );
             return Err(PyxFault::NoMemory);
         }
         let kids = mem::replace(&mut self.here, before);
@@ -189,5 +204,18 @@ impl Progress {
         self.bytes = bytes;
         self.lines = self.lines.saturating_add(1);
         Ok(())
+    }
+
+    /// The end of the lines.
+    pub(crate) fn finish(self) -> Result<Doc, PyxFault>
+        ensures { Ends result (spec.ended (reading_of self)) }
+    {
+        if !self.stack.is_empty() {
+            return Err(self.refused(PyxRefusal::Unclosed));
+        }
+        let Progress { here, .. } = self;
+        Ok(Doc {
+            kids: Items::from_vec(here),
+        })
     }
 }
