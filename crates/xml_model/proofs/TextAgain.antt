@@ -8,14 +8,9 @@ use Rattle.xml_model.specs.declared.node.Node.{Node, Element', Text, Pi, Row_of-
 use Rattle.xml_model.specs.Names.{is_name, continues_name}
 use Rattle.xml_model.specs.Values.{escaped, escaped_byte}
 use Rattle.xml_model.specs.Document.{IsValid, IsFormed, AreFormed, AllFormed, AreAttributes}
-use Rattle.xml_model.specs.Pyx.{Line, attribute_line, behind_target, pyx_step, pyx_node, pyx_of, pyx, text_of, in_front, lines_of}
+use Rattle.xml_model.specs.Pyx.{Line, attribute_line, behind_target, pyx_step, pyx_node, pyx_of, pyx, text_of, in_front, lines_of, IsPlain}
 use Rattle.xml_model.proofs.Lines.{name_continues}
 use Rattle.xml_model.proofs.Nodes.{fold-Text, fold-Pi, fold-Element'}
-
--- bytes without a newline
-abbrev IsPlain : List ℕ → Type 0
-IsPlain [] = Unit {0}
-IsPlain (b ∷ bs) = ((b == 10) ≡ false) × IsPlain bs
 
 abbrev ArePlain : List Line → Type 0
 ArePlain [] = Unit {0}
@@ -32,7 +27,7 @@ ArePlain-append [] ys p q = q
 ArePlain-append (x ∷ xs) ys p q = (p.0, ArePlain-append xs ys p.1 q)
 
 -- the first line of a text ends at the first newline
-first_line : (line : Line) (rest : List ℕ) → IsPlain line → lines_of (line ++ 10 ∷ rest) ≡ line ∷ lines_of rest
+pub first_line : (line : Line) (rest : List ℕ) → IsPlain line → lines_of (line ++ 10 ∷ rest) ≡ line ∷ lines_of rest
 first_line [] rest plain = refl
 first_line (b ∷ line) rest plain = rw plain.0 (ap (in_front b) (first_line line rest plain.1))
 

@@ -1,5 +1,5 @@
 -- How lines of PYX spell a document. A line is the list of its bytes, without a newline.
-use Rattle.std.specs.Prelude.{ℕ, ◌+◌, ◌-◌, ◌^◌, min, List, [], ◌∷◌, ◌++◌, map, length, Option, None, Some, Result, Ok, Err, Bool, true, false, not, ◌||◌, ◌==◌, nat_lt, nat_le, if◌then◌else◌}
+use Rattle.std.specs.Prelude.{◌≡◌, ℕ, ◌+◌, ◌-◌, ◌<◌, ◌^◌, min, List, [], ◌∷◌, ◌++◌, map, length, Option, None, Some, Result, Ok, Err, Bool, true, false, not, ◌||◌, ◌==◌, nat_lt, nat_le, if◌then◌else◌}
 use Rattle.std.specs.Str.{bytes_eq}
 use Rattle.std.specs.List.{before_first, after_first}
 use Rattle.xq_ast.specs.declared.refusal.PyxRefusal.{PyxRefusal}
@@ -218,3 +218,28 @@ in_front b (line ∷ lines) = (b ∷ line) ∷ lines
 abbrev pub lines_of : List ℕ → List Line
 lines_of [] = []
 lines_of (b ∷ bs) = if b == 10 then [] ∷ lines_of bs else in_front b (lines_of bs)
+
+-- the same of those lines alone that a newline ends
+abbrev pub in_front_of_ended : ℕ → List Line → List Line
+in_front_of_ended b [] = []
+in_front_of_ended b (line ∷ lines) = (b ∷ line) ∷ lines
+
+abbrev pub ended_lines_of : List ℕ → List Line
+ended_lines_of [] = []
+ended_lines_of (b ∷ bs) = if b == 10 then [] ∷ ended_lines_of bs else in_front_of_ended b (ended_lines_of bs)
+
+-- bytes without a newline
+abbrev pub IsPlain : List ℕ → Type 0
+IsPlain [] = Unit {0}
+IsPlain (b ∷ bs) = ((b == 10) ≡ false) × IsPlain bs
+
+-- a text cut in two at its first newline
+pub record IsCutLine (text line rest : List ℕ) : Type 0 where
+  pub whole : text ≡ line ++ 10 ∷ rest
+  pub plain : IsPlain line
+
+-- a text is its first line, whether a newline ends it, and the rest
+pub record IsFirstLine (text line : List ℕ) (is_ended : Bool) (rest : List ℕ) : Type 0 where
+  pub lines : lines_of text ≡ line ∷ lines_of rest
+  pub ended : ended_lines_of text ≡ (if is_ended then line ∷ ended_lines_of rest else [])
+  pub shorter : length rest < length text
