@@ -94,3 +94,12 @@ pub record IsRead (before after : Option (List ℕ)) (result : Result Doc TopFau
   pub taken : before ≡ prepend_known input after
   pub at_most : length input ≤ INPUT_BYTES_MAX + 1
   pub reads : Reads input after result
+
+-- the faults that reading can answer
+abbrev pub IsOfReading : TopFault → Type 0
+IsOfReading BadWords = ⊥
+IsOfReading (BadInput line why) = Unit {0}
+IsOfReading TooLarge = Unit {0}
+IsOfReading ReadFault = Unit {0}
+IsOfReading WriteFault = ⊥
+IsOfReading NoMemory = Unit {0}

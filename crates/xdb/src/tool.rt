@@ -1,12 +1,12 @@
-ghost use Rattle.std.specs.Prelude.{◌≡◌, ◌≤◌, ◌↔◌, false, Some, Err};
+ghost use Rattle.std.specs.Prelude.{◌≡◌, ◌≤◌, ◌↔◌, IfErr, false, Some, Err};
 ghost use Rattle.byte_edge.specs.Faults.{Rose};
 ghost use Rattle.xdb.specs.Tool as spec;
-ghost use Rattle.xdb.specs.Tool.{IsAnswered, IsRead, words_of, is_command};
+ghost use Rattle.xdb.specs.Tool.{IsAnswered, IsRead, IsOfReading, words_of, is_command};
 
 use crate::fault::{INPUT_BYTES_MAX, InputFault, TopFault};
 use crate::input::{InputEnd, read_input};
 use byte_edge::{ReadEnd, Sink, Source, read_all};
-
+use pyx_text::write_doc;
 use std::alloc::Global;
 use xml_model::Doc;
 
@@ -41,6 +41,16 @@ fn status_of(fault: Option<TopFault>) -> u8
     }
 }
 
+/// The end with this fault, or with none.
+pub(crate) fn end_of(fault: Option<TopFault>) -> TopEnd
+    ensures { result ≡ record { status = spec.status_of fault; fault = fault } }
+{
+    TopEnd {
+        status: status_of(fault),
+        fault,
+    }
+}
+
 fn of_read(end: ReadEnd) -> TopFault
     ensures { result ≡ spec.of_read end }
 {
@@ -64,6 +74,7 @@ fn of_input(end: InputEnd) -> TopFault
 fn read_doc<R: Source>(alloc: Global, from: &mut R) -> Result<Doc, TopFault>
     ensures read { IsRead (R.rest from.old) (R.rest from.new) result }
     ensures cause { result ≡ Err TopFault.ReadFault → Rose (R.faults from.old) (R.faults from.new) }
+    ensures only { IfErr result IsOfReading }
     ensures later { R.faults from.old ≤ R.faults from.new }
 {
     let bytes = match read_all(alloc, from, INPUT_BYTES_MAX) {
@@ -74,4 +85,52 @@ fn read_doc<R: Source>(alloc: Global, from: &mut R) -> Result<Doc, TopFault>
         Ok(doc) => Ok(doc),
         Err(end) => Err(of_input(end)),
     }
+}
+
+/// Runs the command that the words name, and answers the fault, if there is one.
+#[tactic(auto, using(crate::proofs::Answers::answer_laws))]
+fn run<R: Source, W: Sink>(
+    alloc: Global,
+    words: &[String],
+    from: &mut R,
+    to: &mut W,
+) -> Option<TopFault>
+    ensures words { (result ≡ Some TopFault.BadWords) ↔ (is_command (words_of words.now) ≡ false) }
+    ensures read_fault { result ≡ Some TopFault.ReadFault → Rose (R.faults from.old) (R.faults from.new) }
+    ensures write_fault { result ≡ Some TopFault.WriteFault → Rose (W.faults to.old) (W.faults to.new) }
+    ensures answer { IsAnswered (R.rest from.old) (R.rest from.new) (W.written to.old) (W.written to.new) result }
+    ensures later { (R.faults from.old ≤ R.faults from.new) × (W.faults to.old ≤ W.faults to.new) }
+{
+    if !is_row(words) {
+        return Some(TopFault::BadWords);
+    }
+    let doc = match read_doc(alloc, from) {
+        Ok(doc) => doc,
+        Err(fault) => return Some(fault),
+    };
+    match write_doc(&doc, to) {
+        Ok(()) => None,
+        Err(_) => Some(TopFault::WriteFault),
+    }
+}
+
+/// Does what the words say, over this source and this sink. The one command is `pyx`: it reads the source
+/// to its end, reads it as PYX, and writes the canonical text of the document. The order of refusals is:
+/// words, reading, input, writing. Nothing is written with a status other than 0, but with 5 a prefix.
+pub fn tool<R: Source, W: Sink>(
+    alloc: Global,
+    words: &[String],
+    from: &mut R,
+    to: &mut W,
+) -> TopEnd
+    ensures status { result.status ≡ spec.status_of result.fault }
+    // BadWords exactly where the words are no command.
+    ensures words { (result.fault ≡ Some TopFault.BadWords) ↔ (is_command (words_of words.now) ≡ false) }
+    ensures read_fault { result.fault ≡ Some TopFault.ReadFault → Rose (R.faults from.old) (R.faults from.new) }
+    ensures write_fault { result.fault ≡ Some TopFault.WriteFault → Rose (W.faults to.old) (W.faults to.new) }
+    // What was taken, what it spells, and what was written.
+    ensures answer { IsAnswered (R.rest from.old) (R.rest from.new) (W.written to.old) (W.written to.new) result.fault }
+    ensures later { (R.faults from.old ≤ R.faults from.new) × (W.faults to.old ≤ W.faults to.new) }
+{
+    end_of(run(alloc, words, from, to))
 }
