@@ -5,9 +5,12 @@ mod edits;
 mod escape;
 mod fault;
 mod lines;
+mod pending;
 mod progress;
 mod reader;
 mod room;
+mod write;
 
 pub use fault::PyxFault;
 pub use reader::PyxReader;
+pub use write::write_doc;
