@@ -5,9 +5,14 @@ mod edits;
 mod escape;
 mod fault;
 mod lines;
+mod listing;
+mod pending;
 mod progress;
 mod reader;
 mod room;
+mod write;
 
 pub use fault::PyxFault;
+pub use listing::lines_of;
 pub use reader::PyxReader;
+pub use write::write_doc;

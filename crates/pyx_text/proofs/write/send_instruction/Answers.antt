@@ -1,0 +1,15 @@
+use Rattle.std.proofs.Common.{◌++◌, ◌∷◌, []}
+use Rattle.xml_model.specs.Pyx.{behind_target}
+use Rattle.pyx_text.proofs.LineText.{marked_line}
+use Rattle.pyx_text.proofs.Sent.{failed, broke_before, broke_as, sends_as, sends_then}
+use Rattle.pyx_text.proofs.write.send_instruction.Goals as goal
+
+pub returns-in_err-send_mark : goal.returns-in_err-send_mark
+returns-in_err-send_mark g c =
+    failed c.from_residual.result c.from_residual.ensures.0
+    (broke_as _ _ (marked_line 63 c.args.target.now (behind_target c.args.value.now)) (broke_before (behind_target c.args.value.now ++ 10 ∷ []) c.in_err-send_mark.ensures))
+
+pub returns : goal.returns
+returns g c =
+    sends_as c.send_behind.result _ _ _ _ (marked_line 63 c.args.target.now (behind_target c.args.value.now))
+    (sends_then c.send_behind.result (behind_target c.args.value.now ++ 10 ∷ []) _ c.in_ok-send_mark.ensures c.send_behind.ensures)
