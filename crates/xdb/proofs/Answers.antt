@@ -6,7 +6,8 @@ use Rattle.xml_model.specs.declared.node.Doc.{Doc}
 use Rattle.xml_model.specs.Pyx.{pyx, text_of}
 use Rattle.xdb.specs.declared.fault.TopFault.{TopFault}
 use Rattle.xdb.specs.declared.fault.TopFault.TheVariants.{BadWords, BadInput, TooLarge, ReadFault, WriteFault, NoMemory}
-use Rattle.xdb.specs.Tool.{Reads, IsRead, Answers, IsAnswered, IsWritten, IsPartlyWritten}
+use Rattle.xdb.specs.Parts.{Reads, IsRead}
+use Rattle.xdb.specs.Tool.{Answers, IsAnswered, IsWritten, IsPartlyWritten}
 
 -- nothing taken
 nothing_taken : (rest : Option (List ℕ)) → rest ≡ prepend_known [] rest

@@ -4,7 +4,7 @@ use Rattle.std.proofs.lemmas.Str.{utf8_valid_len-IsUtf8}
 use Rattle.xdb.specs.Input.{not_text, spelled, of_text}
 use Rattle.xdb.specs.declared.fault.InputRefusal.TheVariants.{NotUtf8}
 use Rattle.xml_model.specs.declared.node.RefusedLine.{RefusedLine}
-use Rattle.xml_model.specs.Pyx.{Reading, Line, step, after, read, lines_of, ◌>>=◌}
+use Rattle.xml_model.specs.Pyx.{Reading, Line, step, after, read, split_lines, ◌>>=◌}
 
 -- reading one line
 pub after_one : (old : Result Reading RefusedLine) (line : Line) → (old >>= after (line ∷ [])) ≡ (old >>= step line)
@@ -32,5 +32,5 @@ not_text-Ok front (Ok r) ok = refl
 not_text-Ok front (Err e) ok = cc
 
 -- bytes that are text are read as text
-pub spelled-text : (bytes : List ℕ) → IsUtf8 bytes → spelled bytes ≡ of_text (read (lines_of bytes))
+pub spelled-text : (bytes : List ℕ) → IsUtf8 bytes → spelled bytes ≡ of_text (read (split_lines bytes))
 spelled-text bytes text = rw (utf8_valid_len-IsUtf8 bytes text, eq-eqb (length bytes) (length bytes) refl) refl

@@ -3,7 +3,7 @@ use Rattle.std.specs.Prelude.{ℕ, ◌+◌, ◌==◌, List, length, take, count_
 use Rattle.std.specs.Str.Lossy.{utf8_valid_len}
 use Rattle.xml_model.specs.declared.node.Doc.{Doc}
 use Rattle.xml_model.specs.declared.node.RefusedLine.{RefusedLine}
-use Rattle.xml_model.specs.Pyx.{Reading, start, after, read, lines_of, ended_lines_of}
+use Rattle.xml_model.specs.Pyx.{Reading, start, after, read, split_lines, split_ended_lines}
 use Rattle.xdb.specs.declared.fault.InputFault.{InputFault}
 use Rattle.xdb.specs.declared.fault.InputRefusal.{InputRefusal}
 use Rattle.xdb.specs.declared.fault.InputRefusal.TheVariants.{NotUtf8, Pyx}
@@ -23,8 +23,8 @@ not_text front (Ok reading) = Err (record { line = count_by (λ b. b == 10) fron
 not_text front (Err refused) = Err (fault_at refused)
 
 abbrev pub up_to_bad_byte : List ℕ → Result Doc InputFault
-up_to_bad_byte front = not_text front (after (ended_lines_of front) start)
+up_to_bad_byte front = not_text front (after (split_ended_lines front) start)
 
 -- the document that the bytes spell, or the first fault
 abbrev pub spelled : List ℕ → Result Doc InputFault
-spelled bytes = if utf8_valid_len bytes == length bytes then of_text (read (lines_of bytes)) else up_to_bad_byte (take (utf8_valid_len bytes) bytes)
+spelled bytes = if utf8_valid_len bytes == length bytes then of_text (read (split_lines bytes)) else up_to_bad_byte (take (utf8_valid_len bytes) bytes)

@@ -3,17 +3,13 @@ use Rattle.std.specs.Prelude.{◌≡◌, ℕ, ◌+◌, ◌<◌, ◌≤◌, Bool,
 use Rattle.std.specs.Str.{bytes_eq}
 use Rattle.std.specs.Io.KnownBytes.{prepend_known, append_known, IsAtEnd}
 use Rattle.std.specs.declared.alloc.Global.{Global}
+use Rattle.byte_edge.specs.Faults.{Rises}
 use Rattle.byte_edge.specs.Took.{AppendedPrefix}
 use Rattle.xml_model.specs.declared.node.Doc.{Doc}
 use Rattle.xml_model.specs.Pyx.{pyx, text_of}
 use Rattle.xdb.specs.declared.fault.TopFault.{TopFault}
 use Rattle.xdb.specs.declared.fault.TopFault.TheVariants.{BadWords, BadInput, TooLarge, ReadFault, WriteFault, NoMemory}
 use Rattle.xdb.specs.declared.fault.TheConstants.{INPUT_BYTES_MAX}
-use Rattle.byte_edge.specs.declared.reading.ReadEnd.{ReadEnd}
-use Rattle.byte_edge.specs.declared.reading.ReadEnd.TheVariants as reads
-use Rattle.xdb.specs.declared.input.InputEnd.{InputEnd}
-use Rattle.xdb.specs.declared.input.InputEnd.TheVariants.{Fault}
-use Rattle.xdb.specs.declared.input.InputEnd.TheVariants as inputs
 use Rattle.xdb.specs.Input.{spelled}
 
 -- the one command is the one word `pyx`
@@ -34,6 +30,20 @@ status_of (Some TooLarge) = 2
 status_of (Some ReadFault) = 4
 status_of (Some WriteFault) = 5
 status_of (Some NoMemory) = 6
+
+-- whether the fault is the source's, or the sink's
+abbrev pub is_read_fault : Option TopFault → Bool
+is_read_fault (Some ReadFault) = true
+is_read_fault _ = false
+
+abbrev pub is_write_fault : Option TopFault → Bool
+is_write_fault (Some WriteFault) = true
+is_write_fault _ = false
+
+-- A count of faults rose where a fault is answered, and with any other answer is as before.
+abbrev pub HasFaultCause : Bool → ℕ → ℕ → Type 0
+HasFaultCause true before now = Rises before now
+HasFaultCause false before now = now ≡ before
 
 -- the whole input was taken, within the limit
 pub record IsWhole (input : List ℕ) (rest : Option (List ℕ)) : Type 0 where
@@ -68,38 +78,3 @@ pub record IsAnswered (before after written new : Option (List ℕ)) (fault : Op
   pub taken : before ≡ prepend_known input after
   pub at_most : length input ≤ INPUT_BYTES_MAX + 1
   pub answer : Answers input after written new fault
-
--- the faults of the parts as faults of the whole
-abbrev pub of_read : ReadEnd → TopFault
-of_read reads.ReadFault = ReadFault
-of_read reads.TooLarge = TooLarge
-of_read reads.NoMemory = NoMemory
-
-abbrev pub of_input : InputEnd → TopFault
-of_input (Fault fault) = BadInput fault.line fault.why
-of_input inputs.NoMemory = NoMemory
-
--- What reading the input says of it, by its answer: the input was refused, or a fault of reading came.
-abbrev pub Reads : List ℕ → Option (List ℕ) → Result Doc TopFault → Type 0
-Reads input rest (Ok doc) = IsWhole input rest × (spelled input ≡ Ok doc)
-Reads input rest (Err BadWords) = ⊥
-Reads input rest (Err (BadInput line why)) = IsWhole input rest × (spelled input ≡ Err (record { line = line; why = why }))
-Reads input rest (Err TooLarge) = INPUT_BYTES_MAX < length input
-Reads input rest (Err ReadFault) = length input ≤ INPUT_BYTES_MAX
-Reads input rest (Err WriteFault) = ⊥
-Reads input rest (Err NoMemory) = Unit {0}
-
-pub record IsRead (before after : Option (List ℕ)) (result : Result Doc TopFault) : Type 0 where
-  pub input : List ℕ
-  pub taken : before ≡ prepend_known input after
-  pub at_most : length input ≤ INPUT_BYTES_MAX + 1
-  pub reads : Reads input after result
-
--- the faults that reading can answer
-abbrev pub IsOfReading : TopFault → Type 0
-IsOfReading BadWords = ⊥
-IsOfReading (BadInput line why) = Unit {0}
-IsOfReading TooLarge = Unit {0}
-IsOfReading ReadFault = Unit {0}
-IsOfReading WriteFault = ⊥
-IsOfReading NoMemory = Unit {0}

@@ -1,5 +1,5 @@
 ghost use Rattle.std.specs.Prelude.{◌≡◌, ◌∷◌, [], ◌==◌, count_by, Result, Ok, Err, IsOk};
-ghost use Rattle.xml_model.specs.Pyx.{lines_of, ended_lines_of, read};
+ghost use Rattle.xml_model.specs.Pyx.{split_lines, split_ended_lines, read};
 ghost use Rattle.xdb.specs.Input as spec;
 ghost use Rattle.xdb.specs.Ends as ends;
 ghost use Rattle.xdb.specs.Ends.{Gives, ReadsLines};
@@ -57,7 +57,7 @@ fn give_line(reader: &mut PyxReader, buffer: &mut Str, line: &str) -> Result<(),
 #[tactic(auto, using(crate::proofs::Lines::line_laws))]
 fn read_lines(reader: &mut PyxReader, buffer: &mut Str, text: &str) -> Result<(), InputEnd>
     requires { IsOk reader.old }
-    ensures { ReadsLines result reader.old reader.new (lines_of text.now) }
+    ensures { ReadsLines result reader.old reader.new (split_lines text.now) }
 {
     let mut rest = text;
     while let Some(first) = first_line(rest) {
@@ -75,7 +75,7 @@ fn read_ended_lines(
     text: &str,
 ) -> Result<(), InputEnd>
     requires { IsOk reader.old }
-    ensures { ReadsLines result reader.old reader.new (ended_lines_of text.now) }
+    ensures { ReadsLines result reader.old reader.new (split_ended_lines text.now) }
 {
     let mut rest = text;
     while let Some(first) = first_line(rest) {
@@ -91,7 +91,7 @@ fn read_ended_lines(
 /// The document that a text spells.
 #[tactic(auto, using(crate::proofs::Lines::line_laws))]
 fn read_text(alloc: Global, text: &str) -> Result<Doc, InputEnd>
-    ensures { Gives result (spec.of_text (read (lines_of text.now))) }
+    ensures { Gives result (spec.of_text (read (split_lines text.now))) }
 {
     let mut reader = PyxReader::new(alloc);
     let mut buffer = Str::new(alloc);

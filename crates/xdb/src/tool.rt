@@ -1,7 +1,8 @@
-ghost use Rattle.std.specs.Prelude.{◌≡◌, ◌≤◌, ◌↔◌, IfErr, false, Some, Err};
-ghost use Rattle.byte_edge.specs.Faults.{Rose};
+ghost use Rattle.std.specs.Prelude.{◌≡◌, ◌↔◌, false, Some};
 ghost use Rattle.xdb.specs.Tool as spec;
-ghost use Rattle.xdb.specs.Tool.{IsAnswered, IsRead, IsOfReading, words_of, is_command};
+ghost use Rattle.xdb.specs.Tool.{IsAnswered, HasFaultCause, is_read_fault, is_write_fault, words_of, is_command};
+ghost use Rattle.xdb.specs.Parts as parts;
+ghost use Rattle.xdb.specs.Parts.{IsRead, fault_of};
 
 use crate::fault::{INPUT_BYTES_MAX, InputFault, TopFault};
 use crate::input::{InputEnd, read_input};
@@ -52,7 +53,7 @@ pub(crate) fn end_of(fault: Option<TopFault>) -> TopEnd
 }
 
 fn of_read(end: ReadEnd) -> TopFault
-    ensures { result ≡ spec.of_read end }
+    ensures { result ≡ parts.of_read end }
 {
     match end {
         ReadEnd::ReadFault => TopFault::ReadFault,
@@ -62,7 +63,7 @@ fn of_read(end: ReadEnd) -> TopFault
 }
 
 fn of_input(end: InputEnd) -> TopFault
-    ensures { result ≡ spec.of_input end }
+    ensures { result ≡ parts.of_input end }
 {
     match end {
         InputEnd::Fault(InputFault { line, why }) => TopFault::BadInput { line, why },
@@ -73,9 +74,7 @@ fn of_input(end: InputEnd) -> TopFault
 /// The document that the source's bytes spell.
 fn read_doc<R: Source>(alloc: Global, from: &mut R) -> Result<Doc, TopFault>
     ensures read { IsRead (R.rest from.old) (R.rest from.new) result }
-    ensures cause { result ≡ Err TopFault.ReadFault → Rose (R.faults from.old) (R.faults from.new) }
-    ensures only { IfErr result IsOfReading }
-    ensures later { R.faults from.old ≤ R.faults from.new }
+    ensures cause { HasFaultCause (is_read_fault (fault_of result)) (R.faults from.old) (R.faults from.new) }
 {
     let bytes = match read_all(alloc, from, INPUT_BYTES_MAX) {
         Ok(bytes) => bytes,
@@ -96,10 +95,9 @@ fn run<R: Source, W: Sink>(
     to: &mut W,
 ) -> Option<TopFault>
     ensures words { (result ≡ Some TopFault.BadWords) ↔ (is_command (words_of words.now) ≡ false) }
-    ensures read_fault { result ≡ Some TopFault.ReadFault → Rose (R.faults from.old) (R.faults from.new) }
-    ensures write_fault { result ≡ Some TopFault.WriteFault → Rose (W.faults to.old) (W.faults to.new) }
+    ensures read_fault { HasFaultCause (is_read_fault result) (R.faults from.old) (R.faults from.new) }
+    ensures write_fault { HasFaultCause (is_write_fault result) (W.faults to.old) (W.faults to.new) }
     ensures answer { IsAnswered (R.rest from.old) (R.rest from.new) (W.written to.old) (W.written to.new) result }
-    ensures later { (R.faults from.old ≤ R.faults from.new) × (W.faults to.old ≤ W.faults to.new) }
 {
     if !is_row(words) {
         return Some(TopFault::BadWords);
@@ -124,13 +122,12 @@ pub fn tool<R: Source, W: Sink>(
     to: &mut W,
 ) -> TopEnd
     ensures status { result.status ≡ spec.status_of result.fault }
-    // BadWords exactly where the words are no command.
+    // BadWords exactly where the words are no command, ReadFault and WriteFault exactly where source and sink failed.
     ensures words { (result.fault ≡ Some TopFault.BadWords) ↔ (is_command (words_of words.now) ≡ false) }
-    ensures read_fault { result.fault ≡ Some TopFault.ReadFault → Rose (R.faults from.old) (R.faults from.new) }
-    ensures write_fault { result.fault ≡ Some TopFault.WriteFault → Rose (W.faults to.old) (W.faults to.new) }
+    ensures read_fault { HasFaultCause (is_read_fault result.fault) (R.faults from.old) (R.faults from.new) }
+    ensures write_fault { HasFaultCause (is_write_fault result.fault) (W.faults to.old) (W.faults to.new) }
     // What was taken, what it spells, and what was written.
     ensures answer { IsAnswered (R.rest from.old) (R.rest from.new) (W.written to.old) (W.written to.new) result.fault }
-    ensures later { (R.faults from.old ≤ R.faults from.new) × (W.faults to.old ≤ W.faults to.new) }
 {
     end_of(run(alloc, words, from, to))
 }

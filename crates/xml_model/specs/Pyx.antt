@@ -215,18 +215,18 @@ abbrev pub in_front : ℕ → List Line → List Line
 in_front b [] = (b ∷ []) ∷ []
 in_front b (line ∷ lines) = (b ∷ line) ∷ lines
 
-abbrev pub lines_of : List ℕ → List Line
-lines_of [] = []
-lines_of (b ∷ bs) = if b == 10 then [] ∷ lines_of bs else in_front b (lines_of bs)
+abbrev pub split_lines : List ℕ → List Line
+split_lines [] = []
+split_lines (b ∷ bs) = if b == 10 then [] ∷ split_lines bs else in_front b (split_lines bs)
 
 -- the same of those lines alone that a newline ends
 abbrev pub in_front_of_ended : ℕ → List Line → List Line
 in_front_of_ended b [] = []
 in_front_of_ended b (line ∷ lines) = (b ∷ line) ∷ lines
 
-abbrev pub ended_lines_of : List ℕ → List Line
-ended_lines_of [] = []
-ended_lines_of (b ∷ bs) = if b == 10 then [] ∷ ended_lines_of bs else in_front_of_ended b (ended_lines_of bs)
+abbrev pub split_ended_lines : List ℕ → List Line
+split_ended_lines [] = []
+split_ended_lines (b ∷ bs) = if b == 10 then [] ∷ split_ended_lines bs else in_front_of_ended b (split_ended_lines bs)
 
 -- bytes without a newline
 abbrev pub IsPlain : List ℕ → Type 0
@@ -240,6 +240,6 @@ pub record IsCutLine (text line rest : List ℕ) : Type 0 where
 
 -- a text is its first line, whether a newline ends it, and the rest
 pub record IsFirstLine (text line : List ℕ) (is_ended : Bool) (rest : List ℕ) : Type 0 where
-  pub lines : lines_of text ≡ line ∷ lines_of rest
-  pub ended : ended_lines_of text ≡ (if is_ended then line ∷ ended_lines_of rest else [])
+  pub lines : split_lines text ≡ line ∷ split_lines rest
+  pub ended : split_ended_lines text ≡ (if is_ended then line ∷ split_ended_lines rest else [])
   pub shorter : length rest < length text
