@@ -4,3 +4,4 @@ pub mod Passes
 pub mod Story
 pub mod Turns
 pub mod Views
+pub mod Crew

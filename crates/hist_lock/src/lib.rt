@@ -22,3 +22,6 @@ pub use lock::{HistLock, NoMemory};
 pub use pass::Pass;
 pub use story::Storied;
 pub use view::Kept;
+
+#[cfg(test)]
+mod tests;

@@ -87,6 +87,7 @@ impl<T: Storied> HistLock<T> {
     }
 
     /// Waits for the turn, and takes the value out. The pass has then seen the whole list.
+    /// Between two tries it sleeps until somebody leaves.
     pub fn enter<R: Wait>(&self, rt: &R, pass: &mut Pass<T, T::Event, T::Origin>) -> Held<T>
         requires lock { pass.old.lock ≡ self.now }
         requires outside { pass.old.inside ≡ false }
@@ -120,8 +121,9 @@ impl<T: Storied> HistLock<T> {
         self.table.shared.wake_one(1);
     }
 
-    /// Puts the value back, with new events of this pass's number alone, and wakes one who waits.
-    pub fn leave<R: Wait>(&self, _rt: &R, held: Held<T>, pass: &mut Pass<T, T::Event, T::Origin>)
+    /// Puts the value back, with new events of this pass's number alone, and wakes one who waits. It waits for nobody,
+    /// so any `rt` will do.
+    pub fn leave<R>(&self, _rt: &R, held: Held<T>, pass: &mut Pass<T, T::Event, T::Origin>)
         requires lock { pass.old.lock ≡ self.now }
         requires inside { pass.old.inside ≡ true }
         requires events { (new : _) × (T.events (value_of held) ≡ pass.old.seen ++ new) × AllOf T.session pass.old.id new }

@@ -1,4 +1,4 @@
-use Rattle.std.proofs.Common.{◌≡◌, ◌++◌, ◌+◌, List, length, true, true≢false, rules, arith, sym, ap, ◌∙◌, subst, length-append}
+use Rattle.std.proofs.Common.{◌≡◌, ◌++◌, true, true≢false, sym, ap, ◌∙◌, subst}
 use Rattle.hist_lock.specs.Story.{AllOf}
 use Rattle.hist_lock.specs.Passes.{hands}
 use Rattle.hist_lock.proofs.Lists.{more_events}
