@@ -1,0 +1,6 @@
+pub mod Sign
+pub mod KeyValue
+pub mod LabelOrder
+pub mod Neighbours
+pub mod LabelShape
+pub mod Insertions
