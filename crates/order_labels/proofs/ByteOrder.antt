@@ -1,9 +1,10 @@
 -- The order of byte lists: what decides it, and its laws.
-use Rattle.std.proofs.Common.{◌≡◌, ℕ, ◌+◌, ◌<◌, ◌≤◌, List, [], ◌∷◌, ◌++◌, length, take, refl, sym, ◌∙◌, ap, subst, arith, ◌⊎◌, inl, inr}
-use Rattle.std.proofs.lemmas.Grind.{common_steps}
+use Rattle.std.proofs.Common.{◌≡◌, ℕ, ◌<◌, ◌≤◌, List, [], ◌∷◌, ◌++◌, length, refl, sym, ◌∙◌, ap, subst, arith, ◌⊎◌, inl, inr}
 use Rattle.std.proofs.lemmas.Bool.Decides.{nat_tests}
 use Rattle.std.proofs.lemmas.Cmp.{nat_cmp_total, nat_list_cmp_total, tied_itself, ranked}
-use Rattle.std.specs.Ordering.{nat_cmp, ordering_then, ordering_reverse, MatchOrdering}
+use Rattle.std.proofs.lemmas.Slice.Eq.{bytes_eq-Decides}
+use Rattle.std.proofs.lemmas.Map.Text.{is_eq-slice_cmp}
+use Rattle.std.specs.Ordering.{nat_cmp, ordering_then, MatchOrdering, is_eq}
 use Rattle.std.specs.Cmp.Lexicographic.{slice_cmp}
 use Rattle.std.specs.declared.cmp.Ordering.{Ordering}
 use Rattle.std.specs.declared.cmp.Ordering.TheVariants.{Less, Equal, Greater}
@@ -51,7 +52,7 @@ pub not_below_both : (xs ys : List ℕ) → IsBelow xs ys → IsBelow ys xs → 
 not_below_both xs ys h g = not_below_itself xs (below_trans xs ys xs h g)
 
 -- what the first bytes of two lists in order are
-heads : (x y : ℕ) (xs ys : List ℕ) → IsBelow (x ∷ xs) (y ∷ ys) → (x < y) ⊎ ((x ≡ y) × IsBelow xs ys)
+pub heads : (x y : ℕ) (xs ys : List ℕ) → IsBelow (x ∷ xs) (y ∷ ys) → (x < y) ⊎ ((x ≡ y) × IsBelow xs ys)
 heads x y xs ys h = by (nat_cmp x y) (ranked x y _ refl) h
   where
     by : (o : Ordering) → MatchOrdering o (x < y) (x ≡ y) (y < x) → ordering_then o (slice_cmp nat_cmp xs ys) ≡ Less → (x < y) ⊎ ((x ≡ y) × IsBelow xs ys)
@@ -65,7 +66,7 @@ below_by_heads x y xs ys (inl r) = below_by_byte x y xs ys r
 below_by_heads x y xs ys (inr r) = subst (λ z. IsBelow (x ∷ xs) (z ∷ ys)) r.0 (byte_order-same x xs ys ∙ r.1)
 
 -- the same heads, with the step from the rests to other rests
-with_rests : (x y : ℕ) (P Q : Type 0) → (P → Q) → (x < y) ⊎ ((x ≡ y) × P) → (x < y) ⊎ ((x ≡ y) × Q)
+pub with_rests : (x y : ℕ) (P Q : Type 0) → (P → Q) → (x < y) ⊎ ((x ≡ y) × P) → (x < y) ⊎ ((x ≡ y) × Q)
 with_rests x y P Q f (inl r) = inl r
 with_rests x y P Q f (inr r) = inr (r.0, f r.1)
 
@@ -86,3 +87,7 @@ below_front [] (b ∷ front) x y xs ys l h = refl
 below_front (a ∷ low) (b ∷ front) x y xs ys l h =
     below_by_heads a b low (front ++ y ∷ ys)
     (with_rests a b (IsBelow low (front ++ x ∷ xs)) (IsBelow low (front ++ y ∷ ys)) (below_front low front x y xs ys (omega arith)) (heads a b low (front ++ x ∷ xs) h))
+
+-- lists that compare as equal are the same
+pub same_from_order : (xs ys : List ℕ) → byte_order xs ys ≡ Equal → xs ≡ ys
+same_from_order xs ys e = (bytes_eq-Decides xs ys).0 (sym (is_eq-slice_cmp xs ys) ∙ ap is_eq e)

@@ -1,11 +1,11 @@
 -- The order of codes is the order of keys by integer and fraction; the lengths of codes.
-use Rattle.std.proofs.Common.{◌≡◌, ℕ, zero, suc, ◌+◌, ◌-◌, ◌^◌, ◌<◌, ◌≤◌, ℤ, pos, negsuc, List, [], ◌∷◌, ◌++◌, length, map, refl, sym, ◌∙◌, ap, subst, arith, ◌⊎◌, inl, inr, length-append}
+use Rattle.std.proofs.Common.{◌≡◌, ℕ, zero, suc, ◌+◌, ◌-◌, ◌^◌, ◌<◌, ◌≤◌, ℤ, pos, negsuc, List, ◌++◌, length, map, refl, sym, ◌∙◌, ap, subst, arith, ◌⊎◌, inl, inr, length-append}
 use Rattle.std.specs.Prelude.{◌+ℤ◌, ◌-ℤ◌, ◌<ℤ◌, ◌≤ℤ◌}
 use Rattle.std.proofs.lemmas.Int.{ints, by_lt_z}
 use Rattle.std.proofs.lemmas.Bool.{cases_order}
-use Rattle.std.proofs.lemmas.List.{append_assoc}
-use Rattle.order_labels.specs.KeyValue.{KeyValue, IsKey, least_integer, whole}
-use Rattle.order_labels.specs.LabelOrder.{digits, digit_count, integer_code, code, IsBelow, IsKeyBelow, IsLower, byte_order}
+use Rattle.std.proofs.lemmas.List.{append_cancel_left}
+use Rattle.order_labels.specs.KeyValue.{KeyValue, IsKey, least_integer}
+use Rattle.order_labels.specs.LabelOrder.{digits, digit_count, integer_code, code, IsBelow, IsKeyBelow, IsLower}
 use Rattle.order_labels.proofs.ByteOrder.{below_by_byte, below_by_heads, byte_order-front, not_below_both, not_below_itself}
 use Rattle.order_labels.proofs.DigitLemmas.{digits_rise, digits_fall, length-digits, digit_count-pos, digit_count-holds, digit_count-max, digit_count-mono, digit_count-next}
 
@@ -142,5 +142,7 @@ same_from_code a b p q e = by (order_of_integers a.integer b.integer)
   where
     by : (a.integer <ℤ b.integer) ⊎ ((a.integer ≡ b.integer) ⊎ (b.integer <ℤ a.integer)) → a ≡ b
     by (inl l) = absurd (not_below_itself (code b) (subst (λ z. IsBelow z (code b)) e (below_from_lower a b p q (inl l))))
-    by (inr (inl s)) = ?
+    by (inr (inl s)) =
+        let fractions = append_cancel_left (integer_code a.integer) a.fraction b.fraction (e ∙ ap (λ i. integer_code i ++ b.fraction) (sym s)) in
+        λ i. record { integer = s i; fraction = fractions i }
     by (inr (inr g)) = absurd (not_below_itself (code a) (subst (λ z. IsBelow z (code a)) (sym e) (below_from_lower b a q p (inl g))))

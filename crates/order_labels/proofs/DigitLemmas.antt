@@ -1,7 +1,7 @@
 -- The digits of a number to the base 254, and how many there are.
-use Rattle.std.proofs.Common.{◌≡◌, ℕ, zero, suc, ◌+◌, ◌-◌, ◌*◌, ◌/◌, ◌%◌, ◌^◌, ◌<◌, ◌≤◌, Bool, true, false, cond, ltb, List, [], ◌∷◌, ◌++◌, length, map, refl, sym, ◌∙◌, ap, subst, arith, ◌⊎◌, inl, inr, add-one, add-zero, lit≤, sub-one, append_assoc}
-use Rattle.std.proofs.lemmas.Bool.{cases_lt, cases_order, ltb-true, ltb-false, cond_both, cond-true, cond-false, le-ltb, lt-ltb}
-use Rattle.std.proofs.lemmas.Nat.{div-add-mod', mod_below, div_below, mul-le}
+use Rattle.std.proofs.Common.{◌≡◌, ℕ, zero, suc, ◌+◌, ◌-◌, ◌*◌, ◌/◌, ◌%◌, ◌^◌, ◌<◌, ◌≤◌, ltb, List, [], ◌∷◌, ◌++◌, length, map, refl, sym, ◌∙◌, ap, subst, arith, ◌⊎◌, inl, inr, add-one, add-zero, lit≤, sub-one, append_assoc}
+use Rattle.std.proofs.lemmas.Bool.{cases_order, ltb-true, ltb-false, cond_both, cond-true, cond-false, le-ltb, lt-ltb}
+use Rattle.std.proofs.lemmas.Nat.{div-add-mod', mod_below, div_below}
 use Rattle.std.proofs.Math.Nat.{pow-suc, one-le-pow, pow-le-pow_right, mul-le-mul_right}
 use Rattle.order_labels.specs.LabelOrder.{digits, digit_count, digit_count_from, IsBelow}
 use Rattle.order_labels.proofs.ByteOrder.{below_by_heads}
@@ -33,7 +33,7 @@ quotients_rise q i j pos lower =
     by (inr (inr g)) a b s = absurd (omega (arith, mul-le-mul_right {m = j / q + 1} {n = i / q} q (omega arith)))
 
 -- the highest of n + 1 digits is below 254
-first_digit : (n i : ℕ) → i < 254 ^ suc n → i / 254 ^ n < 254
+pub first_digit : (n i : ℕ) → i < 254 ^ suc n → i / 254 ^ n < 254
 first_digit n i h = div_below i (254 ^ n) 254 (power_pos n) (omega (arith, pow-suc 254 n))
 
 -- powers of 254 up to the 7th fit 64 bits

@@ -1,12 +1,12 @@
 -- Which bytes are a fraction, and what a change of its end makes of it.
-use Rattle.std.proofs.Common.{◌≡◌, ◌≢◌, ℕ, zero, suc, ◌+◌, ◌-◌, ◌<◌, ◌≤◌, List, [], ◌∷◌, ◌++◌, length, get_or, take, drop, refl, sym, ◌∙◌, ap, subst, arith, length-append, append_assoc, ◌⊎◌, inl, inr}
+use Rattle.std.proofs.Common.{◌≡◌, ◌≢◌, ℕ, ◌+◌, ◌-◌, ◌<◌, ◌≤◌, List, [], ◌∷◌, ◌++◌, length, get_or, take, drop, refl, sym, ◌∙◌, ap, subst, arith, length-append, append_assoc, ◌⊎◌, inl, inr}
 use Rattle.std.specs.Prelude.{All}
 use Rattle.std.proofs.lemmas.Bool.{cases_order}
 use Rattle.std.proofs.lemmas.List.{same_from_push, take-append-drop, drop_more, take_more, take_all, length-take-le}
 use Rattle.std.proofs.lemmas.List.Elements.{All-push, All-get_or, All-take}
 use Rattle.order_labels.specs.KeyValue.{IsFraction}
 use Rattle.order_labels.specs.LabelOrder.{IsBelow}
-use Rattle.order_labels.proofs.ByteOrder.{below_at, below_front, below_longer}
+use Rattle.order_labels.proofs.ByteOrder.{below_at, below_front}
 
 abbrev pub InRange : ℕ → Type 0
 InRange b = (2 ≤ b) × (b ≤ 255)

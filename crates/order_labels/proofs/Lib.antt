@@ -4,3 +4,6 @@ pub mod CodeOrder
 pub mod FractionLemmas
 pub mod SignLemmas
 pub mod NeighbourLemmas
+pub mod CodeBytes
+pub mod LabelLemmas
+pub mod InsertionLemmas

@@ -1,11 +1,14 @@
 -- The keys that are made beside others: that they are keys, where they lie and how long their codes are.
-use Rattle.std.proofs.Common.{◌≡◌, ◌≢◌, ℕ, ◌+◌, ◌^◌, ◌<◌, ◌≤◌, ℤ, pos, negsuc, max, List, [], ◌∷◌, ◌++◌, length, refl, sym, ◌∙◌, ap, subst, arith, ◌⊎◌, inl, inr}
+use Rattle.std.proofs.Common.{◌≡◌, ◌≢◌, ℕ, ◌+◌, ◌≤◌, ℤ, pos, max, List, [], ◌∷◌, ◌++◌, length, refl, ◌∙◌, ap, subst, arith, inl, inr}
 use Rattle.std.specs.Prelude.{◌+ℤ◌, ◌-ℤ◌, ◌<ℤ◌, ◌≤ℤ◌}
 use Rattle.std.proofs.lemmas.Int.{ints}
-use Rattle.order_labels.specs.KeyValue.{KeyValue, IsKey, IsFraction, least_integer, whole}
-use Rattle.order_labels.specs.LabelOrder.{integer_code, code, IsBelow, IsKeyBelow, IsLower}
+use Rattle.std.proofs.lemmas.Cmp.{nat_list_cmp_total}
+use Rattle.std.specs.Ordering.{ordering_reverse}
+use Rattle.std.specs.declared.cmp.Ordering.TheVariants.{Greater}
+use Rattle.order_labels.specs.KeyValue.{KeyValue, IsKey, least_integer, whole}
+use Rattle.order_labels.specs.LabelOrder.{byte_order, integer_code, code, IsBelow, IsKeyBelow, IsLower}
 use Rattle.order_labels.proofs.ByteOrder.{byte_order-front}
-use Rattle.order_labels.proofs.CodeOrder.{below_from_lower, lower_from_below, code-parts, length-code, integer_size, integer_size-next, integer_size-previous, integer_size-least, integer_size-beside_least, integer_size-zero}
+use Rattle.order_labels.proofs.CodeOrder.{below_from_lower, lower_from_below, length-code, integer_size, integer_size-next, integer_size-previous, integer_size-least, integer_size-beside_least, integer_size-zero}
 
 -- of two keys of one integer that with the lower fraction is below
 pub below_by_fraction : (a b : KeyValue) → a.integer ≡ b.integer → IsBelow a.fraction b.fraction → IsKeyBelow a b
@@ -68,3 +71,13 @@ empty_below (x ∷ f) h = refl
 -- the code of 0 has 2 bytes
 pub length-code-zero : length (code (whole (pos 0))) ≡ 2
 length-code-zero = length-code (whole (pos 0)) ∙ integer_size-zero
+
+-- the other way round, a key is above those of lower integers
+pub above_by_integer : (a b : KeyValue) → IsKey a → IsKey b → b.integer <ℤ a.integer → byte_order (code a) (code b) ≡ Greater
+above_by_integer a b p q l = nat_list_cmp_total.antisymm (code a) (code b) ∙ ap ordering_reverse (below_by_integer b a q p l)
+
+-- codes of one integer are in the order of the fractions
+pub byte_order-code : (a b : KeyValue) → a.integer ≡ b.integer → byte_order (code a) (code b) ≡ byte_order a.fraction b.fraction
+unfolding code
+byte_order-code a b e =
+    subst (λ i. byte_order (integer_code a.integer ++ a.fraction) (integer_code i ++ b.fraction) ≡ byte_order a.fraction b.fraction) e (byte_order-front (integer_code a.integer) a.fraction b.fraction)

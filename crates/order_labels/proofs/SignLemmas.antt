@@ -1,5 +1,5 @@
 -- What the parts of an integer's code are, by its sign.
-use Rattle.std.proofs.Common.{◌≡◌, ℕ, ℤ, pos, negsuc, List, refl, sym, ap, ◌∙◌}
+use Rattle.std.proofs.Common.{◌≡◌, ℕ, ℤ, pos, negsuc, sym, ap}
 use Rattle.order_labels.specs.LabelOrder.{integer_code}
 use Rattle.order_labels.specs.Sign.{number_code}
 use Rattle.order_labels.specs.declared.digits.Sign.TheVariants.{FromZero, Negative}

@@ -1,7 +1,7 @@
 -- Sequences of insertions into a list of keys, and what they leave of the keys that were there.
 use Rattle.std.specs.Prelude.{ℕ, zero, suc, pos, List, [], ◌∷◌, ◌++◌, Option, Some, None}
-use Rattle.order_labels.specs.KeyValue.{KeyValue, IsKey, whole}
-use Rattle.order_labels.specs.LabelOrder.{code, IsKeyBelow}
+use Rattle.order_labels.specs.KeyValue.{KeyValue, whole}
+use Rattle.order_labels.specs.LabelOrder.{IsKeyBelow}
 use Rattle.order_labels.specs.Neighbours.{LiesBetween}
 
 abbrev pub first_key : List KeyValue → Option KeyValue

@@ -83,7 +83,8 @@ impl Key {
 
     /// Appends the bytes of the code.
     pub(crate) fn push_code(&self, out: &mut Vec<u8>) -> Result<(), NoMemory>
-        ensures { IfOk result (λ _. out.new.items ≡ out.old.items ++ code self.now) }
+        ensures code { IfOk result (λ _. out.new.items ≡ out.old.items ++ code self.now) }
+        ensures key { IsKey self.now }
     {
         push_integer(out, self.integer)?;
         out.extend_from_slice(self.fraction.as_slice())?;
@@ -100,6 +101,19 @@ impl Key {
             fraction,
         })
     }
+}
+
+/// The order of two keys, which is that of their codes' bytes.
+pub fn cmp_keys(a: &Key, b: &Key) -> Ordering
+    ensures { result ≡ byte_order (code a.now) (code b.now) }
+{
+    if a.integer() < b.integer() {
+        return Ordering::Less;
+    }
+    if b.integer() < a.integer() {
+        return Ordering::Greater;
+    }
+    compare(a.fraction(), b.fraction())
 }
 
 /// Appends an integer's part of a code.

@@ -1,4 +1,4 @@
-use Rattle.std.proofs.Common.{◌≡◌, ◌++◌, ◌∷◌, [], length, ◌+◌, arith, ap, sym, subst}
+use Rattle.std.proofs.Common.{◌∷◌, [], arith, sym, subst}
 use Rattle.std.proofs.lemmas.Result.{IfOk-weaker}
 use Rattle.order_labels.specs.LabelOrder.{IsBelow}
 use Rattle.order_labels.proofs.ByteOrder.{below_longer, below_with_more}

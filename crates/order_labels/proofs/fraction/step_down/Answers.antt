@@ -1,9 +1,8 @@
-use Rattle.std.proofs.Common.{◌≡◌, ◌++◌, ◌∷◌, [], length, ◌-◌, ◌+◌, ◌∙◌, arith, ap, sym, subst, append_assoc, take}
+use Rattle.std.proofs.Common.{◌≡◌, ◌++◌, ◌∷◌, [], length, ◌-◌, ◌∙◌, arith, ap, sym, subst, append_assoc, take}
 use Rattle.std.proofs.lemmas.Result.{IfOk-weaker}
-use Rattle.std.proofs.lemmas.List.Elements.{All-push, All-take}
 use Rattle.order_labels.specs.KeyValue.{IsFraction}
 use Rattle.order_labels.specs.LabelOrder.{IsBelow}
-use Rattle.order_labels.proofs.FractionLemmas.{InRange, fraction_ends, below_by_last, below_near, last_above_2, length_of_some, fraction_below}
+use Rattle.order_labels.proofs.FractionLemmas.{below_by_last, below_near, last_above_2, length_of_some, fraction_below}
 use Rattle.order_labels.proofs.fraction.step_down.Goals as goal
 
 pub returns-then-byte-gt3-clause-below : goal.returns-then-byte-gt3-clause-below

@@ -1,4 +1,4 @@
-use Rattle.std.proofs.Common.{◌≡◌, arith, ap, sym, length}
+use Rattle.std.proofs.Common.{arith, ap, length}
 use Rattle.std.proofs.lemmas.Int.{ints}
 use Rattle.std.proofs.lemmas.Result.{IfOk-weaker}
 use Rattle.order_labels.specs.KeyValue.{KeyValue}
@@ -29,8 +29,6 @@ returns-then-previous-clause-short c =
     IfOk-weaker c.least_with_fraction.result _ _
     (λ k h. omega (arith, h, beside))
     c.least_with_fraction.ensures.length
-
-
 
 pub returns-clause-below : goal.returns-clause-below
 returns-clause-below c =

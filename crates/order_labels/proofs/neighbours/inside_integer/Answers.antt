@@ -1,4 +1,4 @@
-use Rattle.std.proofs.Common.{arith, ap, length, sym, ◌∙◌}
+use Rattle.std.proofs.Common.{arith, ap, length}
 use Rattle.std.proofs.lemmas.Int.{ints}
 use Rattle.order_labels.proofs.NeighbourLemmas.{below_by_fraction, fractions_in_order, short_beside}
 use Rattle.order_labels.proofs.neighbours.inside_integer.Goals as goal

@@ -1,5 +1,4 @@
 use Rattle.std.proofs.Common.{arith, ap, length}
-use Rattle.std.proofs.lemmas.Int.{ints}
 use Rattle.order_labels.proofs.NeighbourLemmas.{length-code-least}
 use Rattle.order_labels.proofs.neighbours.least_with_fraction.Goals as goal
 

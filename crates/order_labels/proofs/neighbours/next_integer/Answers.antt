@@ -1,4 +1,4 @@
-use Rattle.std.proofs.Common.{arith, ap, ◌∙◌, ◌≡◌}
+use Rattle.std.proofs.Common.{arith, ap, ◌∙◌}
 use Rattle.std.proofs.lemmas.Int.{ints}
 use Rattle.order_labels.specs.KeyValue.{KeyValue, whole}
 use Rattle.order_labels.proofs.NeighbourLemmas.{below_by_integer, short_next}
