@@ -155,3 +155,7 @@ pub digit_count-next : (i : ℕ) → i < 254 ^ 7 → digit_count (i + 1) ≤ dig
 digit_count-next i h =
     digit_count-least (i + 1) (digit_count i + 1) (omega arith)
     (omega (arith, digit_count-holds i h, power-one_more (digit_count i), power_pos (digit_count i)))
+
+-- a higher power is no lower
+pub power_rises : (m n : ℕ) → m ≤ n → 254 ^ m ≤ 254 ^ n
+power_rises m n h = pow-le-pow_right {n = 254} (lit≤ tt) h

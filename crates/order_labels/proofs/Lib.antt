@@ -7,3 +7,4 @@ pub mod NeighbourLemmas
 pub mod CodeBytes
 pub mod LabelLemmas
 pub mod InsertionLemmas
+pub mod ReadingLemmas

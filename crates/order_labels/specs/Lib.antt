@@ -1,4 +1,5 @@
 pub mod Sign
+pub mod Reading
 pub mod KeyValue
 pub mod LabelOrder
 pub mod Neighbours

@@ -14,8 +14,8 @@ pub record LiesBetween (low high : Option KeyValue) (k : KeyValue) : Type 0 wher
   pub below : IfSome high (λ h. IsKeyBelow k h)
 
 -- one byte more than the longer neighbour's code has, and 2 where there is no neighbour
-abbrev pub longest_code : Option KeyValue → Option KeyValue → ℕ
-longest_code None None = 2
-longest_code None (Some high) = length (code high) + 1
-longest_code (Some low) None = length (code low) + 1
-longest_code (Some low) (Some high) = max (length (code low)) (length (code high)) + 1
+abbrev pub length_bound : Option KeyValue → Option KeyValue → ℕ
+length_bound None None = 2
+length_bound None (Some high) = length (code high) + 1
+length_bound (Some low) None = length (code low) + 1
+length_bound (Some low) (Some high) = max (length (code low)) (length (code high)) + 1

@@ -5,7 +5,7 @@ ghost use Rattle.order_labels.specs.Sign.{first_byte, digit_byte, number_code};
 use crate::NoMemory;
 
 /// How many different digits there are: a digit is written as a byte that is neither 0 nor 1.
-const BASE: u64 = 254;
+pub(crate) const BASE: u64 = 254;
 
 /// The most digits that an integer of a key has.
 const DIGITS_MAX: u32 = 7;

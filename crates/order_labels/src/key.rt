@@ -49,6 +49,7 @@ impl Key {
     /// The key of an integer and a fraction.
     pub(crate) fn from_parts(integer: i64, fraction: Vec<u8>) -> Key
         requires { IsKey (record { integer = integer; fraction = fraction.items }) }
+        ensures value { result ≡ record { integer = integer; fraction = fraction.items } }
         ensures integer { result.integer ≡ integer }
         ensures fraction { result.fraction ≡ fraction.items }
         ensures key { IsKey result }

@@ -19,6 +19,7 @@ mod laws;
 mod list;
 mod neighbours;
 mod order;
+mod reading;
 #[cfg(test)]
 mod tests;
 
@@ -28,3 +29,4 @@ pub use label::{Label, child, cmp, is_ancestor};
 pub use laws::{code_order, insertions_keep_keys, label_order, worked_codes};
 pub use list::{KeyList, spread};
 pub use neighbours::{after, between};
+pub use reading::key_from_code;

@@ -2,7 +2,7 @@ ghost use Rattle.std.specs.Prelude.{◌≡◌, ◌+◌, ◌^◌, ◌≤◌, pos,
 ghost use Rattle.std.specs.Option.{option_copied};
 ghost use Rattle.order_labels.specs.KeyValue.{IsKey, whole, least_integer};
 ghost use Rattle.order_labels.specs.LabelOrder.{code, IsKeyBelow};
-ghost use Rattle.order_labels.specs.Neighbours.{AreInOrder, LiesBetween, longest_code};
+ghost use Rattle.order_labels.specs.Neighbours.{AreInOrder, LiesBetween, length_bound};
 
 use crate::NoMemory;
 use crate::fraction::{between_fractions, step_down, step_up};
@@ -14,7 +14,7 @@ use std::alloc::Global;
 pub fn between(alloc: Global, low: Option<&Key>, high: Option<&Key>) -> Result<Key, NoMemory>
     requires { AreInOrder (option_copied low) (option_copied high) }
     ensures between { IfOk result (LiesBetween (option_copied low.entry) (option_copied high.entry)) }
-    ensures short { IfOk result (λ k. length (code k) ≤ longest_code (option_copied low.entry) (option_copied high.entry)) }
+    ensures short { IfOk result (λ k. length (code k) ≤ length_bound (option_copied low.entry) (option_copied high.entry)) }
 {
     match (low, high) {
         (None, None) => Ok(Key::whole(alloc, 0)),
