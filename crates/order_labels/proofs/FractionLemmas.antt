@@ -30,7 +30,7 @@ split_at : (xs : List ℕ) (n : ℕ) → n < length xs → xs ≡ take n xs ++ g
 split_at xs n h = sym (take-append-drop n xs) ∙ ap (λ ys. take n xs ++ ys) (drop_more xs n 0 h)
 
 -- a list that is not empty is what comes before its last element and that element
-split_last : (xs : List ℕ) (n : ℕ) → length xs ≡ n + 1 → xs ≡ take n xs ++ get_or xs n 0 ∷ []
+pub split_last : (xs : List ℕ) (n : ℕ) → length xs ≡ n + 1 → xs ≡ take n xs ++ get_or xs n 0 ∷ []
 split_last xs n e = sym (take_all (n + 1) xs (omega arith)) ∙ take_more xs n 0 (omega arith)
 
 -- a fraction's last byte is above 2

@@ -1,15 +1,15 @@
 -- Labels: their ends, their ancestors and their order.
-use Rattle.std.proofs.Common.{◌≡◌, ◌≢◌, ℕ, ◌<◌, List, [], ◌∷◌, ◌++◌, length, take, drop, refl, sym, ◌∙◌, ap, subst, arith, ◌⊎◌, inl, inr, append_assoc, length-append}
-use Rattle.std.specs.Prelude.{All, Bool, IsTrue, ◌↔◌}
+use Rattle.std.proofs.Common.{◌≡◌, ◌≢◌, ℕ, ◌<◌, List, [], ◌∷◌, ◌++◌, length, get_or, take, drop, Option, Some, None, refl, sym, ◌∙◌, ap, subst, arith, ◌⊎◌, inl, inr, append_assoc, length-append, ◌+◌, ◌-◌}
+use Rattle.std.specs.Prelude.{All, IfNone, Bool, IsTrue, ◌↔◌}
 use Rattle.std.specs.Str.{bytes_eq}
 use Rattle.std.proofs.lemmas.Slice.Eq.{bytes_eq-Decides}
 use Rattle.std.proofs.lemmas.List.Elements.{All-nil, All-cons, All-head, All-tail}
-use Rattle.std.proofs.lemmas.List.{append-nil, nil_from_length, take-append-drop, take_at, length-drop}
+use Rattle.std.proofs.lemmas.List.{append-nil, nil_from_length, take-append-drop, take_at, length-drop, take-take, drop-take, append_cancel_left, append_cancel_right}
 use Rattle.order_labels.specs.KeyValue.{KeyValue, IsKey}
 use Rattle.order_labels.specs.LabelOrder.{code, IsBelow, IsKeyBelow}
 use Rattle.order_labels.specs.LabelShape.{child_label, IsLabel, document, child, IsAncestor, IsParent}
 use Rattle.order_labels.proofs.ByteOrder.{byte_order-front, below_by_byte, below_by_heads, heads, below_longer, with_rests}
-use Rattle.order_labels.proofs.FractionLemmas.{InRange}
+use Rattle.order_labels.proofs.FractionLemmas.{InRange, split_last}
 use Rattle.order_labels.proofs.CodeBytes.{code_in_range}
 
 -- Codes in order stay in order with the byte 1 and anything behind them, since their own bytes are above 1.
@@ -137,3 +137,29 @@ ancestor_decides a b r h e = (
   (λ t. ancestor_from_front a b h ((bytes_eq-Decides (take (length a) b) a).0 (sym e ∙ t))),
   (λ above. e ∙ (bytes_eq-Decides (take (length a) b) a).1 (front_from_ancestor a b above)),
 )
+
+-- the first n + m elements are the first n and the m after them
+take_in_two : (n m : ℕ) (xs : List ℕ) → take (n + m) xs ≡ take n xs ++ take m (drop n xs)
+take_in_two n m xs =
+    sym (take-append-drop n (take (n + m) xs)) ∙ ap (λ z. z ++ drop n (take (n + m) xs)) (take-take n (n + m) xs (omega arith)) ∙ ap (λ z. take n xs ++ z) (drop-take n m xs)
+
+-- a label that begins with its parent's and ends with the byte 1 is the parent's, what is between and the byte 1
+pub code_between : (parent label : List ℕ) → length parent < length label → take (length parent) label ≡ parent → get_or label (length label - 1) 0 ≡ 1 → label ≡ parent ++ take (length label - 1 - length parent) (drop (length parent) label) ++ 1 ∷ []
+code_between parent label h front last =
+    split_last label (length label - 1) (omega arith) ∙ ap (λ b. take (length label - 1) label ++ b ∷ []) last ∙ ap (λ z. z ++ 1 ∷ []) middle
+  where
+    middle : take (length label - 1) label ≡ parent ++ take (length label - 1 - length parent) (drop (length parent) label)
+    middle = ap (λ e. take e label) (omega arith) ∙ take_in_two (length parent) (length label - 1 - length parent) label ∙ ap (λ z. z ++ take (length label - 1 - length parent) (drop (length parent) label)) front
+
+-- a label of a child begins with its parent's
+pub begins_with_parent : (parent label code' : List ℕ) → label ≡ parent ++ code' ++ 1 ∷ [] → take (length parent) label ≡ parent
+begins_with_parent parent label code' e = ap (take (length parent)) (e ∙ append_assoc parent code' (1 ∷ [])) ∙ take_at parent (code' ++ 1 ∷ []) (length parent) refl
+
+-- a label is that of a child with one code
+pub one_code : (parent c d : List ℕ) → parent ++ c ++ 1 ∷ [] ≡ parent ++ d ++ 1 ∷ [] → c ≡ d
+one_code parent c d e = append_cancel_left parent c d (append_cancel_right (parent ++ c) (parent ++ d) (1 ∷ []) e)
+
+-- what holds where there is none
+pub none_weaker : (o : Option KeyValue) (P Q : Type 0) → (P → Q) → IfNone o P → IfNone o Q
+none_weaker None P Q f h = f h
+none_weaker (Some k) P Q f h = tt

@@ -1,6 +1,5 @@
 -- A code is read as its key.
-use Rattle.std.proofs.Common.{◌≡◌, ◌≢◌, ℕ, zero, suc, ◌+◌, ◌-◌, ◌*◌, ◌^◌, ◌/◌, ◌%◌, ◌<◌, ◌≤◌, min, Bool, true, false, ltb, ℤ, pos, negsuc, List, [], ◌∷◌, ◌++◌, length, get_or, take, drop, map, refl, sym, ◌∙◌, ap, subst, arith, ◌⊎◌, inl, inr, add-one}
-use Rattle.std.specs.Prelude.{◌<ℤ◌, ◌≤ℤ◌}
+use Rattle.std.proofs.Common.{◌≡◌, ℕ, zero, suc, ◌+◌, ◌-◌, ◌*◌, ◌^◌, ◌/◌, ◌%◌, ◌<◌, ◌≤◌, min, ltb, ℤ, pos, negsuc, List, [], ◌∷◌, ◌++◌, length, get_or, take, drop, map, refl, sym, ◌∙◌, ap, arith, add-one}
 use Rattle.std.proofs.lemmas.Int.{ints}
 use Rattle.std.proofs.lemmas.Bool.{cond-true, cond-false, lt-ltb, le-ltb}
 use Rattle.std.proofs.lemmas.List.{take_at, drop_at, take_all, take_min, drop_min, take_rest, length-take, length-drop}
@@ -11,7 +10,7 @@ use Rattle.order_labels.specs.KeyValue.{KeyValue, IsKey, whole}
 use Rattle.order_labels.specs.LabelOrder.{digits, digit_count, integer_code, code}
 use Rattle.order_labels.specs.Sign.{first_byte, digit_byte, number_code}
 use Rattle.order_labels.specs.Reading.{sign_of, count_of, digit_of, number_of, integer_of, read_key}
-use Rattle.order_labels.proofs.DigitLemmas.{first_digit, remainder_below, length-digits, digit_count-pos, digit_count-max, digit_count-holds, power_pos, power-one_more, power_rises}
+use Rattle.order_labels.proofs.DigitLemmas.{first_digit, remainder_below, length-digits, digit_count-pos, digit_count-max, digit_count-holds, power-one_more, power_rises}
 
 -- a digit's byte says the digit
 digit_of-byte : (sign : Sign) (d : ℕ) → d < 254 → digit_of sign (digit_byte sign d) ≡ d

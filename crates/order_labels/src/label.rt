@@ -1,10 +1,12 @@
-ghost use Rattle.std.specs.Prelude.{◌≡◌, ◌++◌, ◌∷◌, [], ◌↔◌, length, IfOk, IsTrue};
+ghost use Rattle.std.specs.Prelude.{◌≡◌, ◌≢◌, ℕ, List, ◌++◌, ◌∷◌, [], ◌↔◌, length, IfOk, IfSome, IfNone, IsTrue};
+ghost use Rattle.order_labels.specs.KeyValue.{KeyValue, IsKey};
 ghost use Rattle.order_labels.specs.LabelOrder.{byte_order};
 ghost use Rattle.order_labels.specs.LabelShape.{child_label, IsLabel, IsAncestor, IsParent};
 
 use crate::NoMemory;
 use crate::key::Key;
 use crate::order::compare;
+use crate::reading::key_from_code;
 use std::alloc::Global;
 use std::cmp::Ordering;
 use std::marker::Model;
@@ -98,6 +100,35 @@ pub fn child(alloc: Global, parent: &Label, key: &Key) -> Result<Label, NoMemory
     key.push_code(&mut bytes)?;
     bytes.push(END_OF_KEY)?;
     Ok(Label { bytes })
+}
+
+/// The key with which a label is that of a child or attribute of `parent`, or None where it is not.
+pub fn key_of_child(alloc: Global, parent: &Label, label: &Label) -> Result<Option<Key>, NoMemory>
+    ensures found { IfOk result (λ found. IfSome found (λ k. label.now ≡ child_label parent.now k)) }
+    ensures none { IfOk result (λ found. IfNone found ((k : KeyValue) → IsKey k → label.now ≢ child_label parent.now k)) }
+{
+    match code_below(parent.as_bytes(), label.as_bytes()) {
+        Some(code) => key_from_code(alloc, code),
+        None => Ok(None),
+    }
+}
+
+/// What stands in a label between its parent's and the byte 1 at its end, if it is that of a child.
+fn code_below<'a>(parent: &[u8], label: &'a [u8]) -> Option<&'a [u8]>
+    ensures some { IfSome result (λ code. label.now ≡ parent.now ++ code.now ++ 1 ∷ []) }
+    ensures none { IfNone result ((code : List ℕ) → label.now ≢ parent.now ++ code ++ 1 ∷ []) }
+{
+    if label.len() <= parent.len() {
+        return None;
+    }
+    if &label[..parent.len()] != parent {
+        return None;
+    }
+    let end = label.len() - 1;
+    if label[end] != END_OF_KEY {
+        return None;
+    }
+    Some(&label[parent.len()..end])
 }
 
 /// The order of two labels, which is that of their nodes in the document.

@@ -25,7 +25,7 @@ mod tests;
 
 pub use error::NoMemory;
 pub use key::{INTEGER_BOUND, Key, LEAST_INTEGER, cmp_keys};
-pub use label::{Label, child, cmp, is_ancestor};
+pub use label::{Label, child, cmp, is_ancestor, key_of_child};
 pub use laws::{code_order, insertions_keep_keys, label_order, worked_codes};
 pub use list::{KeyList, spread};
 pub use neighbours::{after, between};

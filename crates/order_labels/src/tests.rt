@@ -207,8 +207,38 @@ fn labels_of_a_small_document(rt: HostRuntime) -> Result<(), Fail> {
     assert!(rt; is_ancestor(&document, &root));
     assert!(rt; !is_ancestor(&text, &text));
     assert!(rt; !is_ancestor(&attribute, &text));
+    let key = key_of_child(alloc, &root, &text)?.ok_or("no child")?;
+    assert_eq!(rt; key.integer(), 254);
+    assert!(rt; key_of_child(alloc, &document, &text)?.is_none());
+    assert!(rt; key_of_child(alloc, &text, &root)?.is_none());
     let read = Label::from_bytes(alloc, text.as_bytes())?;
     assert!(rt; cmp(&Label::from_vec(read.into_vec()), &text) == Ordering::Equal);
+    Ok(())
+}
+
+#[test]
+fn codes_read_back(rt: HostRuntime) -> Result<(), Fail> {
+    let alloc = rt.alloc();
+    let key = key_from_code(alloc, &[126, 254, 255, 2, 128])?.ok_or("no code")?;
+    assert_eq!(rt; key.integer(), -255);
+    assert_eq!(rt; key.fraction(), [2, 128].as_slice());
+    let refused: [(&[u8], &str); 9] = [
+        (&[], "no bytes"),
+        (&[128, 2], "no digits"),
+        (&[129], "a digit is missing"),
+        (&[129, 1], "a digit below 2"),
+        (&[130, 2, 5], "one digit is enough"),
+        (&[136, 3, 2, 2, 2, 2, 2, 2, 2], "more than 7 digits"),
+        (&[129, 2, 128, 2], "the fraction ends with 2"),
+        (&[129, 2, 1, 3], "a byte of the fraction is below 2"),
+        (
+            &[121, 2, 2, 2, 2, 2, 2, 2],
+            "the least integer without a fraction",
+        ),
+    ];
+    for (bytes, why) in refused {
+        assert!(rt; key_from_code(alloc, bytes)?.is_none(), "{why}");
+    }
     Ok(())
 }
 

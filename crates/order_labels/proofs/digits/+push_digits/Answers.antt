@@ -1,6 +1,5 @@
-use Rattle.std.proofs.Common.{◌≡◌, ◌<◌, ◌-◌, ◌/◌, ◌%◌, ◌++◌, ◌∷◌, [], ◌∙◌, map, arith, ap}
+use Rattle.std.proofs.Common.{◌<◌, ◌/◌, arith}
 use Rattle.std.proofs.lemmas.Result.{IfOk-equal}
-use Rattle.order_labels.specs.LabelOrder.{digits}
 use Rattle.order_labels.specs.Sign.{digit_byte}
 use Rattle.order_labels.proofs.DigitLemmas.{power_fits, power_pos, digit_below, remainder_below, digits_pushed}
 use Rattle.order_labels.proofs.digits.+push_digits.Goals as goal
@@ -27,6 +26,5 @@ push_digits-requires t c = (omega arith, (omega arith, rw c.pow-power.ensures (r
 
 pub returns : goal.returns
 returns t c =
-    let pushed : c.args.out.now.items ++ c.digit_byte.result ∷ [] ++ map (digit_byte c.args.sign) (digits (c.args.count - 1) (c.args.number % c.pow-power.result)) ≡ c.args.out.now.items ++ map (digit_byte c.args.sign) (digits c.args.count c.args.number) =
-    rw (c.digit_byte.ensures, c.pow-power.ensures) (digits_pushed (digit_byte c.args.sign) c.args.out.now.items c.args.count c.args.number (omega arith)) in
-    IfOk-equal _ _ _ _ c.push_digits.ensures (ap (λ out. out ++ map (digit_byte c.args.sign) (digits (c.args.count - 1) (c.args.number % c.pow-power.result))) c.in_ok-push.ensures.items ∙ pushed)
+    IfOk-equal _ _ _ _ c.push_digits.ensures
+    (rw (c.in_ok-push.ensures.items, c.digit_byte.ensures, c.pow-power.ensures) (digits_pushed (digit_byte c.args.sign) c.args.out.now.items c.args.count c.args.number (omega arith)))

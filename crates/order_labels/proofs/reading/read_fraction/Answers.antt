@@ -1,4 +1,4 @@
-use Rattle.std.proofs.Common.{◌∙◌, sym, ap, length, min, ◌≡◌, []}
+use Rattle.std.proofs.Common.{◌∙◌, sym, ap, length, min}
 use Rattle.std.proofs.lemmas.Bool.{eqb-true, eqb-false}
 use Rattle.std.proofs.lemmas.List.{nil_from_length}
 use Rattle.order_labels.specs.KeyValue.{KeyValue}

@@ -13,7 +13,7 @@ returns-then-is_empty-clause-value c =
 pub returns-clause-value : goal.returns-clause-value
 returns-clause-value c =
     let read = integer_read c.args.bytes.now c.min.result (eqb-false (length c.args.bytes.now) 0 (sym c.if-is_empty.ensures))
-      (c.min.ensures ∙ ap (λ n. min n (length (tail_of c.args.bytes.now))) c.count_of.ensures) in
+    (c.min.ensures ∙ ap (λ n. min n (length (tail_of c.args.bytes.now))) c.count_of.ensures) in
     let value : c.integer_of.result ≡ (read_key c.args.bytes.now).integer =
-      c.integer_of.ensures.value ∙ rw (c.sign_of.ensures, c.number_of.ensures.value, c.sign_of-2.ensures) read in
+    c.integer_of.ensures.value ∙ rw (c.sign_of.ensures, c.number_of.ensures.value, c.sign_of-2.ensures) read in
     omega (arith, ints, value)
