@@ -1,5 +1,5 @@
 -- The codes of keys, and the order of codes and labels: by bytes, a prefix before what it begins.
-use Rattle.std.specs.Prelude.{◌≡◌, ℕ, zero, suc, ◌+◌, ◌-◌, ◌/◌, ◌%◌, ◌^◌, ℤ, pos, negsuc, ◌<ℤ◌, ◌⊎◌, List, [], ◌∷◌, ◌++◌, map, nat_lt, if◌then◌else◌}
+use Rattle.std.specs.Prelude.{◌≡◌, ℕ, zero, suc, ◌+◌, ◌-◌, ◌/◌, ◌%◌, ◌^◌, ◌<◌, ◌≤◌, ℤ, pos, negsuc, ◌<ℤ◌, ◌⊎◌, List, [], ◌∷◌, ◌++◌, map, nat_lt, if◌then◌else◌}
 use Rattle.std.specs.Ordering.{nat_cmp}
 use Rattle.std.specs.Cmp.Lexicographic.{slice_cmp}
 use Rattle.std.specs.declared.cmp.Ordering.{Ordering}
@@ -14,6 +14,12 @@ digit_count_from (suc steps) n i = if nat_lt i (254 ^ n) then n else digit_count
 -- the least n, at least 1, with i < 254^n, for an i below 254^7
 unfoldable pub digit_count : ℕ → ℕ
 digit_count i = digit_count_from 6 1 i
+
+-- n digits, at least 1, are enough for i, and fewer are not
+pub record IsDigitCount (i n : ℕ) : Type 0 where
+  pub at_least_1 : 1 ≤ n
+  pub enough : i < 254 ^ n
+  pub least : (m : ℕ) → 1 ≤ m → i < 254 ^ m → n ≤ m
 
 -- the n digits of i to the base 254, highest first
 abbrev pub digits : ℕ → ℕ → List ℕ

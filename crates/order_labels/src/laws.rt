@@ -1,8 +1,8 @@
-ghost use Rattle.std.specs.Prelude.{◌≡◌, ◌↔◌, ℕ, ◌≤◌, ◌++◌, ◌∷◌, [], List, map, pos, negsuc, All};
+ghost use Rattle.std.specs.Prelude.{◌≡◌, ◌↔◌, ℕ, ◌<◌, ◌≤◌, ◌^◌, ◌++◌, ◌∷◌, [], List, map, pos, negsuc, All};
 ghost use Rattle.std.specs.Cmp.{IsTotalOrder};
 ghost use Rattle.std.specs.declared.cmp.Ordering.TheVariants.{Equal};
 ghost use Rattle.order_labels.specs.KeyValue.{KeyValue, IsKey, whole};
-ghost use Rattle.order_labels.specs.LabelOrder.{byte_order, code, IsBelow, IsKeyBelow, IsLower};
+ghost use Rattle.order_labels.specs.LabelOrder.{IsDigitCount, digit_count, byte_order, code, IsBelow, IsKeyBelow, IsLower};
 ghost use Rattle.order_labels.specs.LabelShape.{child_label, IsAncestor};
 ghost use Rattle.order_labels.specs.Insertions.{Insertions, IsRising, AreKept};
 
@@ -17,9 +17,10 @@ pub fn worked_codes()
     ensures minus_255 { code (whole (negsuc 254)) ≡ 126 ∷ 254 ∷ 255 ∷ [] }
 {}
 
-/// Law: the order of codes is that of keys, by the integer and then by the fraction; a code is that
-/// of one key; and no byte of a code is 0 or 1.
+/// Law: a code has the least number of digits that is enough; the order of codes is that of keys, by
+/// the integer and then by the fraction; a code is that of one key; and no byte of it is 0 or 1.
 pub fn code_order()
+    ensures digits { (i : ℕ) → i < 254 ^ 7 → IsDigitCount i (digit_count i) }
     ensures order { (a b : KeyValue) → IsKey a → IsKey b → IsKeyBelow a b ↔ IsLower a b }
     ensures one_key { (a b : KeyValue) → IsKey a → IsKey b → code a ≡ code b → a ≡ b }
     ensures bytes { (k : KeyValue) → IsKey k → All (λ b. (2 ≤ b) × (b ≤ 255)) (code k) }

@@ -1,5 +1,3 @@
-#![tactic(auto)]
-
 //! Labels that are never rebuilt.
 //!
 //! A key is an integer and a fraction, and between any two keys there is another. A label is its
@@ -9,6 +7,7 @@
 //! `between`, `after` and `spread` make keys; a code is never longer by more than a byte than those
 //! beside it. `child` makes labels; `cmp` and `is_ancestor` compare their bytes and take no memory.
 //! Every call answers but where memory is refused.
+#![tactic(auto)]
 
 mod digits;
 mod error;
