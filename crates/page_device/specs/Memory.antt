@@ -1,5 +1,6 @@
 -- What a device in memory keeps: its record of writes and syncs, and all that follows from it.
-use Rattle.std.specs.Prelude.{◌≡◌, ◌⊎◌, ℕ, ◌≤◌, List, [], ◌∷◌, ◌++◌, length, take, Option, Some, None, vec_capacity}
+use Rattle.std.specs.Prelude.{◌≡◌, ◌⊎◌, ℕ, ◌≤◌, List, [], ◌∷◌, ◌++◌, length, take, Option, Some, None, Vec, vec_capacity}
+use Rattle.std.specs.declared.alloc.Global.{Global}
 use Rattle.page_device.specs.declared.device.Which.{Which}
 use Rattle.page_device.specs.declared.device.Which.TheVariants.{Slots, LogA, LogB}
 use Rattle.page_device.specs.declared.memory.Files.{Files}
@@ -8,7 +9,7 @@ use Rattle.page_device.specs.declared.memory.Pick.{Pick}
 use Rattle.page_device.specs.declared.memory.Pick.TheVariants.{Old, New, Ones}
 use Rattle.page_device.specs.declared.memory.Done.{Done}
 use Rattle.page_device.specs.declared.memory.Done.TheVariants.{Wrote, Synced}
-use Rattle.page_device.specs.Image.{Image}
+use Rattle.page_device.specs.Image.{Image, bytes_of, with_bytes}
 use Rattle.page_device.specs.Write.{overlay, filled, Torn}
 
 -- the three files as an image
@@ -60,10 +61,17 @@ opened c = record { slots = at_rest c.slots; log_a = at_rest c.log_a; log_b = at
 abbrev pub wrote : Kept → ℕ → List ℕ → Kept
 wrote k at bytes = let now = overlay k.now at bytes in record { synced = k.synced; writes = k.writes ++ record { at = at; count = length bytes; long = length now } ∷ []; now = now }
 
--- after one write or one sync
+-- the three files after a write of one
+abbrev pub after_write : Disk → Which → ℕ → List ℕ → Disk
+after_write d file at bytes = with_kept d file (wrote (kept_of d file) at bytes)
+
+-- and after a sync of one
+abbrev pub after_sync : Disk → Which → Disk
+after_sync d file = with_kept d file (at_rest (kept_of d file).now)
+
 abbrev pub step : Disk → Done → Disk
-step d (Wrote file at bytes) = with_kept d file (wrote (kept_of d file) at bytes.items)
-step d (Synced file) = with_kept d file (at_rest (kept_of d file).now)
+step d (Wrote file at bytes) = after_write d file at bytes.items
+step d (Synced file) = after_sync d file
 
 -- after all of them, in order
 abbrev pub run : Disk → List Done → Disk
@@ -117,21 +125,44 @@ marked base (w ∷ ws) = marked (filled base w.at w.count) ws
 abbrev pub ones_of : Disk → Image
 ones_of d = record { slots = marked d.slots.synced d.slots.writes; log_a = marked d.log_a.synced d.log_a.writes; log_b = marked d.log_b.synced d.log_b.writes }
 
--- the image that is picked: unsynced bytes as last synced, as written, or each 255
-abbrev pub picked : Pick → Disk → Image
-picked Old d = synced_of d
-picked New d = now_of d
-picked Ones d = ones_of d
-
--- The versions that are kept at run time: none before the first write, when all of them are what the files held at first.
+-- the three versions that are kept at run time
 pub record Held : Type 0 where
   pub now : Image
   pub synced : Image
   pub ones : Image
 
-abbrev pub held_of : Files → Option Versions → Held
-held_of first None = record { now = image_of first; synced = image_of first; ones = image_of first }
-held_of first (Some v) = record { now = image_of v.now; synced = image_of v.synced; ones = image_of v.ones }
-
+-- what they are of a disk
 abbrev pub held_by : Disk → Held
 held_by d = record { now = now_of d; synced = synced_of d; ones = ones_of d }
+
+abbrev pub held_of_versions : Versions → Held
+held_of_versions v = record { now = image_of v.now; synced = image_of v.synced; ones = image_of v.ones }
+
+-- before the first write there are none, and all of them are what the files held at first
+abbrev pub held_of : Files → Option Versions → Held
+held_of first None = record { now = image_of first; synced = image_of first; ones = image_of first }
+held_of first (Some v) = held_of_versions v
+
+-- after a write
+abbrev pub written : Held → Which → ℕ → List ℕ → Held
+written h file at bytes = record { now = with_bytes h.now file (overlay (bytes_of h.now file) at bytes); synced = h.synced; ones = with_bytes h.ones file (filled (bytes_of h.ones file) at (length bytes)) }
+
+-- after a sync
+abbrev pub settled : Held → Which → Held
+settled h file = record { now = h.now; synced = with_bytes h.synced file (bytes_of h.now file); ones = with_bytes h.ones file (bytes_of h.now file) }
+
+-- the version that is picked: unsynced bytes as last synced, as written, or each 255
+abbrev pub picked_of : Held → Pick → Image
+picked_of h Old = h.synced
+picked_of h New = h.now
+picked_of h Ones = h.ones
+
+-- the image that a crash leaves
+abbrev pub picked : Disk → Pick → Image
+picked d pick = picked_of (held_by d) pick
+
+-- one write joins the record
+pub record Writes (file : Which) (at : ℕ) (bytes : List ℕ) (old new : List Done) : Type 0 where
+  pub copy : Vec ℕ Global
+  pub same : copy.items ≡ bytes
+  pub joined : new ≡ old ++ Wrote file at copy ∷ []

@@ -1,7 +1,6 @@
 -- The laws of a device, for one whose record is replayed.
 use Rattle.std.proofs.Common.{◌≡◌, ◌⊎◌, inl, inr, ⊎_elim, ℕ, zero, suc, ◌+◌, ◌-◌, ◌≤◌, min, max, Some, List, [], ◌∷◌, ◌++◌, length, take, drop, replicate, refl, sym, ap, ◌∙◌, subst, arith, length-append, length-take, length-drop}
 use Rattle.std.proofs.lemmas.List.{take_all, drop_at, length-replicate, take-append-le, take-append-drop}
-use Rattle.page_device.specs.declared.device.TheConstants.{LONGEST}
 use Rattle.page_device.specs.declared.device.Which.{Which}
 use Rattle.page_device.specs.declared.device.Which.TheVariants.{Slots, LogA, LogB}
 use Rattle.page_device.specs.declared.memory.Done.{Done}
@@ -68,7 +67,7 @@ length-filled old at (suc n) = length-spliced old at 255 (replicate (suc n) 255)
 
 torn_filled : (old : List ℕ) (at n : ℕ) → Torn at n old (filled old at n)
 torn_filled old at zero = torn_same at 0 old
-torn_filled old at (suc n) = let same : length (replicate (suc n) 255) ≡ suc n = length-replicate {A = ℕ} (suc n) 255 in record {
+torn_filled old at (suc n) = let same : length (replicate {A = ℕ} (suc n) 255) ≡ suc n = length-replicate {A = ℕ} (suc n) 255 in record {
   before = before_spliced old at 255 (replicate (suc n) 255) (suc n) same;
   after = after_spliced old at 255 (replicate (suc n) 255) (suc n) same;
   no_shorter = omega (arith, length-spliced old at 255 (replicate (suc n) 255) (suc n) same);
@@ -176,7 +175,7 @@ grows_run : (d : Disk) (ms : List Done) → Grows d (run d ms)
 grows_run d [] = record { slots = omega arith; log_a = omega arith; log_b = omega arith }
 grows_run d (m ∷ ms) = let one = grows_step d m in let more = grows_run (step d m) ms in record { slots = omega (arith, one.slots, more.slots); log_a = omega (arith, one.log_a, more.log_a); log_b = omega (arith, one.log_b, more.log_b) }
 
-run-append : (d : Disk) (ms ns : List Done) → run d (ms ++ ns) ≡ run (run d ms) ns
+pub run-append : (d : Disk) (ms ns : List Done) → run d (ms ++ ns) ≡ run (run d ms) ns
 run-append d [] ns = refl
 run-append d (m ∷ ms) ns = run-append (step d m) ms ns
 

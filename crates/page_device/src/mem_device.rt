@@ -1,14 +1,14 @@
 // The device over files in memory.
-ghost use Rattle.std.specs.Prelude.{◌≡◌, ◌++◌, [], ◌∷◌, ◌≤◌, ◌+◌, ◌↔◌, length, OnOk, OnErr, IfOk, IfSome, IsErr, Some, is_some, List};
+ghost use Rattle.std.specs.Prelude.{◌≡◌, ◌++◌, [], ◌∷◌, ◌≤◌, ◌+◌, ◌↔◌, length, OnOk, OnErr, IfOk, IfSome, IsErr, IsSome, Some, is_some, List};
 ghost use Rattle.page_device.specs.Image.{Image, bytes_of, with_bytes, IsBounded, SameOthers};
 ghost use Rattle.page_device.specs.Write.{overlay};
 ghost use Rattle.page_device.specs.Device.{Reads, TornIn, TornImage, Follows, Same, Shrinks, KeepsOthers, FileIs, Elapses, HasCause, Rose};
-ghost use Rattle.page_device.specs.Memory.{Held, Disk, image_of, held_of, held_by, disk_after, now_of, opened, picked, wrote, at_rest, kept_of, with_kept};
+ghost use Rattle.page_device.specs.Memory.{Held, Disk, image_of, held_of, held_by, disk_after, now_of, opened, picked, settled, Writes, after_write, after_sync};
 ghost use Rattle.page_device.specs.Plan.{Fails, passed};
 ghost use Rattle.page_device.specs.declared.memory.Done.TheVariants.{Wrote, Synced};
 
 use crate::device::{Device, Failed, LONGEST, Which};
-use crate::memory::{Done, Files, Pick, Versions};
+use crate::memory::{Done, Files, Pick, Versions, read_into};
 use crate::plan::{CallKind, FailList, Plan};
 use std::alloc::{AllocError, Global};
 
@@ -92,5 +92,101 @@ impl MemDevice {
             Some(versions) => &versions.now,
             None => &self.first,
         }
+    }
+
+    // Makes the versions before the first write.
+    fn part(&mut self) -> Result<(), AllocError>
+        ensures same { (self.new.first ≡ self.old.first) × (self.new.done ≡ self.old.done) }
+        ensures plan { (self.new.plan ≡ self.old.plan) × (self.new.failed ≡ self.old.failed) }
+        ensures made { OnOk result (IsSome self.new.versions) }
+    {
+        if self.versions.is_none() {
+            self.versions = Some(Versions::of(self.alloc, &self.first)?);
+        }
+        Ok(())
+    }
+
+    // Does a write and records it, or nothing where the memory for it is refused.
+    fn store(&mut self, file: Which, at: usize, bytes: &[u8]) -> Result<(), AllocError>
+        requires { at + length bytes.now ≤ LONGEST }
+        ensures first { self.new.first ≡ self.old.first }
+        ensures plan { (self.new.plan ≡ self.old.plan) × (self.new.failed ≡ self.old.failed) }
+        ensures ok { OnOk result (Writes file at bytes.now self.old.done.items self.new.done.items) }
+        ensures err { OnErr result (self.new.done.items ≡ self.old.done.items) }
+    {
+        self.part()?;
+        let copy = bytes.to_vec(self.alloc)?;
+        self.done.reserve(1)?;
+        let Some(versions) = &mut self.versions else {
+            unreachable!()
+        };
+        versions.write(file, at, bytes)?;
+        self.done.push_reserved(Done::Wrote(file, at as u64, copy));
+        Ok(())
+    }
+
+    // Does a sync and records it, or nothing where the memory for it is refused.
+    fn settle(&mut self, file: Which) -> Result<(), AllocError>
+        ensures first { self.new.first ≡ self.old.first }
+        ensures plan { (self.new.plan ≡ self.old.plan) × (self.new.failed ≡ self.old.failed) }
+        ensures ok { OnOk result (self.new.done.items ≡ self.old.done.items ++ Synced file ∷ []) }
+        ensures err { OnErr result (self.new.done.items ≡ self.old.done.items) }
+    {
+        self.done.reserve(1)?;
+        settle_versions(self.alloc, &self.first, &mut self.versions, file)?;
+        self.done.push_reserved(Done::Synced(file));
+        Ok(())
+    }
+}
+
+impl MemDevice {
+    ghost use Rattle.page_device.specs.MemDevice.{plan_of};
+
+    fn try_write(&mut self, file: Which, at: u64, bytes: &[u8]) -> Result<(), Failed>
+        requires { at + length bytes.now ≤ LONGEST }
+        ensures first { self.new.first ≡ self.old.first }
+        ensures ok { OnOk result (Writes file at bytes.now self.old.done.items self.new.done.items) }
+        ensures err { OnErr result (self.new.done.items ≡ self.old.done.items) }
+        ensures plan { plan_of self.new ≡ passed CallKind.Write (plan_of self.old) }
+        ensures planned { Fails CallKind.Write (plan_of self.old) → IsErr result }
+        ensures cause { HasCause self.old.failed self.new.failed result }
+    {
+        self.begin(CallKind::Write)?;
+        let Ok(()) = self.store(file, at as usize, bytes) else {
+            return Err(self.fail());
+        };
+        Ok(())
+    }
+
+    fn try_sync(&mut self, file: Which) -> Result<(), Failed>
+        ensures first { self.new.first ≡ self.old.first }
+        ensures ok { OnOk result (self.new.done.items ≡ self.old.done.items ++ Synced file ∷ []) }
+        ensures err { OnErr result (self.new.done.items ≡ self.old.done.items) }
+        ensures plan { plan_of self.new ≡ passed CallKind.Sync (plan_of self.old) }
+        ensures planned { Fails CallKind.Sync (plan_of self.old) → IsErr result }
+        ensures cause { HasCause self.old.failed self.new.failed result }
+    {
+        self.begin(CallKind::Sync)?;
+        let Ok(()) = self.settle(file) else {
+            return Err(self.fail());
+        };
+        Ok(())
+    }
+}
+
+// A sync of the versions, where there are any.
+fn settle_versions(
+    alloc: Global,
+    first: &Files,
+    versions: &mut Option<Versions>,
+    file: Which,
+) -> Result<(), AllocError>
+    ensures ok { OnOk result (held_of first.now versions.new ≡ settled (held_of first.now versions.old) file) }
+    ensures err { OnErr result (held_of first.now versions.new ≡ held_of first.now versions.old) }
+{
+    let _ = &first.slots;
+    match versions {
+        Some(versions) => versions.sync(alloc, file),
+        None => Ok(()),
     }
 }

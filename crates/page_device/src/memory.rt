@@ -1,7 +1,8 @@
 // What a device in memory keeps of its three files.
-ghost use Rattle.std.specs.Prelude.{◌≡◌, ◌+◌, ◌-◌, ◌≤◌, ◌++◌, length, take, drop, replicate, vec_capacity, IfOk, OnOk};
+ghost use Rattle.std.specs.Prelude.{◌≡◌, ◌+◌, ◌-◌, ◌≤◌, ◌++◌, length, take, drop, replicate, vec_capacity, IfOk, OnOk, OnErr};
 ghost use Rattle.page_device.specs.Image.{bytes_of, with_bytes};
 ghost use Rattle.page_device.specs.Write.{overlay, filled};
+ghost use Rattle.page_device.specs.Device.{Reads};
 
 use crate::device::{LONGEST, Which};
 use std::alloc::{AllocError, Global};
@@ -24,6 +25,16 @@ impl Files {
             Which::Slots => &self.slots,
             Which::LogA => &self.log_a,
             Which::LogB => &self.log_b,
+        }
+    }
+
+    fn set(&mut self, which: Which, bytes: Vec<u8>)
+        ensures { image_of self.new ≡ with_bytes (image_of self.old) which bytes.items }
+    {
+        match which {
+            Which::Slots => self.slots = bytes,
+            Which::LogA => self.log_a = bytes,
+            Which::LogB => self.log_b = bytes,
         }
     }
 
@@ -98,9 +109,7 @@ pub struct Versions {
 }
 
 impl Versions {
-    ghost use Rattle.page_device.specs.Memory.{image_of};
-    ghost use Rattle.std.specs.Prelude.{Some};
-    ghost use Rattle.page_device.specs.Memory.{held_of};
+    ghost use Rattle.page_device.specs.Memory.{image_of, held_of_versions, written, settled, picked_of};
 
     /// All of them the same.
     pub(crate) fn of(alloc: Global, files: &Files) -> Result<Versions, AllocError>
@@ -113,6 +122,44 @@ impl Versions {
             synced: files.copy(alloc)?,
             ones: files.copy(alloc)?,
         })
+    }
+
+    /// A write, or nothing where the memory for it is refused.
+    pub(crate) fn write(&mut self, file: Which, at: usize, bytes: &[u8]) -> Result<(), AllocError>
+        requires { at + length bytes.now ≤ LONGEST }
+        ensures ok { OnOk result (held_of_versions self.new ≡ written (held_of_versions self.old) file at bytes.now) }
+        ensures err { OnErr result (held_of_versions self.new ≡ held_of_versions self.old) }
+    {
+        let end = at + bytes.len();
+        self.now.reserve(file, end)?;
+        self.ones.reserve(file, end)?;
+        self.now.write(file, at, bytes);
+        self.ones.fill(file, at, bytes.len());
+        Ok(())
+    }
+
+    /// A sync, or nothing where the memory for it is refused.
+    pub(crate) fn sync(&mut self, alloc: Global, file: Which) -> Result<(), AllocError>
+        ensures ok { OnOk result (held_of_versions self.new ≡ settled (held_of_versions self.old) file) }
+        ensures err { OnErr result (held_of_versions self.new ≡ held_of_versions self.old) }
+    {
+        let synced = self.now.file(file).to_vec(alloc)?;
+        let ones = self.now.file(file).to_vec(alloc)?;
+        self.synced.set(file, synced);
+        self.ones.set(file, ones);
+        Ok(())
+    }
+
+    /// The version that is picked.
+    pub(crate) fn pick(self, pick: Pick) -> Files
+        ensures { image_of result ≡ picked_of (held_of_versions self) pick }
+    {
+        let Versions { now, synced, ones } = self;
+        match pick {
+            Pick::Old => synced,
+            Pick::New => now,
+            Pick::Ones => ones,
+        }
     }
 }
 
@@ -172,4 +219,17 @@ fn grow(file: &mut Vec<u8>, long: usize, byte: u8)
         let grown = file.resize(long, byte);
         let Ok(()) = grown else { unreachable!() };
     }
+}
+
+/// Reads from a place on to the front of a buffer.
+pub(crate) fn read_into(file: &[u8], at: usize, into: &mut [u8]) -> usize
+    ensures within { result ≤ length into.old }
+    ensures read { Reads file.now at into.new result }
+{
+    if at >= file.len() {
+        return 0;
+    }
+    let count = into.len().min(file.len() - at);
+    into[..count].copy_from_slice(&file[at..at + count]);
+    count
 }
