@@ -4,10 +4,12 @@ use Rattle.std.proofs.lemmas.List.{take_all, drop_at, length-replicate, take-app
 use Rattle.page_device.specs.declared.device.Which.{Which}
 use Rattle.page_device.specs.declared.device.Which.TheVariants.{Slots, LogA, LogB}
 use Rattle.page_device.specs.declared.memory.Done.{Done}
+use Rattle.page_device.specs.declared.memory.Pick.{Pick}
+use Rattle.page_device.specs.declared.memory.Pick.TheVariants.{Old, New, Ones}
 use Rattle.page_device.specs.declared.memory.Done.TheVariants.{Wrote, Synced}
 use Rattle.page_device.specs.Image.{Image, bytes_of, IsBounded}
 use Rattle.page_device.specs.Write.{overlay, filled, grown, Torn}
-use Rattle.page_device.specs.Memory.{Extent, Kept, Disk, kept_of, with_kept, at_rest, wrote, opened, step, run, disk_after, now_of, synced_of, ones_of, Tears, Reaches, CanBe, IsImage, WasImage, marked}
+use Rattle.page_device.specs.Memory.{Extent, Kept, Disk, kept_of, with_kept, at_rest, wrote, opened, step, run, disk_after, now_of, synced_of, ones_of, Tears, Reaches, CanBe, IsImage, WasImage, marked, picked}
 
 take-take-le : (m n : ℕ) (xs : List ℕ) → m ≤ n → take m (take n xs) ≡ take m xs
 take-take-le zero n xs le = refl
@@ -150,6 +152,12 @@ whole_after first ms = whole_run (opened first) ms record { slots = whole_at_res
 -- what is read is an image
 pub now_image : (first : Image) (ms : List Done) → IsImage (disk_after first ms) (now_of (disk_after first ms))
 now_image first ms = let w = whole_after first ms in record { slots = w.slots.now; log_a = w.log_a.now; log_b = w.log_b.now }
+
+-- and so is each version that can be picked
+pub picked_image : (first : Image) (ms : List Done) (pick : Pick) → IsImage (disk_after first ms) (picked (disk_after first ms) pick)
+picked_image first ms Old = let w = whole_after first ms in record { slots = w.slots.old; log_a = w.log_a.old; log_b = w.log_b.old }
+picked_image first ms New = now_image first ms
+picked_image first ms Ones = let w = whole_after first ms in record { slots = w.slots.ones; log_a = w.log_a.ones; log_b = w.log_b.ones }
 
 -- no image is longer than what is read
 pub image_no_longer : (d : Disk) (c : Image) → IsWholeDisk d → IsImage d c → (file : Which) → length (bytes_of c file) ≤ length (bytes_of (now_of d) file)

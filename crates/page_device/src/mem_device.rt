@@ -1,5 +1,5 @@
 // The device over files in memory.
-ghost use Rattle.std.specs.Prelude.{◌≡◌, ◌++◌, [], ◌∷◌, ◌≤◌, ◌+◌, ◌↔◌, length, OnOk, OnErr, IfOk, IfSome, IsErr, IsSome, Some, is_some, List};
+ghost use Rattle.std.specs.Prelude.{◌≡◌, ◌++◌, [], ◌∷◌, ◌≤◌, ◌+◌, ◌↔◌, length, OnOk, OnErr, IfOk, IfSome, IsErr, IsSome, Some, None, is_some, List};
 ghost use Rattle.page_device.specs.Image.{Image, bytes_of, with_bytes, IsBounded, SameOthers};
 ghost use Rattle.page_device.specs.Write.{overlay};
 ghost use Rattle.page_device.specs.Device.{Reads, TornIn, TornImage, Follows, Same, Shrinks, KeepsOthers, FileIs, Elapses, HasCause, Rose};
@@ -28,7 +28,7 @@ pub struct MemDevice {
 }
 
 impl MemDevice {
-    ghost use Rattle.page_device.specs.MemDevice.{disk_of, plan_of, faults_of};
+    ghost use Rattle.page_device.specs.MemDevice.{disk_of, plan_of, faults_of, MayLeave};
 
     /// Files with these bytes, all of them synced. The calls of `fails` fail, and with `stop` all calls but `faults` that
     /// come after so many of them.
@@ -82,6 +82,40 @@ impl MemDevice {
             return Err(self.fail());
         }
         Ok(())
+    }
+
+    /// What a crash leaves, as a device that is synced and does not fail: the unsynced bytes as last synced, as written, or
+    /// each of them 255.
+    pub fn crash(self, pick: Pick) -> MemDevice
+        ensures image { MayLeave self (picked (disk_of self) pick) }
+        ensures disk { disk_of result ≡ opened (picked (disk_of self) pick) }
+        ensures plan { plan_of result ≡ record { fails = []; left = None; counts = record { reads = 0; writes = 0; syncs = 0; lens = 0 } } }
+        ensures faults { faults_of result ≡ 0 }
+    {
+        let MemDevice {
+            alloc,
+            first,
+            versions,
+            done: _,
+            plan: _,
+            failed: _,
+        } = self;
+        let Files {
+            slots,
+            log_a,
+            log_b,
+        } = match versions {
+            Some(versions) => versions.pick(pick),
+            None => first,
+        };
+        MemDevice::of(
+            alloc,
+            slots,
+            log_a,
+            log_b,
+            FailList::of(Vec::new(alloc)),
+            None,
+        )
     }
 
     // The files as they are read.
@@ -171,6 +205,105 @@ impl MemDevice {
             return Err(self.fail());
         };
         Ok(())
+    }
+}
+
+impl Device for MemDevice {
+    ghost use Rattle.page_device.specs.MemDevice.{contents_of, MayLeave, moment_of, LeftSince, faults_of, disk_of, plan_of};
+    ghost use Rattle.page_device.specs.Memory.{image_of};
+    ghost use Rattle.page_device.specs.MemoryLaws.{told_image, counts_now_of, only_now_of, later_less_of, bounded_of};
+
+    ghost contents = { contents_of };
+
+    ghost may_leave = { MayLeave };
+
+    ghost moment = { moment_of };
+
+    ghost left_since = { LeftSince };
+
+    ghost failures = { faults_of };
+
+    ghost told_now = { λ m c is. told_image (image_of m.first) m.done.items c is };
+
+    ghost counts_now = { λ m t c le now. counts_now_of (image_of m.first) m.done.items t c le now };
+
+    ghost only_now = { λ m c was. only_now_of (image_of m.first) m.done.items c was };
+
+    ghost later_less = { λ m t u c le was. later_less_of (image_of m.first) m.done.items t u c le was };
+
+    ghost bounded = { λ m t c was. bounded_of (image_of m.first) m.done.items t c m.bounded was };
+
+    // It fails exactly where the plan says so.
+    fn read(&mut self, file: Which, at: u64, into: &mut [u8]) -> Result<usize, Failed>
+        requires { at + length into.old ≤ LONGEST }
+        ensures planned { IsErr result ↔ Fails CallKind.Read (plan_of self.old) }
+        ensures plan { plan_of self.new ≡ passed CallKind.Read (plan_of self.old) }
+        ensures disk { disk_of self.new ≡ disk_of self.old }
+        ensures within { IfOk result (λ n. n ≤ length into.old) }
+        ensures bytes { IfOk result (λ n. IfSome (contents_of self.old) (λ c. Reads (bytes_of c file) at into.new n)) }
+        ensures contents { contents_of self.new ≡ contents_of self.old }
+        ensures crash { Same (MayLeave self.old) (MayLeave self.new) }
+        ensures time { Elapses (moment_of self.old) (moment_of self.new) (LeftSince self.old) (LeftSince self.new) (MayLeave self.new) }
+        ensures cause { HasCause (faults_of self.old) (faults_of self.new) result }
+    {
+        self.begin(CallKind::Read)?;
+        Ok(read_into(self.now().file(file), at as usize, into))
+    }
+
+    // It fails where the plan says so, and else only where memory is refused, and then does nothing.
+    fn write_at(&mut self, file: Which, at: u64, bytes: &[u8]) -> Result<(), Failed>
+        requires { at + length bytes.now ≤ LONGEST }
+        ensures planned { Fails CallKind.Write (plan_of self.old) → IsErr result }
+        ensures plan { plan_of self.new ≡ passed CallKind.Write (plan_of self.old) }
+        ensures done { OnOk result (disk_of self.new ≡ after_write (disk_of self.old) file at bytes.now) }
+        ensures stays { OnErr result (disk_of self.new ≡ disk_of self.old) }
+        ensures written { OnOk result (IfSome (contents_of self.old) (λ c. contents_of self.new ≡ Some (with_bytes c file (overlay (bytes_of c file) at bytes.now)))) }
+        ensures torn { OnErr result (IfSome (contents_of self.old) (λ c. (d : Image) × (contents_of self.new ≡ Some d) × TornIn file at (length bytes.now) c d)) }
+        ensures told { is_some (contents_of self.new) ≡ is_some (contents_of self.old) }
+        ensures crash { Follows (TornImage file at (length bytes.now) (contents_of self.new)) (MayLeave self.old) (MayLeave self.new) }
+        ensures others { KeepsOthers file (MayLeave self.old) (MayLeave self.new) }
+        ensures time { Elapses (moment_of self.old) (moment_of self.new) (LeftSince self.old) (LeftSince self.new) (MayLeave self.new) }
+        ensures cause { HasCause (faults_of self.old) (faults_of self.new) result }
+    {
+        self.try_write(file, at, bytes)
+    }
+
+    // It fails where the plan says so, and else only where memory is refused, and then does nothing.
+    fn sync(&mut self, file: Which) -> Result<(), Failed>
+        ensures planned { Fails CallKind.Sync (plan_of self.old) → IsErr result }
+        ensures plan { plan_of self.new ≡ passed CallKind.Sync (plan_of self.old) }
+        ensures done { OnOk result (disk_of self.new ≡ after_sync (disk_of self.old) file) }
+        ensures stays { OnErr result (disk_of self.new ≡ disk_of self.old) }
+        ensures durable { OnOk result (IfSome (contents_of self.old) (λ c. FileIs file (bytes_of c file) (MayLeave self.new))) }
+        ensures contents { OnOk result (contents_of self.new ≡ contents_of self.old) }
+        ensures failed { OnErr result (IfSome (contents_of self.old) (λ c. (d : Image) × (contents_of self.new ≡ Some d) × SameOthers file c d)) }
+        ensures told { is_some (contents_of self.new) ≡ is_some (contents_of self.old) }
+        ensures crash { Shrinks (MayLeave self.old) (MayLeave self.new) }
+        ensures others { KeepsOthers file (MayLeave self.old) (MayLeave self.new) }
+        ensures time { Elapses (moment_of self.old) (moment_of self.new) (LeftSince self.old) (LeftSince self.new) (MayLeave self.new) }
+        ensures cause { HasCause (faults_of self.old) (faults_of self.new) result }
+    {
+        self.try_sync(file)
+    }
+
+    // It fails exactly where the plan says so.
+    fn len(&mut self, file: Which) -> Result<u64, Failed>
+        ensures planned { IsErr result ↔ Fails CallKind.Len (plan_of self.old) }
+        ensures plan { plan_of self.new ≡ passed CallKind.Len (plan_of self.old) }
+        ensures disk { disk_of self.new ≡ disk_of self.old }
+        ensures within { IfOk result (λ n. n ≤ LONGEST) }
+        ensures length { IfOk result (λ n. IfSome (contents_of self.old) (λ c. n ≡ length (bytes_of c file))) }
+        ensures contents { contents_of self.new ≡ contents_of self.old }
+        ensures crash { Same (MayLeave self.old) (MayLeave self.new) }
+        ensures time { Elapses (moment_of self.old) (moment_of self.new) (LeftSince self.old) (LeftSince self.new) (MayLeave self.new) }
+        ensures cause { HasCause (faults_of self.old) (faults_of self.new) result }
+    {
+        self.begin(CallKind::Len)?;
+        Ok(self.now().file(file).len() as u64)
+    }
+
+    fn faults(&self) -> u64 {
+        self.failed
     }
 }
 
