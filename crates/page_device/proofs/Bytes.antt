@@ -1,6 +1,6 @@
 -- What a write makes of the bytes of one file.
-use Rattle.std.proofs.Common.{◌≡◌, ℕ, zero, suc, ◌+◌, ◌-◌, ◌<◌, ◌≤◌, min, max, List, [], ◌∷◌, ◌++◌, length, take, drop, replicate, refl, sym, ap, ◌∙◌, subst, rules, arith, length-append, length-take, length-drop}
-use Rattle.std.proofs.lemmas.List.{take-append-le, take_at, drop_at, places, same_lists, length-replicate}
+use Rattle.std.proofs.Common.{◌≡◌, ℕ, zero, suc, ◌+◌, ◌-◌, ◌<◌, ◌≤◌, min, max, List, [], ◌∷◌, ◌++◌, length, take, drop, replicate, refl, sym, ap, ◌∙◌, subst, rules, arith, add-zero, length-append, length-take, length-drop}
+use Rattle.std.proofs.lemmas.List.{append-nil, take-append-drop, take-append-le, take_at, drop_at, places, same_lists, length-replicate}
 use Rattle.page_device.specs.Write.{overlay, filled, grown, Torn}
 
 -- how many bytes stand behind a file does not matter for what stands before a place
@@ -23,3 +23,8 @@ filled_in old at (suc n) some = ap (λ (z : List ℕ × List ℕ). z.0 ++ replic
 -- a vector after a change of its slice
 pub written_back : (n : ℕ) (bytes items : List ℕ) → length bytes ≡ length items → n ≡ length items → take n (bytes ++ drop (length bytes) items) ≡ bytes
 written_back n bytes items same long = take_at bytes (drop (length bytes) items) n (omega arith)
+
+-- a write that begins within the file leaves no gap
+pub overlay-inside : (old : List ℕ) (at : ℕ) (bytes : List ℕ) → at ≤ length old → overlay old at bytes ≡ take at old ++ bytes ++ drop (at + length bytes) old
+overlay-inside old at [] le = sym (ap (λ (l : List ℕ). l ++ drop (at + 0) old) (append-nil (take at old)) ∙ (ap (λ (n : ℕ). take at old ++ drop n old) (add-zero at) ∙ take-append-drop at old))
+overlay-inside old at (b ∷ bs) le = ap (λ (l : List ℕ). l ++ (b ∷ bs) ++ drop (at + length (b ∷ bs)) old) (take-append-le at old (replicate (at - length old) 0) le)

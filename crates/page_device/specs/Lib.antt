@@ -4,5 +4,6 @@ pub mod Device
 pub mod Run
 pub mod Plan
 pub mod Memory
-pub mod MemDevice
 pub mod MemoryLaws
+pub mod MemDevice
+pub mod Gate

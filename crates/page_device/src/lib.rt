@@ -13,6 +13,7 @@ mod mem_device;
 mod memory;
 mod plan;
 mod text;
+mod through;
 
 pub use device::{Device, Failed, LONGEST, Which};
 pub use file_device::FileDevice;
@@ -20,3 +21,4 @@ pub use mem_device::MemDevice;
 pub use memory::{Done, Files, Pick, Versions};
 pub use plan::{CallKind, Counts, Fail, FailList, Plan};
 pub use text::Str;
+pub use through::write_through;
