@@ -2,7 +2,9 @@
 use Rattle.std.proofs.Common.{◌≡◌, inl, inr, ℕ, ◌+◌, ◌<◌, min, List, [], ◌∷◌, ◌++◌, length, take, drop, get_or, sym, ap, ◌∙◌, subst, arith, append_assoc, length-append, length-take, take-append-drop}
 use Rattle.std.proofs.lemmas.List.{take_at, drop_at, drop_more}
 use Rattle.page_device.specs.declared.device.Which.{Which}
+use Rattle.page_device.specs.declared.device.Which.TheVariants.{LogA}
 use Rattle.page_device.specs.Image.{Image, bytes_of, with_bytes}
+use Rattle.page_device.specs.Memory.{Disk, opened, now_of, IsImage}
 use Rattle.page_device.specs.Write.{overlay, Torn}
 use Rattle.page_device.specs.Device.{FileIs}
 use Rattle.page_device.specs.Run.{Each, OthersFrom, TornFrom}
@@ -115,3 +117,14 @@ module _ (file : Which) (at : ℕ) (c : Image) (body : List ℕ) (old : Image �
 
   pub any_after : (mid : Image → Type 0) → Each mid (TornFrom file (at + 1) (length body) (bytes_of c file) old) → (i : Image) → TornFrom file at 1 (bytes_of middle file) mid i → BeforeOrAfter file front back old i
   any_after mid all i t = record { gate = inr (whole_of mid i t); others = others_of mid all i t.others }
+
+-- a device as it was opened, whose log is one closed gate
+pub rest_at_first : (d : Disk) (c : Image) → d ≡ opened c → c.log_a ≡ 0 ∷ [] → IsAtRest LogA 0 (now_of d) (IsImage d)
+rest_at_first d c is log = subst (λ (e : Disk). IsAtRest LogA 0 (now_of e) (IsImage e)) (sym is) record {
+  gate = 0;
+  shut = λ e. omega arith;
+  rest = [];
+  is = log;
+  long = omega (arith, ap length log);
+  synced = λ i left. left.log_a;
+}

@@ -22,3 +22,6 @@ pub use memory::{Done, Files, Pick, Versions};
 pub use plan::{CallKind, Counts, Fail, FailList, Plan};
 pub use text::Str;
 pub use through::write_through;
+
+#[cfg(test)]
+mod tests;
