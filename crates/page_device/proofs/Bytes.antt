@@ -1,7 +1,7 @@
 -- What a write makes of the bytes of one file.
-use Rattle.std.proofs.Common.{◌≡◌, ℕ, zero, suc, ◌+◌, ◌-◌, ◌<◌, ◌≤◌, min, max, List, [], ◌∷◌, ◌++◌, length, take, drop, replicate, refl, sym, ap, ◌∙◌, subst, rules, arith, add-zero, length-append, length-take, length-drop}
-use Rattle.std.proofs.lemmas.List.{append-nil, take-append-drop, take-append-le, take_at, drop_at, places, same_lists, length-replicate}
-use Rattle.page_device.specs.Write.{overlay, filled, grown, Torn}
+use Rattle.std.proofs.Common.{◌≡◌, ℕ, zero, suc, ◌+◌, ◌-◌, ◌<◌, ◌≤◌, List, [], ◌∷◌, ◌++◌, length, take, drop, replicate, sym, ap, ◌∙◌, rules, arith, add-zero}
+use Rattle.std.proofs.lemmas.List.{append-nil, take-append-drop, take-append-le, take_at, places, same_lists}
+use Rattle.page_device.specs.Write.{overlay, filled}
 
 -- how many bytes stand behind a file does not matter for what stands before a place
 pub take-padded : (old : List ℕ) (at more byte : ℕ) → at ≤ more → take at (old ++ replicate (more - length old) byte) ≡ take at (old ++ replicate (at - length old) byte)

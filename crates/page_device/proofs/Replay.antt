@@ -1,7 +1,6 @@
 -- What one call adds to a record that is replayed.
-use Rattle.std.proofs.Common.{◌≡◌, ◌⊎◌, inl, inr, ⊎_elim, ℕ, zero, suc, ◌+◌, ◌≤◌, max, Option, Some, List, [], ◌∷◌, ◌++◌, length, take, refl, sym, ap, ◌∙◌, subst, arith, length-append, Vec, Result, Ok, Err}
+use Rattle.std.proofs.Common.{◌≡◌, ◌⊎◌, inl, inr, ℕ, zero, suc, ◌+◌, ◌≤◌, max, Option, Some, List, [], ◌∷◌, ◌++◌, length, refl, sym, ap, ◌∙◌, subst, arith, length-append, Result, Ok, Err}
 use Rattle.std.specs.Prelude.{OnOk, OnErr}
-use Rattle.std.specs.declared.alloc.Global.{Global}
 use Rattle.std.proofs.lemmas.List.{take-append-le, take_all}
 use Rattle.std.proofs.Math.Decide.{dec_le}
 use mathlib.Core.Logic.{dite}
@@ -11,10 +10,10 @@ use Rattle.page_device.specs.declared.device.Which.TheVariants.{Slots, LogA, Log
 use Rattle.page_device.specs.declared.memory.Done.{Done}
 use Rattle.page_device.specs.declared.memory.Done.TheVariants.{Wrote, Synced}
 use Rattle.page_device.specs.Image.{Image, bytes_of, with_bytes, SameOthers, IsBounded}
-use Rattle.page_device.specs.Write.{overlay, filled, grown, Torn}
+use Rattle.page_device.specs.Write.{overlay, grown}
 use Rattle.page_device.specs.Device.{TornIn, TornImage, Follows, Shrinks, Same, KeepsOthers, FileIs, Elapses}
-use Rattle.page_device.specs.Memory.{Extent, Kept, Disk, Held, kept_of, with_kept, at_rest, wrote, step, run, disk_after, after_write, after_sync, now_of, synced_of, ones_of, held_by, written, settled, marked, Tears, Reaches, IsImage, WasImage, Writes}
-use Rattle.page_device.specs.MemoryLaws.{torn_same, torn_overlay, marked-push, reaches_less, IsWhole, IsWholeDisk, whole_after, run-append}
+use Rattle.page_device.specs.Memory.{Disk, Held, step, run, disk_after, after_write, after_sync, now_of, synced_of, ones_of, held_by, written, settled, Reaches, IsImage, WasImage, Writes}
+use Rattle.page_device.specs.MemoryLaws.{torn_same, torn_overlay, marked-push, reaches_less, IsWholeDisk, whole_after, run-append}
 
 -- the disk after one call more
 run_more : (d : Disk) (ms : List Done) (m : Done) → run d (ms ++ m ∷ []) ≡ step (run d ms) m

@@ -2,7 +2,7 @@
 use Rattle.std.specs.Prelude.{◌≡◌, ◌⊎◌, ℕ, ◌≤◌, ◌<◌, ◌-◌, min, Option, IfSome, List, length, take, drop, Result, IsErr}
 use Rattle.page_device.specs.declared.device.Failed.{Failed}
 use Rattle.page_device.specs.declared.device.Which.{Which}
-use Rattle.page_device.specs.Image.{Image, bytes_of, with_bytes, SameOthers}
+use Rattle.page_device.specs.Image.{Image, bytes_of, SameOthers}
 use Rattle.page_device.specs.Write.{Torn}
 
 -- The n bytes that the file has from this place on, up to the buffer's length, stand at the buffer's front.

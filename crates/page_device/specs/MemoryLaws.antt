@@ -1,5 +1,5 @@
 -- The laws of a device, for one whose record is replayed.
-use Rattle.std.proofs.Common.{◌≡◌, ◌⊎◌, inl, inr, ⊎_elim, ℕ, zero, suc, ◌+◌, ◌-◌, ◌≤◌, min, max, Some, List, [], ◌∷◌, ◌++◌, length, take, drop, replicate, refl, sym, ap, ◌∙◌, subst, arith, length-append, length-take, length-drop}
+use Rattle.std.proofs.Common.{◌≡◌, inl, inr, ⊎_elim, ℕ, zero, suc, ◌+◌, ◌-◌, ◌≤◌, min, max, Some, List, [], ◌∷◌, ◌++◌, length, take, drop, replicate, refl, sym, ap, ◌∙◌, subst, arith, length-append, length-take, length-drop}
 use Rattle.std.proofs.lemmas.List.{take_all, drop_at, length-replicate, take-append-le, take-append-drop}
 use Rattle.page_device.specs.declared.device.Which.{Which}
 use Rattle.page_device.specs.declared.device.Which.TheVariants.{Slots, LogA, LogB}
@@ -9,7 +9,7 @@ use Rattle.page_device.specs.declared.memory.Pick.TheVariants.{Old, New, Ones}
 use Rattle.page_device.specs.declared.memory.Done.TheVariants.{Wrote, Synced}
 use Rattle.page_device.specs.Image.{Image, bytes_of, IsBounded}
 use Rattle.page_device.specs.Write.{overlay, filled, grown, Torn}
-use Rattle.page_device.specs.Memory.{Extent, Kept, Disk, kept_of, with_kept, at_rest, wrote, opened, step, run, disk_after, now_of, synced_of, ones_of, Tears, Reaches, CanBe, IsImage, WasImage, marked, picked}
+use Rattle.page_device.specs.Memory.{Extent, Kept, Disk, at_rest, wrote, opened, step, run, disk_after, now_of, Tears, Reaches, IsImage, WasImage, marked, picked}
 
 take-take-le : (m n : ℕ) (xs : List ℕ) → m ≤ n → take m (take n xs) ≡ take m xs
 take-take-le zero n xs le = refl

@@ -1,5 +1,5 @@
 -- Which calls of a device in memory are to fail.
-use Rattle.std.specs.Prelude.{◌≡◌, ◌⊎◌, ℕ, ◌+◌, ◌-◌, min, Option, Some, Any}
+use Rattle.std.specs.Prelude.{◌≡◌, ◌⊎◌, ℕ, ◌+◌, ◌-◌, min, Some, Any}
 use Rattle.std.specs.Option.{option_map}
 use Rattle.page_device.specs.declared.plan.CallKind.{CallKind}
 use Rattle.page_device.specs.declared.plan.CallKind.TheVariants.{Read, Write, Sync, Len}

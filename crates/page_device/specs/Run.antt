@@ -1,5 +1,5 @@
 -- What a run of several calls of a device leaves.
-use Rattle.std.specs.Prelude.{◌≡◌, ◌⊎◌, ℕ, ◌≤◌, List}
+use Rattle.std.specs.Prelude.{◌⊎◌, ℕ, ◌≤◌, List}
 use Rattle.page_device.specs.declared.device.Which.{Which}
 use Rattle.page_device.specs.Image.{Image, bytes_of, SameOthers}
 use Rattle.page_device.specs.Write.{Torn}

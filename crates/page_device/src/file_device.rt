@@ -158,7 +158,6 @@ impl<R: Files<File = File> + Send + Drop> FileDevice<R> {
             failed: 0,
         }
     }
-
 }
 
 impl<R: Files<File = File> + Drop> FileDevice<R> {

@@ -55,9 +55,7 @@ impl FailList {
     fn names(&self, kind: CallKind, made: u64) -> bool
         ensures { IsTrue result ↔ Any (λ fail. (fail.kind ≡ kind) × (fail.number ≡ made + 1)) self.now }
     {
-        self.fails
-            .iter()
-            .any(|fail| fail.kind == kind && fail.number.checked_sub(1) == Some(made))
+        self.fails.iter().any(|fail| fail.kind == kind && fail.number.checked_sub(1) == Some(made))
     }
 }
 

@@ -1,6 +1,9 @@
 mod four_calls;
 
-use crate::{CallKind, Device, Fail as Planned, FailList, FileDevice, MemDevice, Pick, Str, Which, write_through};
+use crate::{
+    CallKind, Device, Fail as Planned, FailList, FileDevice, MemDevice, Pick, Str, Which,
+    write_through,
+};
 use std::alloc::{AllocError, Global};
 use std::fs;
 use std::test::Fail;
@@ -29,7 +32,11 @@ fn each_pick_leaves_its_image(rt: HostRuntime) -> Result<(), Fail> {
     let cases = [
         (Pick::Old, [1, 2, 3, 4, 5, 6, 50, 50, 50, 50, 50], 6),
         (Pick::New, [1, 2, 7, 8, 8, 6, 0, 0, 0, 9, 9], 11),
-        (Pick::Ones, [1, 2, 255, 255, 255, 6, 255, 255, 255, 255, 255], 11),
+        (
+            Pick::Ones,
+            [1, 2, 255, 255, 255, 6, 255, 255, 255, 255, 255],
+            11,
+        ),
     ];
     for (pick, want, long) in cases {
         let device = unsynced(alloc)?;
@@ -37,7 +44,10 @@ fn each_pick_leaves_its_image(rt: HostRuntime) -> Result<(), Fail> {
         let mut left = device.crash(pick);
         let mut bytes = [50; 11];
         assert_eq!(rt; left.len(Which::Slots).ok(), Some(long));
-        assert_eq!(rt; left.read(Which::Slots, 0, &mut bytes).ok(), Some(long as usize));
+        assert_eq!(rt;
+            left.read(Which::Slots, 0, &mut bytes).ok(),
+            Some(long as usize)
+        );
         assert_eq!(rt; bytes, want);
         let mut gate = [50; 2];
         assert_eq!(rt; left.read(Which::LogA, 0, &mut gate).ok(), Some(1));
@@ -51,10 +61,22 @@ fn each_pick_leaves_its_image(rt: HostRuntime) -> Result<(), Fail> {
 fn calls_fail_by_kind_and_number(rt: HostRuntime) -> Result<(), Fail> {
     let alloc = rt.alloc();
     let fails = vec![in alloc;
-        Planned { kind: CallKind::Write, number: 2 },
-        Planned { kind: CallKind::Sync, number: 1 },
-        Planned { kind: CallKind::Read, number: 2 },
-        Planned { kind: CallKind::Len, number: 1 },
+        Planned {
+            kind: CallKind::Write,
+            number: 2
+        },
+        Planned {
+            kind: CallKind::Sync,
+            number: 1
+        },
+        Planned {
+            kind: CallKind::Read,
+            number: 2
+        },
+        Planned {
+            kind: CallKind::Len,
+            number: 1
+        },
     ]?;
     let mut device = MemDevice::of(
         alloc,

@@ -17,7 +17,12 @@ enum End {
     Doubt,
 }
 
-fn write_behind_gate<D: Device>(device: &mut D, file: Which, at: u64, body: &[u8]) -> Result<(), End>
+fn write_behind_gate<D: Device>(
+    device: &mut D,
+    file: Which,
+    at: u64,
+    body: &[u8],
+) -> Result<(), End>
     requires fits { at + 1 + length body.now ≤ LONGEST }
     requires rest { IfSome (D.contents device.old) (λ c. IsAtRest file at c (D.may_leave device.old)) }
     ensures done { OnOk result (IfSome (D.contents device.old) (λ c. FileIs file (take at (bytes_of c file) ++ 1 ∷ behind at body.now (bytes_of c file)) (D.may_leave device.new))) }

@@ -1,4 +1,4 @@
-use Rattle.std.proofs.Common.{◌≡◌, ℕ, ◌+◌, ◌<◌, List, ◌++◌, length, take, drop, replicate, sym, ap, ◌∙◌, rules, arith}
+use Rattle.std.proofs.Common.{◌≡◌, ℕ, ◌+◌, ◌<◌, List, ◌++◌, length, take, drop, replicate, ap, ◌∙◌, rules, arith}
 use Rattle.page_device.proofs.Bytes.{filled_in, written_back}
 use Rattle.page_device.proofs.memory.fill_over.Goals as goal
 

@@ -1,4 +1,4 @@
-use Rattle.std.proofs.Common.{◌≡◌, ℕ, ◌+◌, ◌<◌, List, ◌++◌, length, take, drop, sym, ap, ◌∙◌, rules, arith}
+use Rattle.std.proofs.Common.{◌≡◌, ℕ, ◌+◌, ◌<◌, List, ◌++◌, length, take, drop, ap, ◌∙◌, rules}
 use Rattle.page_device.proofs.Bytes.{overlaid, written_back}
 use Rattle.page_device.proofs.memory.write_over.Goals as goal
 

@@ -1,7 +1,7 @@
-use Rattle.std.proofs.Common.{◌≡◌, ◌++◌, [], ◌∷◌, List, rules, sym, ap, ◌∙◌, subst}
+use Rattle.std.proofs.Common.{◌≡◌, ◌++◌, [], ◌∷◌, rules, sym, ap, ◌∙◌, subst}
 use Rattle.page_device.specs.Image.{Image, IsBounded}
 use Rattle.page_device.specs.declared.memory.Done.TheVariants.{Synced}
-use Rattle.page_device.specs.Memory.{Disk, Held, image_of, held_by, settled, disk_after, now_of}
+use Rattle.page_device.specs.Memory.{Held, image_of, held_by, settled, disk_after, now_of}
 use Rattle.page_device.proofs.Replay.{disk_synced, held_settled, now_synced}
 use Rattle.page_device.proofs.mem_device.MemDevice.settle.Goals as goal
 

@@ -1,4 +1,4 @@
-use Rattle.std.proofs.Common.{◌≡◌, ◌++◌, [], ◌∷◌, List, rules, sym, ap, ◌∙◌, subst}
+use Rattle.std.proofs.Common.{◌≡◌, rules, sym, ap, ◌∙◌, subst}
 use Rattle.page_device.specs.Image.{IsBounded}
 use Rattle.page_device.specs.Memory.{Disk, Held, Writes, image_of, held_of, held_of_versions, held_by, written, disk_after, now_of}
 use Rattle.page_device.proofs.Replay.{disk_wrote, held_written, bounded_wrote}

@@ -1,5 +1,5 @@
-use Rattle.std.proofs.Common.{◌≡◌, Option, Some, sym, ap, ◌∙◌, subst}
-use Rattle.page_device.specs.Image.{Image, bytes_of, with_bytes}
+use Rattle.std.proofs.Common.{◌≡◌, Option, Some, sym, ◌∙◌, subst}
+use Rattle.page_device.specs.Image.{Image, bytes_of}
 use Rattle.page_device.specs.Device.{FileIs}
 use Rattle.page_device.proofs.Told.{if_told, if_still_told, told}
 use Rattle.page_device.proofs.Runs.{weaker, joined}
