@@ -12,7 +12,7 @@ use Rattle.page_device.specs.declared.memory.Done.TheVariants.{Wrote, Synced}
 use Rattle.page_device.specs.Image.{Image, bytes_of, with_bytes, SameOthers, IsBounded}
 use Rattle.page_device.specs.Write.{overlay, grown}
 use Rattle.page_device.specs.Device.{TornIn, TornImage, Follows, Shrinks, Same, KeepsOthers, FileIs, Elapses}
-use Rattle.page_device.specs.Memory.{Disk, Held, step, run, disk_after, after_write, after_sync, now_of, synced_of, ones_of, held_by, written, settled, Reaches, IsImage, WasImage, Writes}
+use Rattle.page_device.specs.Memory.{Disk, Held, step, run, disk_after, after_write, after_sync, now_of, synced_of, ones_of, held_by, held_after_write, held_after_sync, Reaches, IsImage, WasImage, Writes}
 use Rattle.page_device.specs.MemoryLaws.{torn_same, torn_overlay, marked-push, reaches_less, IsWholeDisk, whole_after, run-append}
 
 -- the disk after one call more
@@ -26,20 +26,15 @@ pub disk_synced : (first : Image) (ms ms' : List Done) (file : Which) → ms' �
 disk_synced first ms ms' file joined = ap (disk_after first) joined ∙ run_more _ ms (Synced file)
 
 -- the versions of a disk after a write and after a sync
-pub held_written : (d : Disk) (file : Which) (at : ℕ) (bytes : List ℕ) → held_by (after_write d file at bytes) ≡ written (held_by d) file at bytes
-held_written d Slots at bytes = ap (λ (l : List ℕ). record { now = now_of (after_write d Slots at bytes); synced = synced_of d; ones = with_bytes (ones_of d) Slots l }) (marked-push d.slots.synced d.slots.writes _)
-held_written d LogA at bytes = ap (λ (l : List ℕ). record { now = now_of (after_write d LogA at bytes); synced = synced_of d; ones = with_bytes (ones_of d) LogA l }) (marked-push d.log_a.synced d.log_a.writes _)
-held_written d LogB at bytes = ap (λ (l : List ℕ). record { now = now_of (after_write d LogB at bytes); synced = synced_of d; ones = with_bytes (ones_of d) LogB l }) (marked-push d.log_b.synced d.log_b.writes _)
+pub held_by-after_write : (d : Disk) (file : Which) (at : ℕ) (bytes : List ℕ) → held_by (after_write d file at bytes) ≡ held_after_write (held_by d) file at bytes
+held_by-after_write d Slots at bytes = ap (λ (l : List ℕ). record { now = now_of (after_write d Slots at bytes); synced = synced_of d; ones = with_bytes (ones_of d) Slots l }) (marked-push d.slots.synced d.slots.writes _)
+held_by-after_write d LogA at bytes = ap (λ (l : List ℕ). record { now = now_of (after_write d LogA at bytes); synced = synced_of d; ones = with_bytes (ones_of d) LogA l }) (marked-push d.log_a.synced d.log_a.writes _)
+held_by-after_write d LogB at bytes = ap (λ (l : List ℕ). record { now = now_of (after_write d LogB at bytes); synced = synced_of d; ones = with_bytes (ones_of d) LogB l }) (marked-push d.log_b.synced d.log_b.writes _)
 
-pub held_settled : (d : Disk) (file : Which) → held_by (after_sync d file) ≡ settled (held_by d) file
-held_settled d Slots = refl
-held_settled d LogA = refl
-held_settled d LogB = refl
-
-pub settled_same : (c : Image) (file : Which) → ◌≡◌ {A = Held} (record { now = c; synced = c; ones = c }) (settled (record { now = c; synced = c; ones = c }) file)
-settled_same c Slots = refl
-settled_same c LogA = refl
-settled_same c LogB = refl
+pub held_by-after_sync : (d : Disk) (file : Which) → held_by (after_sync d file) ≡ held_after_sync (held_by d) file
+held_by-after_sync d Slots = refl
+held_by-after_sync d LogA = refl
+held_by-after_sync d LogB = refl
 
 -- no file becomes longer than a place can be
 grown_le : (long at n : ℕ) → grown long at n ≤ max long (at + n)

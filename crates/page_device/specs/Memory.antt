@@ -143,13 +143,13 @@ abbrev pub held_of : Files → Option Versions → Held
 held_of first None = record { now = image_of first; synced = image_of first; ones = image_of first }
 held_of first (Some v) = held_of_versions v
 
--- after a write
-abbrev pub written : Held → Which → ℕ → List ℕ → Held
-written h file at bytes = record { now = with_bytes h.now file (overlay (bytes_of h.now file) at bytes); synced = h.synced; ones = with_bytes h.ones file (filled (bytes_of h.ones file) at (length bytes)) }
+-- the versions after a write
+abbrev pub held_after_write : Held → Which → ℕ → List ℕ → Held
+held_after_write h file at bytes = record { now = with_bytes h.now file (overlay (bytes_of h.now file) at bytes); synced = h.synced; ones = with_bytes h.ones file (filled (bytes_of h.ones file) at (length bytes)) }
 
--- after a sync
-abbrev pub settled : Held → Which → Held
-settled h file = record { now = h.now; synced = with_bytes h.synced file (bytes_of h.now file); ones = with_bytes h.ones file (bytes_of h.now file) }
+-- and after a sync
+abbrev pub held_after_sync : Held → Which → Held
+held_after_sync h file = record { now = h.now; synced = with_bytes h.synced file (bytes_of h.now file); ones = with_bytes h.ones file (bytes_of h.now file) }
 
 -- the version that is picked: unsynced bytes as last synced, as written, or each 255
 abbrev pub picked_of : Held → Pick → Image

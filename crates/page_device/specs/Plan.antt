@@ -1,9 +1,10 @@
 -- Which calls of a device in memory are to fail.
-use Rattle.std.specs.Prelude.{◌≡◌, ◌⊎◌, ℕ, ◌+◌, ◌-◌, min, Some, Any}
+use Rattle.std.specs.Prelude.{◌≡◌, ◌⊎◌, ℕ, Option, ◌+◌, ◌-◌, min, Some, Any, List}
 use Rattle.std.specs.Option.{option_map}
 use Rattle.page_device.specs.declared.plan.CallKind.{CallKind}
 use Rattle.page_device.specs.declared.plan.CallKind.TheVariants.{Read, Write, Sync, Len}
 use Rattle.page_device.specs.declared.plan.Counts.{Counts}
+use Rattle.page_device.specs.declared.plan.Fail.{Fail}
 use Rattle.page_device.specs.declared.plan.Plan.{Plan}
 
 -- how many calls of this kind were made
@@ -30,3 +31,7 @@ Fails kind p = (p.left ≡ Some 0) ⊎ Any (λ fail. (fail.kind ≡ kind) × (fa
 -- after one call of this kind
 abbrev pub passed : CallKind → Plan → Plan
 passed kind p = record p { left = option_map (λ n. n - 1) p.left; counts = with_count p.counts kind (counted (count_of p.counts kind)) }
+
+-- before the first call
+abbrev pub new_plan : List Fail → Option ℕ → Plan
+new_plan fails stop = record { fails = fails; left = stop; counts = record { reads = 0; writes = 0; syncs = 0; lens = 0 } }

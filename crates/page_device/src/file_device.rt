@@ -98,11 +98,12 @@ impl OpenFiles {
     // Opens the files, and syncs the folder, so that a file that was made is still there after a crash.
     fn open<R: Files<File = File>>(rt: &R, alloc: Global, folder: &Str) -> io::Result<OpenFiles> {
         let path = Path::new(folder.as_str());
+        let opened = File::open(rt, path)?;
         let slots = OpenFile::open(rt, alloc, path, SLOTS)?;
         slots.file.try_lock()?;
         let log_a = OpenFile::open(rt, alloc, path, LOG_A)?;
         let log_b = OpenFile::open(rt, alloc, path, LOG_B)?;
-        File::open(rt, path)?.sync_all()?;
+        opened.sync_all()?;
         Ok(OpenFiles {
             slots,
             log_a,

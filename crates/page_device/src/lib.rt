@@ -18,8 +18,8 @@ mod through;
 pub use device::{Device, Failed, LONGEST, Which};
 pub use file_device::FileDevice;
 pub use mem_device::MemDevice;
-pub use memory::{Done, Files, Pick, Versions};
-pub use plan::{CallKind, Counts, Fail, FailList, Plan};
+pub use memory::Pick;
+pub use plan::{CallKind, Fail, FailList};
 pub use text::Str;
 pub use through::write_through;
 

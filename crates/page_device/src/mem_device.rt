@@ -3,8 +3,8 @@ ghost use Rattle.std.specs.Prelude.{◌≡◌, ◌++◌, [], ◌∷◌, ◌≤�
 ghost use Rattle.page_device.specs.Image.{Image, bytes_of, with_bytes, IsBounded, SameOthers};
 ghost use Rattle.page_device.specs.Write.{overlay};
 ghost use Rattle.page_device.specs.Device.{Reads, TornIn, TornImage, Follows, Same, Shrinks, KeepsOthers, FileIs, Elapses, HasCause, Rose};
-ghost use Rattle.page_device.specs.Memory.{Held, Disk, image_of, held_of, held_by, disk_after, now_of, opened, picked, settled, Writes, after_write, after_sync};
-ghost use Rattle.page_device.specs.Plan.{Fails, passed};
+ghost use Rattle.page_device.specs.Memory.{Held, Disk, image_of, held_of, held_by, disk_after, now_of, opened, picked, held_after_sync, Writes, after_write, after_sync};
+ghost use Rattle.page_device.specs.Plan.{Fails, passed, new_plan};
 ghost use Rattle.page_device.specs.declared.memory.Done.TheVariants.{Wrote, Synced};
 
 use crate::device::{Device, Failed, LONGEST, Which};
@@ -44,7 +44,7 @@ impl MemDevice {
         requires log_a { length log_a.items ≤ LONGEST }
         requires log_b { length log_b.items ≤ LONGEST }
         ensures disk { disk_of result ≡ opened (record { slots = slots.items; log_a = log_a.items; log_b = log_b.items }) }
-        ensures plan { plan_of result ≡ record { fails = fails; left = stop; counts = record { reads = 0; writes = 0; syncs = 0; lens = 0 } } }
+        ensures plan { plan_of result ≡ new_plan fails stop }
         ensures faults { faults_of result ≡ 0 }
     {
         let first = Files {
@@ -89,7 +89,7 @@ impl MemDevice {
     pub fn crash(self, pick: Pick) -> MemDevice
         ensures image { MayLeave self (picked (disk_of self) pick) }
         ensures disk { disk_of result ≡ opened (picked (disk_of self) pick) }
-        ensures plan { plan_of result ≡ record { fails = []; left = None; counts = record { reads = 0; writes = 0; syncs = 0; lens = 0 } } }
+        ensures plan { plan_of result ≡ new_plan [] None }
         ensures faults { faults_of result ≡ 0 }
     {
         let MemDevice {
@@ -129,7 +129,7 @@ impl MemDevice {
     }
 
     // Makes the versions before the first write.
-    fn part(&mut self) -> Result<(), AllocError>
+    fn make_versions(&mut self) -> Result<(), AllocError>
         ensures same { (self.new.first ≡ self.old.first) × (self.new.done ≡ self.old.done) }
         ensures plan { (self.new.plan ≡ self.old.plan) × (self.new.failed ≡ self.old.failed) }
         ensures made { OnOk result (IsSome self.new.versions) }
@@ -141,34 +141,38 @@ impl MemDevice {
     }
 
     // Does a write and records it, or nothing where the memory for it is refused.
-    fn store(&mut self, file: Which, at: usize, bytes: &[u8]) -> Result<(), AllocError>
+    fn record_write(&mut self, file: Which, at: usize, bytes: &[u8]) -> Result<(), AllocError>
         requires { at + length bytes.now ≤ LONGEST }
         ensures first { self.new.first ≡ self.old.first }
         ensures plan { (self.new.plan ≡ self.old.plan) × (self.new.failed ≡ self.old.failed) }
         ensures ok { OnOk result (Writes file at bytes.now self.old.done.items self.new.done.items) }
         ensures err { OnErr result (self.new.done.items ≡ self.old.done.items) }
     {
-        self.part()?;
+        self.make_versions()?;
         let copy = bytes.to_vec(self.alloc)?;
         self.done.reserve(1)?;
         let Some(versions) = &mut self.versions else {
             unreachable!()
         };
         versions.write(file, at, bytes)?;
-        self.done.push_reserved(Done::Wrote(file, at as u64, copy));
+        self.done.push_reserved(Done::Wrote {
+            file,
+            at: at as u64,
+            bytes: copy,
+        });
         Ok(())
     }
 
     // Does a sync and records it, or nothing where the memory for it is refused.
-    fn settle(&mut self, file: Which) -> Result<(), AllocError>
+    fn record_sync(&mut self, file: Which) -> Result<(), AllocError>
         ensures first { self.new.first ≡ self.old.first }
         ensures plan { (self.new.plan ≡ self.old.plan) × (self.new.failed ≡ self.old.failed) }
         ensures ok { OnOk result (self.new.done.items ≡ self.old.done.items ++ Synced file ∷ []) }
         ensures err { OnErr result (self.new.done.items ≡ self.old.done.items) }
     {
         self.done.reserve(1)?;
-        settle_versions(self.alloc, &self.first, &mut self.versions, file)?;
-        self.done.push_reserved(Done::Synced(file));
+        sync_versions(self.alloc, &self.first, &mut self.versions, file)?;
+        self.done.push_reserved(Done::Synced { file });
         Ok(())
     }
 }
@@ -186,7 +190,7 @@ impl MemDevice {
         ensures cause { HasCause self.old.failed self.new.failed result }
     {
         self.begin(CallKind::Write)?;
-        let Ok(()) = self.store(file, at as usize, bytes) else {
+        let Ok(()) = self.record_write(file, at as usize, bytes) else {
             return Err(self.fail());
         };
         Ok(())
@@ -201,7 +205,7 @@ impl MemDevice {
         ensures cause { HasCause self.old.failed self.new.failed result }
     {
         self.begin(CallKind::Sync)?;
-        let Ok(()) = self.settle(file) else {
+        let Ok(()) = self.record_sync(file) else {
             return Err(self.fail());
         };
         Ok(())
@@ -308,13 +312,13 @@ impl Device for MemDevice {
 }
 
 // A sync of the versions, where there are any.
-fn settle_versions(
+fn sync_versions(
     alloc: Global,
     first: &Files,
     versions: &mut Option<Versions>,
     file: Which,
 ) -> Result<(), AllocError>
-    ensures ok { OnOk result (held_of first.now versions.new ≡ settled (held_of first.now versions.old) file) }
+    ensures ok { OnOk result (held_of first.now versions.new ≡ held_after_sync (held_of first.now versions.old) file) }
     ensures err { OnErr result (held_of first.now versions.new ≡ held_of first.now versions.old) }
 {
     let _ = &first.slots;

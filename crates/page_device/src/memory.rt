@@ -96,8 +96,14 @@ pub enum Pick {
 /// One entry of the record: a write that was done, or a sync.
 #[derive(Drop)]
 pub enum Done {
-    Wrote(Which, u64, Vec<u8>),
-    Synced(Which),
+    Wrote {
+        file: Which,
+        at: u64,
+        bytes: Vec<u8>,
+    },
+    Synced {
+        file: Which,
+    },
 }
 
 /// The files as they are read, as they were last synced, and with each unsynced byte at 255.
@@ -109,7 +115,7 @@ pub struct Versions {
 }
 
 impl Versions {
-    ghost use Rattle.page_device.specs.Memory.{image_of, held_of_versions, written, settled, picked_of};
+    ghost use Rattle.page_device.specs.Memory.{image_of, held_of_versions, held_after_write, held_after_sync, picked_of};
 
     /// All of them the same.
     pub(crate) fn of(alloc: Global, files: &Files) -> Result<Versions, AllocError>
@@ -127,7 +133,7 @@ impl Versions {
     /// A write, or nothing where the memory for it is refused.
     pub(crate) fn write(&mut self, file: Which, at: usize, bytes: &[u8]) -> Result<(), AllocError>
         requires { at + length bytes.now ≤ LONGEST }
-        ensures ok { OnOk result (held_of_versions self.new ≡ written (held_of_versions self.old) file at bytes.now) }
+        ensures ok { OnOk result (held_of_versions self.new ≡ held_after_write (held_of_versions self.old) file at bytes.now) }
         ensures err { OnErr result (held_of_versions self.new ≡ held_of_versions self.old) }
     {
         let end = at + bytes.len();
@@ -140,7 +146,7 @@ impl Versions {
 
     /// A sync, or nothing where the memory for it is refused.
     pub(crate) fn sync(&mut self, alloc: Global, file: Which) -> Result<(), AllocError>
-        ensures ok { OnOk result (held_of_versions self.new ≡ settled (held_of_versions self.old) file) }
+        ensures ok { OnOk result (held_of_versions self.new ≡ held_after_sync (held_of_versions self.old) file) }
         ensures err { OnErr result (held_of_versions self.new ≡ held_of_versions self.old) }
     {
         let synced = self.now.file(file).to_vec(alloc)?;

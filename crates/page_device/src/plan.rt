@@ -1,6 +1,6 @@
 // Which calls of a device in memory are to fail.
 ghost use Rattle.std.specs.Prelude.{◌≡◌, ◌+◌, ◌↔◌, IsTrue, Any};
-ghost use Rattle.page_device.specs.Plan.{count_of, with_count, counted, Fails, passed};
+ghost use Rattle.page_device.specs.Plan.{count_of, with_count, counted, Fails, passed, new_plan};
 
 use std::marker::Model;
 
@@ -103,7 +103,7 @@ pub struct Plan {
 impl Plan {
     /// A plan before the first call.
     pub(crate) fn of(fails: FailList, stop: Option<u64>) -> Plan
-        ensures { result ≡ record { fails = fails; left = stop; counts = record { reads = 0; writes = 0; syncs = 0; lens = 0 } } }
+        ensures { result ≡ new_plan fails stop }
     {
         let counts = Counts {
             reads: 0,
