@@ -12,7 +12,7 @@ use Rattle.page_device.specs.declared.memory.Done.TheVariants.{Wrote, Synced}
 use Rattle.page_device.specs.Image.{Image, bytes_of, with_bytes, SameOthers, IsBounded}
 use Rattle.page_device.specs.Write.{overlay, grown}
 use Rattle.page_device.specs.Device.{TornIn, TornImage, Follows, Shrinks, Same, KeepsOthers, FileIs, Elapses}
-use Rattle.page_device.specs.Memory.{Disk, Held, step, run, disk_after, after_write, after_sync, now_of, synced_of, ones_of, held_by, held_after_write, held_after_sync, Reaches, IsImage, WasImage, Writes}
+use Rattle.page_device.specs.Memory.{Disk, step, run, disk_after, after_write, after_sync, now_of, synced_of, ones_of, held_by, held_after_write, held_after_sync, Reaches, IsImage, WasImage, Writes}
 use Rattle.page_device.specs.MemoryLaws.{torn_same, torn_overlay, marked-push, reaches_less, IsWholeDisk, whole_after, run-append}
 
 -- the disk after one call more

@@ -76,6 +76,7 @@ impl MemDevice {
         ensures same { (self.new.first ≡ self.old.first) × (self.new.done ≡ self.old.done) }
         ensures plan { plan_of self.new ≡ passed kind (plan_of self.old) }
         ensures planned { IsErr result ↔ Fails kind (plan_of self.old) }
+        ensures faults { OnOk result (self.new.failed ≡ self.old.failed) }
         ensures cause { HasCause self.old.failed self.new.failed result }
     {
         if self.plan.pass(kind) {
@@ -187,6 +188,7 @@ impl MemDevice {
         ensures err { OnErr result (self.new.done.items ≡ self.old.done.items) }
         ensures plan { plan_of self.new ≡ passed CallKind.Write (plan_of self.old) }
         ensures planned { Fails CallKind.Write (plan_of self.old) → IsErr result }
+        ensures faults { OnOk result (self.new.failed ≡ self.old.failed) }
         ensures cause { HasCause self.old.failed self.new.failed result }
     {
         self.begin(CallKind::Write)?;
@@ -202,6 +204,7 @@ impl MemDevice {
         ensures err { OnErr result (self.new.done.items ≡ self.old.done.items) }
         ensures plan { plan_of self.new ≡ passed CallKind.Sync (plan_of self.old) }
         ensures planned { Fails CallKind.Sync (plan_of self.old) → IsErr result }
+        ensures faults { OnOk result (self.new.failed ≡ self.old.failed) }
         ensures cause { HasCause self.old.failed self.new.failed result }
     {
         self.begin(CallKind::Sync)?;
@@ -248,6 +251,7 @@ impl Device for MemDevice {
         ensures contents { contents_of self.new ≡ contents_of self.old }
         ensures crash { Same (MayLeave self.old) (MayLeave self.new) }
         ensures time { Elapses (moment_of self.old) (moment_of self.new) (LeftSince self.old) (LeftSince self.new) (MayLeave self.new) }
+        ensures faults { OnOk result (faults_of self.new ≡ faults_of self.old) }
         ensures cause { HasCause (faults_of self.old) (faults_of self.new) result }
     {
         self.begin(CallKind::Read)?;
@@ -267,6 +271,7 @@ impl Device for MemDevice {
         ensures crash { Follows (TornImage file at (length bytes.now) (contents_of self.new)) (MayLeave self.old) (MayLeave self.new) }
         ensures others { KeepsOthers file (MayLeave self.old) (MayLeave self.new) }
         ensures time { Elapses (moment_of self.old) (moment_of self.new) (LeftSince self.old) (LeftSince self.new) (MayLeave self.new) }
+        ensures faults { OnOk result (faults_of self.new ≡ faults_of self.old) }
         ensures cause { HasCause (faults_of self.old) (faults_of self.new) result }
     {
         self.try_write(file, at, bytes)
@@ -285,6 +290,7 @@ impl Device for MemDevice {
         ensures crash { Shrinks (MayLeave self.old) (MayLeave self.new) }
         ensures others { KeepsOthers file (MayLeave self.old) (MayLeave self.new) }
         ensures time { Elapses (moment_of self.old) (moment_of self.new) (LeftSince self.old) (LeftSince self.new) (MayLeave self.new) }
+        ensures faults { OnOk result (faults_of self.new ≡ faults_of self.old) }
         ensures cause { HasCause (faults_of self.old) (faults_of self.new) result }
     {
         self.try_sync(file)
@@ -300,6 +306,7 @@ impl Device for MemDevice {
         ensures contents { contents_of self.new ≡ contents_of self.old }
         ensures crash { Same (MayLeave self.old) (MayLeave self.new) }
         ensures time { Elapses (moment_of self.old) (moment_of self.new) (LeftSince self.old) (LeftSince self.new) (MayLeave self.new) }
+        ensures faults { OnOk result (faults_of self.new ≡ faults_of self.old) }
         ensures cause { HasCause (faults_of self.old) (faults_of self.new) result }
     {
         self.begin(CallKind::Len)?;
