@@ -6,18 +6,39 @@
 //! leaves what it was given as it was. Nothing else is refused here.
 #![tactic(auto)]
 
+mod call;
+mod code;
+mod code_text;
+mod copy;
+mod copy_tree;
 mod kind;
 mod memory;
+mod need;
 mod refusal;
 mod sequence;
+mod step;
 mod text;
+mod token;
+mod tree;
+mod update;
 
+pub use call::{Call, CallText};
+pub use code::{Code, Mark, SpentKind};
+pub use copy::{copy_needs, copy_path, copy_texts, copy_tokens};
 pub use kind::Kind;
 pub use memory::NoMemory;
+pub use need::{LockMode, Need, NeedList};
 pub use refusal::PyxRefusal;
 pub use sequence::Sequence;
 pub use sqlite_items::{Boxed, Items};
+pub use step::{Axis, PathStep, PathTest, Test};
 pub use text::Str;
+pub use token::{Symbol, Token, TokenList};
+pub use tree::{
+    Bind, BindList, CompareOp, Expr, ExprList, ProductOp, ProductPart, ProductPartList, Sign,
+    SignList, SortKey, SortKeyList, Start, Step, StepList, SumPart, SumPartList,
+};
+pub use update::Update;
 
 /// A list of texts.
 pub type StrList = Sequence<Str>;
