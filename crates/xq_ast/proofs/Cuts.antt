@@ -1,6 +1,6 @@
 -- Texts cut at their first space.
 use Rattle.std.proofs.Common.{◌≡◌, ◌≢◌, ℕ, suc, ◌+◌, ◌<◌, Bool, true, false, ◌||◌, List, [], ◌∷◌, ◌++◌, length, get_or, nat_eq, refl, ap, sym, ◌∙◌, arith}
-use Rattle.xq_ast.specs.CodeWords.{has_space, IsCut}
+use Rattle.xq_ast.specs.CodeWords.{has_space}
 
 -- neither holds where not one of two holds
 neither : (a b : Bool) → (a || b) ≡ false → (a ≡ false) × (b ≡ false)

@@ -1,10 +1,10 @@
 -- Codes whose text is one word.
-use Rattle.std.proofs.Common.{◌≡◌, ℕ, List, refl}
+use Rattle.std.proofs.Common.{◌≡◌, ℕ, refl}
 use Rattle.xq_ast.specs.CodeWords.{IsWord}
 use Rattle.xq_ast.specs.declared.refusal.PyxRefusal.{PyxRefusal}
 use Rattle.xq_ast.specs.declared.code.SpentKind.{SpentKind}
 use Rattle.xq_ast.specs.declared.code.Code.{Code}
-use Rattle.xq_ast.specs.declared.code.Code.TheVariants.{XPST0003, XPST0008, XPST0017, XPDY0002, XPTY0004, XPTY0019, XPTY0020, XQTY0024, XQDY0025, FOAR0001, FOAR0002, FODC0002, FORG0001, FORG0006, TooLong, NestedTooDeep, BadName, NoTransaction, InTransaction, ReadOnly, Updating, Exists, TooDeep, TooManyNodes, TooMuchText, TooManyItems, ReplyTooLong, NoMemory, Failed, InDoubt, Pyx, Spent, Damaged}
+use Rattle.xq_ast.specs.declared.code.Code.TheVariants.{Pyx, Spent, Damaged}
 
 -- a code without numbers is one word
 pub word_of_the_rest : (code : Code) → ((why : PyxRefusal) (line : ℕ) → code ≡ Pyx why line → ⊥) → ((kind : SpentKind) (number : ℕ) → code ≡ Spent kind number → ⊥)

@@ -1,5 +1,4 @@
-ghost use Rattle.std.specs.Prelude.{◌≡◌, ℕ, List, IfOk, ◌++◌, codes};
-ghost use Rattle.std.specs.Fmt.{decimal};
+ghost use Rattle.std.specs.Prelude.{◌≡◌, IfOk};
 ghost use Rattle.xq_ast.specs.CodeText.{code_text, refusal_name, kind_name};
 ghost use Rattle.xq_ast.specs.CodeWords.{IsWord};
 

@@ -1,4 +1,4 @@
-use Rattle.xq_ast.proofs.Tables.{words-AreWords, word_missed}
+use Rattle.xq_ast.proofs.Tables.{words-AreWords}
 use Rattle.xq_ast.proofs.code_reading.word_code.Goals as goal
 
 pub code_among-requires : goal.code_among-requires
