@@ -1,2 +1,9 @@
 pub mod Order
+pub mod Fields
+pub mod Head
+pub mod Overlay
+pub mod Known
+pub mod Work
+pub mod Refusal
+pub mod Inside
 pub mod Lends

@@ -1,5 +1,5 @@
-//! Tables of pages: a value for each of some pages, in the order of pages.
-ghost use Rattle.std.specs.Prelude.{◌≡◌, OnOk, OnErr, IsSome, Some, not};
+//! Tables of pages, each with a value for some pages, and sets of spaces. Contracts see them as finite maps.
+ghost use Rattle.std.specs.Prelude.{◌≡◌, OnOk, OnErr, IfNone, IfSome, IsSome, Some, None, not};
 ghost use Rattle.std.specs.FinMap as map;
 ghost use Rattle.std.specs.Option.{option_copied};
 
@@ -9,6 +9,7 @@ use std::alloc::Global;
 use std::collections::BTreeMap;
 use std::marker::Model;
 
+/// A value for each of some pages, in the order of pages.
 #[derive(Drop)]
 pub struct PageTable<V> {
     entries: BTreeMap<PageId, V>,
@@ -26,6 +27,10 @@ impl<V> Model for PageTable<V> {
 }
 
 impl<V: Drop> PageTable<V> {
+    ghost use Rattle.page_bytes.specs.Order.{is_in};
+    ghost use Rattle.std.specs.Borrow.{sem};
+    ghost use Rattle.page_bytes.specs.Lends.{lends_entry};
+
     pub fn new(alloc: Global) -> PageTable<V>
         ensures { result ≡ map.empty }
     {
@@ -40,6 +45,12 @@ impl<V: Drop> PageTable<V> {
         self.entries.get(&id)
     }
 
+    pub fn has(&self, id: PageId) -> bool
+        ensures { result ≡ map.contains_key self.now id }
+    {
+        self.get(id).is_some()
+    }
+
     pub fn insert(&mut self, id: PageId, value: V) -> Result<(), NoMemory>
         ensures ok { OnOk result (self.new ≡ map.insert self.old id value) }
         ensures err { OnErr result (self.new ≡ self.old) }
@@ -49,17 +60,13 @@ impl<V: Drop> PageTable<V> {
             Err(_) => Err(NoMemory),
         }
     }
-}
 
-impl<V: Drop> PageTable<V> {
-    ghost use Rattle.page_bytes.specs.Order.{is_in};
-    ghost use Rattle.std.specs.Borrow.{sem};
-    ghost use Rattle.page_bytes.specs.Lends.{lends_entry};
-
-    pub fn remove(&mut self, id: PageId)
-        ensures { self.new ≡ map.remove self.old id }
+    /// Takes the page's value out, if there is one.
+    pub fn take(&mut self, id: PageId) -> Option<V>
+        ensures value { result ≡ map.get self.old id }
+        ensures removed { self.new ≡ map.remove self.old id }
     {
-        let _ = self.entries.remove(&id);
+        self.entries.remove(&id)
     }
 
     /// Takes out the pages of the space.
@@ -76,5 +83,64 @@ impl<V: Drop> PageTable<V> {
         ensures value { map.get self.old id ≡ Some result.now }
     {
         self.entries.get_mut(&id).unwrap()
+    }
+
+    /// Takes out the first page with its value, if there is one.
+    pub fn take_first(&mut self) -> Option<(PageId, V)>
+        ensures none { IfNone result (self.old ≡ map.empty) }
+        ensures value { IfSome result (λ e. map.get self.old e.0 ≡ Some e.1) }
+        ensures removed { IfSome result (λ e. self.new ≡ map.remove self.old e.0) }
+    {
+        self.entries.pop_first()
+    }
+}
+
+/// Some spaces, in the order of spaces.
+#[derive(Drop)]
+pub struct SpaceSet {
+    spaces: BTreeMap<Space, ()>,
+}
+
+impl Model for SpaceSet {
+    ghost use Rattle.std.specs.FinMap as map;
+    ghost use base.Stored.{coded_unit};
+    ghost use Rattle.page_bytes.specs.Order.{space_cmp, space_code};
+
+    ghost Value = { map.FinMap space_cmp (Unit {0}) };
+
+    ghost coded = { map.code space_code coded_unit };
+
+    ghost view = { λ s. map.from_entries s.spaces.entries };
+}
+
+impl SpaceSet {
+    pub fn new(alloc: Global) -> SpaceSet
+        ensures { result ≡ map.empty }
+    {
+        SpaceSet {
+            spaces: BTreeMap::new(alloc),
+        }
+    }
+
+    pub fn has(&self, space: Space) -> bool
+        ensures { result ≡ map.contains_key self.now space }
+    {
+        self.spaces.contains_key(&space)
+    }
+
+    pub fn insert(&mut self, space: Space) -> Result<(), NoMemory>
+        ensures ok { OnOk result (self.new ≡ map.insert self.old space tt) }
+        ensures err { OnErr result (self.new ≡ self.old) }
+    {
+        match self.spaces.insert(space, ()) {
+            Ok(_) => Ok(()),
+            Err(_) => Err(NoMemory),
+        }
+    }
+
+    pub fn remove(&mut self, space: Space)
+        ensures { self.new ≡ map.remove self.old space }
+    {
+        let _ = self.spaces.remove(&space);
     }
 }

@@ -1,0 +1,140 @@
+-- What each change of a workspace's parts does to what the workspace is seen as.
+use Rattle.std.proofs.Common.{◌≡◌, ℕ, Bool, true, false, not, ◌&&◌, ◌||◌, List, Option, Some, None, refl, sym, ap, ◌∙◌, cond, is_some}
+use Rattle.std.specs.Option.{option_or}
+use Rattle.std.specs.declared.cmp.Ordering.{Ordering}
+use Rattle.std.specs.Ordering.{eq_by_cmp}
+use Rattle.std.specs.FinMap as map
+use Rattle.page_bytes.specs.declared.ids.Space.{Space}
+use Rattle.page_bytes.specs.declared.ids.PageId.{PageId}
+use Rattle.page_bytes.specs.Order.{space_cmp, page_cmp, is_in}
+use Rattle.page_bytes.specs.Overlay.{overlay, get-overlay}
+use Rattle.page_bytes.specs.Known.{PageMap, PageIds, Spaces, Known, known_of, is_absent}
+use Rattle.page_bytes.specs.Work.{Work, work_over, with_page, without_page, with_space, without_space}
+use Rattle.page_bytes.specs.Inside.{stays, pages_of, work_of}
+use Rattle.page_bytes.proofs.Orders.{page_cmp-total, page_cmp-exact, space_cmp-total, space_cmp-exact, is_in-cmp}
+
+never : (b : Bool) → (b && false) ≡ false
+never true = refl
+never false = refl
+
+drafted : {X : Type 0} (e : Bool) (x : X) (d r : Option X) → option_or (cond e (Some x) d) r ≡ cond e (Some x) (option_or d r)
+drafted true x d r = refl
+drafted false x d r = refl
+
+freed : {X : Type 0} (e w : Bool) (d : Option X) (g : Option (Unit {0})) (b : Option X)
+    → option_or (cond e None d) (cond (not w && not (is_some (cond e (Some tt) g))) b None) ≡ cond e None (option_or d (cond (not w && not (is_some g)) b None))
+freed true true d g b = refl
+freed true false d g b = refl
+freed false w d g b = refl
+
+opened : {X : Type 0} (e g : Bool) (d : Option X) (w : Option (Unit {0})) (b : Option X)
+    → option_or (cond (not e) d None) (cond (not (is_some (cond e (Some tt) w)) && not g) b None) ≡ cond (not e) (option_or d (cond (not (is_some w) && not g) b None)) None
+opened true g d w b = refl
+opened false g d w b = refl
+
+dropped : {X : Type 0} (e : Bool) (d : Option X) (g w : Option (Unit {0})) (b : Option X)
+    → option_or (cond (not e) d None) (cond (not (is_some (cond e None w)) && not (is_some (cond (not e) g None))) (cond (not e) b None) None)
+    ≡ cond (not e) (option_or d (cond (not (is_some w) && not (is_some g)) b None)) None
+dropped true d g w b = refl
+dropped false d g w b = refl
+
+-- what a map keeps by a test, at a key
+pub get-kept : {X : Type 0} (m : map.FinMap page_cmp X) (p : PageId → Bool) (q : PageId) → map.get (map.retain_keys m p) q ≡ cond (p q) (map.get m q) None
+get-kept m p q = map.get-retain_keys m p q (λ x t. ap p (sym (page_cmp-exact q x t)))
+
+-- what is there of a page: its draft, or else what is below and stays
+pub get-pages_of : (b d : PageMap) (g : PageIds) (w : Spaces) (q : PageId)
+    → map.get (pages_of b d g w) q ≡ option_or (map.get d q) (cond (stays g w q) (map.get b q) None)
+get-pages_of b d g w q = get-overlay page_cmp-total d (map.retain_keys b (stays g w)) q ∙ ap (option_or (map.get d q)) (get-kept b (stays g w) q)
+
+-- no key is in the empty set
+pub no_key : {K : Type 0} (R : K → K → Ordering) (q : K) → map.contains_key (map.empty {X = Unit {0}} {R = R}) q ≡ false
+no_key R q = ap is_some (map.get-empty R q)
+
+-- a set of pages without pages tells of no page that it is absent
+pub nothing_absent : (pages : PageMap) (q : PageId) → is_absent (known_of pages) q ≡ false
+nothing_absent pages q =
+    ap (λ b. not (map.contains_key pages q) && (b || map.contains_key {X = Unit {0}} {R = page_cmp} map.empty q)) (no_key space_cmp q.space)
+    ∙ ap (λ b. not (map.contains_key pages q) && b) (no_key page_cmp q)
+    ∙ never (not (map.contains_key pages q))
+
+-- equal at each page, they are one map
+same_pages : (m n : PageMap) → ((q : PageId) → map.get m q ≡ map.get n q) → m ≡ n
+same_pages = map.same_map page_cmp-total page_cmp-exact
+
+-- a new workspace has what is below, and nothing is absent
+pub work_of-over : (b : PageMap) → work_of b map.empty map.empty map.empty ≡ work_over b
+work_of-over b =
+    let stay : (q : PageId) → stays map.empty map.empty q ≡ true = λ q. ap (λ x. not x && not (map.contains_key {X = Unit {0}} {R = page_cmp} map.empty q)) (no_key space_cmp q.space) ∙ ap not (no_key page_cmp q) in
+    let same = same_pages (pages_of b map.empty map.empty map.empty) b
+    (λ q. get-pages_of b map.empty map.empty map.empty q ∙ ap (λ o. option_or o (cond (stays map.empty map.empty q) (map.get b q) None)) (map.get-empty page_cmp q) ∙ ap (λ x. cond x (map.get b q) None) (stay q)) in
+    λ i. record { below = b; now = record { pages = same i; whole = map.empty; freed = map.empty } }
+
+-- a draft of a page is the page
+pub work_of-draft : (b d : PageMap) (g : PageIds) (w : Spaces) (id : PageId) (x : List ℕ)
+    → work_of b (map.insert d id x) g w ≡ with_page (work_of b d g w) id x
+work_of-draft b d g w id x =
+    let same = same_pages (pages_of b (map.insert d id x) g w) (map.insert (pages_of b d g w) id x)
+    (λ q. get-pages_of b (map.insert d id x) g w q
+        ∙ ap (λ o. option_or o (cond (stays g w q) (map.get b q) None)) (map.get-insert page_cmp-total d id x q)
+        ∙ drafted (eq_by_cmp page_cmp q id) x (map.get d q) (cond (stays g w q) (map.get b q) None)
+        ∙ ap (cond (eq_by_cmp page_cmp q id) (Some x)) (sym (get-pages_of b d g w q))
+        ∙ sym (map.get-insert page_cmp-total (pages_of b d g w) id x q)) in
+    λ i. record { below = b; now = record { pages = same i; whole = w; freed = g } }
+
+-- to free a page is to drop its draft and to note that it is gone
+pub work_of-gone : (b d : PageMap) (g : PageIds) (w : Spaces) (id : PageId)
+    → work_of b (map.remove d id) (map.insert g id tt) w ≡ without_page (work_of b d g w) id
+work_of-gone b d g w id =
+    let same = same_pages (pages_of b (map.remove d id) (map.insert g id tt) w) (map.remove (pages_of b d g w) id)
+    (λ q. get-pages_of b (map.remove d id) (map.insert g id tt) w q
+        ∙ ap (λ o. option_or o (cond (stays (map.insert g id tt) w q) (map.get b q) None)) (map.get-remove page_cmp-total d id q)
+        ∙ ap (λ o. option_or (cond (eq_by_cmp page_cmp q id) None (map.get d q)) (cond (not (map.contains_key w q.space) && not (is_some o)) (map.get b q) None)) (map.get-insert page_cmp-total g id tt q)
+        ∙ freed (eq_by_cmp page_cmp q id) (map.contains_key w q.space) (map.get d q) (map.get g q) (map.get b q)
+        ∙ ap (cond (eq_by_cmp page_cmp q id) None) (sym (get-pages_of b d g w q))
+        ∙ sym (map.get-remove page_cmp-total (pages_of b d g w) id q)) in
+    λ i. record { below = b; now = record { pages = same i; whole = w; freed = map.insert g id tt } }
+
+-- to open a space is to drop its drafts and to note that it is whole
+pub work_of-opened : (b d : PageMap) (g : PageIds) (w : Spaces) (s : Space)
+    → work_of b (map.retain_keys d (λ q. not (is_in s q))) g (map.insert w s tt) ≡ with_space (work_of b d g w) s
+work_of-opened b d g w s =
+    let out = λ (q : PageId). not (is_in s q) in
+    let same = same_pages (pages_of b (map.retain_keys d out) g (map.insert w s tt)) (map.retain_keys (pages_of b d g w) out)
+    (λ q. get-pages_of b (map.retain_keys d out) g (map.insert w s tt) q
+        ∙ ap (λ o. option_or o (cond (stays g (map.insert w s tt) q) (map.get b q) None)) (get-kept d out q)
+        ∙ ap (λ o. option_or (cond (out q) (map.get d q) None) (cond (not (is_some o) && not (map.contains_key g q)) (map.get b q) None)) (map.get-insert space_cmp-total w s tt q.space)
+        ∙ ap (λ e. option_or (cond (out q) (map.get d q) None) (cond (not (is_some (cond e (Some tt) (map.get w q.space))) && not (map.contains_key g q)) (map.get b q) None)) (is_in-cmp s q)
+        ∙ opened (is_in s q) (map.contains_key g q) (map.get d q) (map.get w q.space) (map.get b q)
+        ∙ ap (λ o. cond (out q) o None) (sym (get-pages_of b d g w q))
+        ∙ sym (get-kept (pages_of b d g w) out q)) in
+    λ i. record { below = b; now = record { pages = same i; whole = map.insert w s tt; freed = g } }
+
+-- to drop a space is to drop all that is kept of it
+pub work_of-dropped : (b d : PageMap) (g : PageIds) (w : Spaces) (s : Space)
+    → work_of (map.retain_keys b (λ q. not (is_in s q))) (map.retain_keys d (λ q. not (is_in s q))) (map.retain_keys g (λ q. not (is_in s q))) (map.remove w s) ≡ without_space (work_of b d g w) s
+work_of-dropped b d g w s =
+    let out = λ (q : PageId). not (is_in s q) in
+    let same = same_pages (pages_of (map.retain_keys b out) (map.retain_keys d out) (map.retain_keys g out) (map.remove w s)) (map.retain_keys (pages_of b d g w) out)
+    (λ q. get-pages_of (map.retain_keys b out) (map.retain_keys d out) (map.retain_keys g out) (map.remove w s) q
+        ∙ ap (λ o. option_or o (cond (stays (map.retain_keys g out) (map.remove w s) q) (map.get (map.retain_keys b out) q) None)) (get-kept d out q)
+        ∙ ap (λ o. option_or (cond (out q) (map.get d q) None) (cond (stays (map.retain_keys g out) (map.remove w s) q) o None)) (get-kept b out q)
+        ∙ ap (λ o. option_or (cond (out q) (map.get d q) None) (cond (not (map.contains_key (map.remove w s) q.space) && not (is_some o)) (cond (out q) (map.get b q) None) None)) (get-kept g out q)
+        ∙ ap (λ o. option_or (cond (out q) (map.get d q) None) (cond (not (is_some o) && not (is_some (cond (out q) (map.get g q) None))) (cond (out q) (map.get b q) None) None)) (map.get-remove space_cmp-total w s q.space)
+        ∙ ap (λ e. option_or (cond (out q) (map.get d q) None) (cond (not (is_some (cond e None (map.get w q.space))) && not (is_some (cond (out q) (map.get g q) None))) (cond (out q) (map.get b q) None) None)) (is_in-cmp s q)
+        ∙ dropped (is_in s q) (map.get d q) (map.get g q) (map.get w q.space) (map.get b q)
+        ∙ ap (λ o. cond (out q) o None) (sym (get-pages_of b d g w q))
+        ∙ sym (get-kept (pages_of b d g w) out q)) in
+    λ i. record { below = map.retain_keys b out; now = record { pages = same i; whole = map.remove w s; freed = map.retain_keys g out } }
+
+-- a page with a draft has the draft's bytes
+pub page-drafted : (b d : PageMap) (g : PageIds) (w : Spaces) (q : PageId) (x : List ℕ) → map.get d q ≡ Some x → map.get (pages_of b d g w) q ≡ Some x
+page-drafted b d g w q x is = get-pages_of b d g w q ∙ ap (λ o. option_or o (cond (stays g w q) (map.get b q) None)) is
+
+-- a page without one isn't there where it is gone or its space is whole
+pub page-hidden : (b d : PageMap) (g : PageIds) (w : Spaces) (q : PageId) → map.get d q ≡ None → stays g w q ≡ false → map.get (pages_of b d g w) q ≡ None
+page-hidden b d g w q is out = get-pages_of b d g w q ∙ ap (λ o. option_or o (cond (stays g w q) (map.get b q) None)) is ∙ ap (λ s. cond s (map.get b q) None) out
+
+-- and else is what it is below
+pub page-below : (b d : PageMap) (g : PageIds) (w : Spaces) (q : PageId) → map.get d q ≡ None → stays g w q ≡ true → map.get (pages_of b d g w) q ≡ map.get b q
+page-below b d g w q is stay = get-pages_of b d g w q ∙ ap (λ o. option_or o (cond (stays g w q) (map.get b q) None)) is ∙ ap (λ s. cond s (map.get b q) None) stay
