@@ -1,3 +1,4 @@
 pub mod Orders
 pub mod Tables
 pub mod Works
+pub mod Refusals

@@ -1,15 +1,16 @@
 -- What each change of a workspace's parts does to what the workspace is seen as.
-use Rattle.std.proofs.Common.{◌≡◌, ℕ, Bool, true, false, not, ◌&&◌, ◌||◌, List, Option, Some, None, refl, sym, ap, ◌∙◌, cond, is_some}
+use Rattle.std.proofs.Common.{◌≡◌, ℕ, Bool, true, false, not, ◌&&◌, ◌||◌, List, Option, Some, None, refl, sym, ap, ◌∙◌, cond, is_some, unwrap_or}
 use Rattle.std.specs.Option.{option_or}
 use Rattle.std.specs.declared.cmp.Ordering.{Ordering}
-use Rattle.std.specs.Ordering.{eq_by_cmp}
+use Rattle.std.specs.Ordering.{eq_by_cmp, is_eq}
+use Rattle.std.specs.Cmp.{tied_itself}
 use Rattle.std.specs.FinMap as map
 use Rattle.page_bytes.specs.declared.ids.Space.{Space}
 use Rattle.page_bytes.specs.declared.ids.PageId.{PageId}
 use Rattle.page_bytes.specs.Order.{space_cmp, page_cmp, is_in}
 use Rattle.page_bytes.specs.Overlay.{overlay, get-overlay}
-use Rattle.page_bytes.specs.Known.{PageMap, PageIds, Spaces, Known, known_of, is_absent}
-use Rattle.page_bytes.specs.Work.{Work, work_over, with_page, without_page, with_space, without_space}
+use Rattle.page_bytes.specs.Known.{PageMap, PageIds, Spaces, Known, known_of, is_absent, is_unknown}
+use Rattle.page_bytes.specs.Work.{Work, work_over, with_page, without_page, with_space, without_space, first_bytes, zeros}
 use Rattle.page_bytes.specs.Inside.{stays, pages_of, work_of}
 use Rattle.page_bytes.proofs.Orders.{page_cmp-total, page_cmp-exact, space_cmp-total, space_cmp-exact, is_in-cmp}
 
@@ -138,3 +139,24 @@ page-hidden b d g w q is out = get-pages_of b d g w q ∙ ap (λ o. option_or o 
 -- and else is what it is below
 pub page-below : (b d : PageMap) (g : PageIds) (w : Spaces) (q : PageId) → map.get d q ≡ None → stays g w q ≡ true → map.get (pages_of b d g w) q ≡ map.get b q
 page-below b d g w q is stay = get-pages_of b d g w q ∙ ap (λ o. option_or o (cond (stays g w q) (map.get b q) None)) is ∙ ap (λ s. cond s (map.get b q) None) stay
+
+same_twice : {X : Type 0} (e : Bool) (x y : X) (o : Option X) → cond e (Some y) (cond e (Some x) o) ≡ cond e (Some y) o
+same_twice true x y o = refl
+same_twice false x y o = refl
+
+-- what was put in is there
+pub get-inserted : {X : Type 0} (m : map.FinMap page_cmp X) (k : PageId) (x : X) → map.get (map.insert m k x) k ≡ Some x
+get-inserted m k x = map.get-insert page_cmp-total m k x k ∙ ap (λ o. cond (is_eq o) (Some x) (map.get m k)) (tied_itself page_cmp-total k)
+
+-- and hides what was put in before
+pub insert-inserted : {X : Type 0} (m : map.FinMap page_cmp X) (k : PageId) (x y : X) → map.insert (map.insert m k x) k y ≡ map.insert m k y
+insert-inserted m k x y = map.same_map page_cmp-total page_cmp-exact _ _
+    (λ q. map.get-insert page_cmp-total (map.insert m k x) k y q ∙ ap (cond (eq_by_cmp page_cmp q k) (Some y)) (map.get-insert page_cmp-total m k x q)
+        ∙ same_twice (eq_by_cmp page_cmp q k) x y (map.get m q) ∙ sym (map.get-insert page_cmp-total m k y q))
+
+-- a page that is there is not unknown, and what it begins with is what it is
+pub there_is_known : (k : Known) (id : PageId) (x : List ℕ) → map.get k.pages id ≡ Some x → is_unknown k id ≡ false
+there_is_known k id x is = ap (λ o. not (is_some o) && not (map.contains_key k.whole id.space || map.contains_key k.freed id)) is
+
+pub first_bytes-there : (k : Known) (id : PageId) (x : List ℕ) → map.get k.pages id ≡ Some x → x ≡ first_bytes k id
+first_bytes-there k id x is = ap (λ o. unwrap_or o zeros) (sym is)

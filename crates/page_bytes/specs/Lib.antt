@@ -7,3 +7,5 @@ pub mod Work
 pub mod Refusal
 pub mod Inside
 pub mod Lends
+pub mod LendsBytes
+pub mod LendsPage

@@ -1,10 +1,11 @@
 -- A workspace: the pages below, which it was given, and what it knows now, its own changes among it.
-use Rattle.std.specs.Prelude.{◌≡◌, ℕ, List, refl, replicate, not, unwrap_or}
+use Rattle.std.specs.Prelude.{ℕ, ◌+◌, List, refl, replicate, not, unwrap_or}
 use Rattle.std.specs.Coded.{Coded, code_by, coded×}
 use Rattle.std.specs.FinMap as map
 use Rattle.page_bytes.specs.declared.ids.Space.{Space}
 use Rattle.page_bytes.specs.declared.ids.PageId.{PageId}
 use Rattle.page_bytes.specs.Order.{is_in}
+use Rattle.page_bytes.specs.Head.{head_of, next_page, with_next_page}
 use Rattle.page_bytes.specs.Known.{PageMap, Known, page_map_code, known_code, known_of}
 
 pub record Work : Type 0 where
@@ -45,6 +46,16 @@ without_space w space = record {
 -- the bytes that an edit begins with: the page's, or zeros where it isn't there
 abbrev pub first_bytes : Known → PageId → List ℕ
 first_bytes k id = unwrap_or (map.get k.pages id) zeros
+
+-- the page that a new page of the space is: its number is the head's next one
+abbrev pub fresh_page : Known → Space → PageId
+fresh_page k space = record { space = space; number = next_page (first_bytes k (head_of space)) }
+
+-- the new page is there, all zeros, and the head's next number is one more
+abbrev pub with_fresh : Work → Space → Work
+with_fresh w space =
+    let head = first_bytes w.now (head_of space) in
+    with_page (with_page w (fresh_page w.now space) zeros) (head_of space) (with_next_page head (next_page head + 1))
 
 -- how a workspace is stored
 abbrev pub work_code : Coded Work

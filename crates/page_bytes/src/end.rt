@@ -1,4 +1,6 @@
 //! What a page call answers in place of a value.
+ghost use Rattle.std.specs.Prelude.{◌≡◌};
+
 use crate::ids::PageId;
 use thiserror::Error;
 
@@ -25,4 +27,14 @@ pub enum PageEnd {
     /// There was no memory.
     #[error("no memory")]
     NoMemory,
+}
+
+impl From<NoMemory> for PageEnd {
+    ghost use Rattle.page_bytes.specs.declared.end.PageEnd.TheVariants.{NoMemory as out_of_memory};
+
+    ghost from_gives = { λ _ end. end ≡ out_of_memory };
+
+    fn from(_error: NoMemory) -> PageEnd {
+        PageEnd::NoMemory
+    }
 }

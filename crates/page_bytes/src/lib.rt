@@ -2,6 +2,7 @@
 #![tactic(auto)]
 
 mod end;
+mod fields;
 mod ids;
 mod page;
 mod pages;
@@ -9,6 +10,7 @@ mod table;
 mod workspace;
 
 pub use end::{NoMemory, PageEnd};
+pub use fields::{read_bytes, read_u8, read_u16, read_u32, read_u64};
 pub use ids::{Addr, DocEntry, NodeNo, PageId, SchemaId, Space};
 pub use page::{Draft, Page};
 pub use pages::{PageSet, Pages};

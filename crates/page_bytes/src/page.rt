@@ -69,6 +69,9 @@ impl Page {
 }
 
 impl Draft {
+    ghost use Rattle.std.specs.Borrow.{sem};
+    ghost use Rattle.page_bytes.specs.LendsBytes.{lends_bytes};
+
     /// A draft of zeros.
     pub fn zero(alloc: Global) -> Result<Draft, NoMemory>
         ensures { IfOk result (λ d. d ≡ replicate 4096 0) }
@@ -91,5 +94,12 @@ impl Draft {
         ensures { result.now ≡ self.now }
     {
         &self.bytes
+    }
+
+    pub(crate) fn bytes_mut(&mut self) -> &mut [u8; 4096]
+        ensures* writes_back { sem 𝓛 (lends_bytes self.entry result) }
+        ensures value { result.now ≡ self.old }
+    {
+        &mut self.bytes
     }
 }
