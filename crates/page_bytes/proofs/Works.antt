@@ -1,7 +1,8 @@
 -- What each change of a workspace's parts does to what the workspace is seen as.
-use Rattle.std.proofs.Common.{◌≡◌, ℕ, Bool, true, false, not, ◌&&◌, ◌||◌, List, Option, Some, None, refl, sym, ap, ◌∙◌, cond, is_some, unwrap_or}
+use Rattle.std.proofs.Common.{◌≡◌, ℕ, ◌+◌, ◌<◌, Bool, true, false, not, ◌&&◌, ◌||◌, List, Option, Some, None, refl, sym, ap, ◌∙◌, cond, is_some, unwrap_or, true≢false, arith}
 use Rattle.std.specs.Option.{option_or}
 use Rattle.std.specs.declared.cmp.Ordering.{Ordering}
+use Rattle.std.specs.declared.cmp.Ordering.TheVariants.{Less, Equal, Greater}
 use Rattle.std.specs.Ordering.{eq_by_cmp, is_eq}
 use Rattle.std.specs.Cmp.{tied_itself}
 use Rattle.std.specs.FinMap as map
@@ -10,8 +11,9 @@ use Rattle.page_bytes.specs.declared.ids.PageId.{PageId}
 use Rattle.page_bytes.specs.Order.{space_cmp, page_cmp, is_in}
 use Rattle.page_bytes.specs.Overlay.{overlay, get-overlay}
 use Rattle.page_bytes.specs.Known.{PageMap, PageIds, Spaces, Known, known_of, is_absent, is_unknown}
-use Rattle.page_bytes.specs.Work.{Work, work_over, with_page, without_page, with_space, without_space, first_bytes, zeros}
-use Rattle.page_bytes.specs.Inside.{stays, pages_of, work_of}
+use Rattle.page_bytes.specs.Work.{Work, work_over, with_page, without_page, with_space, without_space, first_bytes, zeros, with_fresh}
+use Rattle.page_bytes.specs.Head.{head_of, next_page, with_next_page}
+use Rattle.page_bytes.specs.Inside.{stays, pages_of, work_of, Owns}
 use Rattle.page_bytes.proofs.Orders.{page_cmp-total, page_cmp-exact, space_cmp-total, space_cmp-exact, is_in-cmp}
 
 never : (b : Bool) → (b && false) ≡ false
@@ -160,3 +162,59 @@ there_is_known k id x is = ap (λ o. not (is_some o) && not (map.contains_key k.
 
 pub first_bytes-there : (k : Known) (id : PageId) (x : List ℕ) → map.get k.pages id ≡ Some x → x ≡ first_bytes k id
 first_bytes-there k id x is = ap (λ o. unwrap_or o zeros) (sym is)
+
+-- a value that is there
+pub some : {X : Type 0} (o : Option X) → is_some o ≡ true → (x : X) × (o ≡ Some x)
+some None is = absurd (true≢false (sym is))
+some (Some x) is = (x, refl)
+
+-- what is there, put in again, changes nothing
+pub insert-same : {X : Type 0} (m : map.FinMap page_cmp X) (k : PageId) (x : X) → map.get m k ≡ Some x → map.insert m k x ≡ m
+insert-same {X} m k x is = map.same_map page_cmp-total page_cmp-exact _ _ (λ q. map.get-insert page_cmp-total m k x q ∙ at (page_cmp q k) q refl)
+  where
+    at : (o : Ordering) (q : PageId) → page_cmp q k ≡ o → cond (is_eq o) (Some x) (map.get m q) ≡ map.get m q
+    at Less q e = refl
+    at Equal q e = sym is ∙ ap (map.get m) (sym (page_cmp-exact q k e))
+    at Greater q e = refl
+
+pub with_page-same : (w : Work) (id : PageId) (x : List ℕ) → map.get w.now.pages id ≡ Some x → with_page w id x ≡ w
+with_page-same w id x is = let same = insert-same w.now.pages id x is in λ i. record { below = w.below; now = record { pages = same i; whole = w.now.whole; freed = w.now.freed } }
+
+-- another page stays
+pub get-beside : {X : Type 0} (m : map.FinMap page_cmp X) (k q : PageId) (x : X) → eq_by_cmp page_cmp q k ≡ false → map.get (map.insert m k x) q ≡ map.get m q
+get-beside m k q x apart = map.get-insert page_cmp-total m k x q ∙ ap (λ e. cond e (Some x) (map.get m q)) apart
+
+-- a page with a number past 0 isn't the head
+pub head_apart : (space : Space) (n : ℕ) → 0 < n → eq_by_cmp page_cmp (head_of space) (record { space = space; number = n }) ≡ false
+head_apart space n positive = at (page_cmp (head_of space) (record { space = space; number = n })) refl
+  where
+    at : (o : Ordering) → page_cmp (head_of space) (record { space = space; number = n }) ≡ o → is_eq o ≡ false
+    at Less e = refl
+    at Equal e = let zero_is : 0 ≡ n = ap (λ (id : PageId). id.number) (page_cmp-exact (head_of space) (record { space = space; number = n }) e) in absurd (omega arith)
+    at Greater e = refl
+
+kept : {X : Type 0} (d b : Option X) (s : Bool) (x : X) → option_or d (cond s b None) ≡ Some x → option_or d b ≡ Some x
+kept None b true x is = is
+kept None b false x is = cc
+kept (Some y) b s x is = is
+
+-- what is there has a draft or is below
+pub there_kept : (b d : PageMap) (g : PageIds) (w : Spaces) (q : PageId) (x : List ℕ) → map.get (pages_of b d g w) q ≡ Some x → option_or (map.get d q) (map.get b q) ≡ Some x
+there_kept b d g w q x is = kept (map.get d q) (map.get b q) (stays g w q) x (sym (get-pages_of b d g w q) ∙ is)
+
+-- a page that has a draft is owned as it is
+pub Owns-drafted : (d b : PageMap) (id : PageId) → map.contains_key d id ≡ true → Owns d b id d
+Owns-drafted d b id has = let there = some (map.get d id) has in (there.0, ap (λ o. option_or o (map.get b id)) there.1, sym (insert-same d id there.0 there.1))
+
+-- a head that is there, owned, a new page of zeros and the head's number raised make a new page
+pub work_of-fresh : (b d : PageMap) (g : PageIds) (w : Spaces) (space : Space) (n : ℕ) (x : List ℕ) → map.get (pages_of b d g w) (head_of space) ≡ Some x → n ≡ next_page x
+    → work_of b (map.insert (map.insert (map.insert d (head_of space) x) (record { space = space; number = n }) zeros) (head_of space) (with_next_page x (n + 1))) g w
+    ≡ with_fresh (work_of b d g w) space
+work_of-fresh b d g w space n x there is =
+    let head = head_of space in let id : PageId = record { space = space; number = n } in let raised = with_next_page x (n + 1) in let all = work_of b d g w in
+    let bytes : x ≡ first_bytes all.now head = first_bytes-there all.now head x there in
+    let number : n ≡ next_page (first_bytes all.now head) = is ∙ ap next_page bytes in
+    work_of-draft b (map.insert (map.insert d head x) id zeros) g w head raised
+    ∙ ap (λ z. with_page z head raised) (work_of-draft b (map.insert d head x) g w id zeros
+      ∙ ap (λ z. with_page z id zeros) (work_of-draft b d g w head x ∙ with_page-same all head x there))
+    ∙ (λ j. with_page (with_page all (record { space = space; number = number j }) zeros) head (with_next_page (bytes j) (number j + 1)))

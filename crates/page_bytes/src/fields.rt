@@ -15,6 +15,7 @@ pub fn read_u8(page: &[u8; 4096], at: usize) -> u8
 }
 
 /// The number of two bytes at a place.
+#[tactic(auto, unfolding(crate::specs::Fields::field))]
 pub fn read_u16(page: &[u8; 4096], at: usize) -> u16
     requires { at + 2 ≤ 4096 }
     ensures { result ≡ field 2 at page.now }
@@ -23,6 +24,7 @@ pub fn read_u16(page: &[u8; 4096], at: usize) -> u16
 }
 
 /// The number of four bytes at a place.
+#[tactic(auto, unfolding(crate::specs::Fields::field))]
 pub fn read_u32(page: &[u8; 4096], at: usize) -> u32
     requires { at + 4 ≤ 4096 }
     ensures { result ≡ field 4 at page.now }
@@ -31,6 +33,7 @@ pub fn read_u32(page: &[u8; 4096], at: usize) -> u32
 }
 
 /// The number of eight bytes at a place.
+#[tactic(auto, unfolding(crate::specs::Fields::field))]
 pub fn read_u64(page: &[u8; 4096], at: usize) -> u64
     requires { at + 8 ≤ 4096 }
     ensures { result ≡ field 8 at page.now }
@@ -63,6 +66,7 @@ impl Draft {
     }
 
     /// Writes the number of two bytes at a place.
+    #[tactic(auto, unfolding(crate::specs::Fields::with_field))]
     pub fn write_u16(&mut self, at: usize, value: u16)
         requires { at + 2 ≤ 4096 }
         ensures { self.new ≡ with_field 2 self.old at value }
@@ -73,6 +77,7 @@ impl Draft {
     }
 
     /// Writes the number of four bytes at a place.
+    #[tactic(auto, unfolding(crate::specs::Fields::with_field))]
     pub fn write_u32(&mut self, at: usize, value: u32)
         requires { at + 4 ≤ 4096 }
         ensures { self.new ≡ with_field 4 self.old at value }
@@ -83,6 +88,7 @@ impl Draft {
     }
 
     /// Writes the number of eight bytes at a place.
+    #[tactic(auto, unfolding(crate::specs::Fields::with_field))]
     pub fn write_u64(&mut self, at: usize, value: u64)
         requires { at + 8 ≤ 4096 }
         ensures { self.new ≡ with_field 8 self.old at value }

@@ -1,5 +1,5 @@
 //! The pages that a call works on, with its changes to them.
-ghost use Rattle.std.specs.Prelude.{◌≡◌, OnOk, OnErr, IfOk, Some, IsSome, ◌<◌};
+ghost use Rattle.std.specs.Prelude.{◌≡◌, OnOk, OnErr, IfOk, IfErr, Some, IsSome, ◌<◌};
 ghost use Rattle.std.specs.FinMap as map;
 ghost use Rattle.std.specs.Borrow.{sem};
 ghost use Rattle.page_bytes.specs.Head.{head_of, next_page, LAST_PAGE};
@@ -154,6 +154,7 @@ impl Workspace {
 
     fn find(&self, id: PageId) -> Result<&[u8; 4096], PageEnd>
         ensures refused { RefusedBy (free_refusal self.now.now id) result }
+        ensures refusal { IfErr result (λ end. free_refusal self.now.now id ≡ Some end) }
         ensures found { IfOk result (λ bytes. map.get self.now.now.pages id ≡ Some bytes.now) }
     {
         if let Some(bytes) = self.page(id) {
@@ -190,7 +191,10 @@ impl Workspace {
         ensures not_last { IfOk result (λ number. number < LAST_PAGE) }
     {
         let head = PageId { space, number: 0 };
-        let bytes = self.find(head)?;
+        let bytes = match self.find(head) {
+            Ok(bytes) => bytes,
+            Err(end) => return Err(end),
+        };
         let number = read_u64(bytes, NEXT_PAGE_AT);
         if read_u8(bytes, 0) != HEAD_KIND {
             return Err(PageEnd::Damaged { page: head });
