@@ -2,3 +2,4 @@ pub mod Orders
 pub mod Tables
 pub mod Works
 pub mod Refusals
+pub mod ListLemmas

@@ -1,5 +1,5 @@
 -- What each change of a workspace's parts does to what the workspace is seen as.
-use Rattle.std.proofs.Common.{◌≡◌, ℕ, ◌+◌, ◌<◌, Bool, true, false, not, ◌&&◌, ◌||◌, List, Option, Some, None, refl, sym, ap, ◌∙◌, cond, is_some, unwrap_or, true≢false, arith}
+use Rattle.std.proofs.Common.{◌≡◌, ℕ, zero, suc, ◌+◌, ◌-◌, ◌<◌, Bool, true, false, not, ◌&&◌, ◌||◌, List, Option, Some, None, refl, sym, ap, ◌∙◌, cond, is_some, unwrap_or, true≢false, arith}
 use Rattle.std.specs.Option.{option_or}
 use Rattle.std.specs.declared.cmp.Ordering.{Ordering}
 use Rattle.std.specs.declared.cmp.Ordering.TheVariants.{Less, Equal, Greater}
@@ -218,3 +218,14 @@ work_of-fresh b d g w space n x there is =
     ∙ ap (λ z. with_page z head raised) (work_of-draft b (map.insert d head x) g w id zeros
       ∙ ap (λ z. with_page z id zeros) (work_of-draft b d g w head x ∙ with_page-same all head x there))
     ∙ (λ j. with_page (with_page all (record { space = space; number = number j }) zeros) head (with_next_page (bytes j) (number j + 1)))
+
+some_there : {X : Type 0} (m : map.FinMap page_cmp X) (k : PageId) (x : X) (n : ℕ) → map.get m k ≡ Some x → map.len m ≡ n → 0 < n
+some_there m k x zero is none =
+    let gone : None ≡ Some x = sym (map.get-empty page_cmp k) ∙ ap (λ e. map.get e k) (sym (map.empty_of_len m none)) ∙ is in absurd (true≢false (sym (ap is_some gone)))
+some_there m k x (suc n) is some = omega arith
+
+-- where a page that is there is taken out there are fewer
+pub len-removed : {X : Type 0} (m : map.FinMap page_cmp X) (k : PageId) (x : X) → map.get m k ≡ Some x → map.len (map.remove m k) < map.len m
+len-removed m k x is =
+    let less : map.len (map.remove m k) ≡ map.len m - 1 = map.len-remove page_cmp-total m k ∙ ap (λ o. cond (is_some o) (map.len m - 1) (map.len m)) is in
+    let positive = some_there m k x (map.len m) is refl in omega arith

@@ -1,9 +1,12 @@
 -- How what a workspace keeps stands for what contracts see: the pages below, the drafts over them, the pages that
 -- are gone, and the spaces that are whole. A draft hides what is gone; what is gone or whole hides what is below.
-use Rattle.std.specs.Prelude.{◌≡◌, ℕ, Bool, not, ◌&&◌, List, Some}
+use Rattle.std.specs.Prelude.{◌≡◌, ℕ, Bool, false, not, ◌&&◌, ◌⊎◌, List, Option, Some, None, if◌then◌else◌}
+use Rattle.std.specs.Ordering.{eq_by_cmp}
 use Rattle.std.specs.Option.{option_or}
 use Rattle.std.specs.FinMap as map
 use Rattle.page_bytes.specs.declared.ids.PageId.{PageId}
+use Rattle.page_bytes.specs.Order.{page_cmp}
+use Rattle.page_bytes.specs.Changes.{IsChange}
 use Rattle.page_bytes.specs.Known.{PageMap, PageIds, Spaces}
 use Rattle.page_bytes.specs.Overlay.{overlay}
 use Rattle.page_bytes.specs.Work.{Work}
@@ -21,3 +24,17 @@ work_of below drafts gone whole = record { below = below; now = record { pages =
 -- the drafts have the page's bytes, its draft's or else those below
 abbrev pub Owns : PageMap → PageMap → PageId → PageMap → Type 0
 Owns drafts below id new = (x : List ℕ) × (option_or (map.get drafts id) (map.get below id) ≡ Some x) × (new ≡ map.insert drafts id x)
+
+-- what is there of a page, by its draft and what is below
+abbrev pub now_of : PageIds → Spaces → PageId → Option (List ℕ) → Option (List ℕ) → Option (List ℕ)
+now_of gone whole id draft page = option_or draft (if stays gone whole id then page else None)
+
+-- the table of changes has the change of this page, and all else stays
+abbrev pub Notes : map.FinMap page_cmp (Option (List ℕ)) → PageId → Option (List ℕ) → Option (List ℕ) → map.FinMap page_cmp (Option (List ℕ)) → Type 0
+Notes old id below now new = (map.get old id ≡ None → IsChange below now (map.get new id)) × ((q : PageId) → eq_by_cmp page_cmp q id ≡ false → map.get new q ≡ map.get old q)
+
+-- how far a listing has come: of each page either the change is noted, or all is left to be looked at
+abbrev pub IsListed : PageMap → PageMap → PageIds → Spaces → PageMap → PageMap → map.FinMap page_cmp (Option (List ℕ)) → Type 0
+IsListed below drafts gone whole below_left drafts_left changes =
+    (q : PageId) → ((map.get below_left q ≡ map.get below q) × (map.get drafts_left q ≡ map.get drafts q) × (map.get changes q ≡ None))
+    ⊎ ((map.get below_left q ≡ None) × (map.get drafts_left q ≡ None) × IsChange (map.get below q) (now_of gone whole q (map.get drafts q) (map.get below q)) (map.get changes q))

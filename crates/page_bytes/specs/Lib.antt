@@ -5,6 +5,7 @@ pub mod Overlay
 pub mod Known
 pub mod Work
 pub mod Refusal
+pub mod Changes
 pub mod Inside
 pub mod Lends
 pub mod LendsBytes

@@ -1,11 +1,14 @@
 //! Tables of pages, each with a value for some pages, and sets of spaces. Contracts see them as finite maps.
-ghost use Rattle.std.specs.Prelude.{◌≡◌, OnOk, OnErr, IfNone, IfSome, IsSome, Some, None, not};
+ghost use Rattle.std.specs.Prelude.{◌≡◌, ◌<◌, OnOk, OnErr, IfOk, IfNone, IfSome, OnSome, IsSome, Some, None, not};
 ghost use Rattle.std.specs.FinMap as map;
 ghost use Rattle.std.specs.Option.{option_copied};
+ghost use Rattle.page_bytes.specs.Changes.{listed};
 
 use crate::end::NoMemory;
 use crate::ids::{PageId, Space};
-use std::alloc::Global;
+use crate::lists::PageChange;
+use crate::page::Page;
+use std::alloc::{AllocError, Global};
 use std::collections::BTreeMap;
 use std::marker::Model;
 
@@ -90,9 +93,42 @@ impl<V: Drop> PageTable<V> {
         ensures none { IfNone result (self.old ≡ map.empty) }
         ensures value { IfSome result (λ e. map.get self.old e.0 ≡ Some e.1) }
         ensures removed { IfSome result (λ e. self.new ≡ map.remove self.old e.0) }
+        ensures fewer { OnSome result (map.len self.new < map.len self.old) }
     {
         self.entries.pop_first()
     }
+}
+
+impl PageTable<Option<Page>> {
+    ghost use Rattle.std.specs.List.Sorted.{IsStrictlySortedBy};
+    ghost use Rattle.page_bytes.specs.Order.{page_cmp};
+    ghost use Rattle.page_bytes.specs.Changes.{ids_of, change_of};
+    ghost use Rattle.page_bytes.specs.declared.ids.PageId.{PageId};
+
+    /// The list of the changes, in the order of pages.
+    pub fn into_list(self, alloc: Global) -> Result<Vec<PageChange>, NoMemory>
+        ensures rising { IfOk result (λ list. IsStrictlySortedBy page_cmp (ids_of list.items)) }
+        ensures listed { IfOk result (λ list. (id : PageId) → change_of list.items id ≡ map.get self id) }
+    {
+        let PageTable { entries } = self;
+        let _count = entries.len();
+        match list_of(alloc, entries) {
+            Ok(list) => Ok(list),
+            Err(_) => Err(NoMemory),
+        }
+    }
+}
+
+fn list_of(
+    alloc: Global,
+    entries: BTreeMap<PageId, Option<Page>>,
+) -> Result<Vec<PageChange>, AllocError>
+    ensures { IfOk result (λ list. list.items ≡ listed entries.entries) }
+{
+    entries
+        .into_iter()
+        .map(|(id, page)| PageChange { id, page })
+        .collect(alloc)
 }
 
 /// Some spaces, in the order of spaces.
