@@ -3,3 +3,4 @@ pub mod Tables
 pub mod Works
 pub mod Refusals
 pub mod ListLemmas
+pub mod Listing

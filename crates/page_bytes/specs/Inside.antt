@@ -33,8 +33,18 @@ now_of gone whole id draft page = option_or draft (if stays gone whole id then p
 abbrev pub Notes : map.FinMap page_cmp (Option (List ℕ)) → PageId → Option (List ℕ) → Option (List ℕ) → map.FinMap page_cmp (Option (List ℕ)) → Type 0
 Notes old id below now new = (map.get old id ≡ None → IsChange below now (map.get new id)) × ((q : PageId) → eq_by_cmp page_cmp q id ≡ false → map.get new q ≡ map.get old q)
 
--- how far a listing has come: of each page either the change is noted, or all is left to be looked at
+-- how far a listing has come with a page: either its change is noted, or all of it is left to be looked at
+abbrev pub IsListedAt : PageMap → PageMap → PageIds → Spaces → PageId → Option (List ℕ) → Option (List ℕ) → Option (Option (List ℕ)) → Type 0
+IsListedAt below drafts gone whole q page draft change =
+    ((page ≡ map.get below q) × (draft ≡ map.get drafts q) × (change ≡ None))
+    ⊎ ((page ≡ None) × (draft ≡ None) × IsChange (map.get below q) (now_of gone whole q (map.get drafts q) (map.get below q)) change)
+
+-- and so with every page
 abbrev pub IsListed : PageMap → PageMap → PageIds → Spaces → PageMap → PageMap → map.FinMap page_cmp (Option (List ℕ)) → Type 0
 IsListed below drafts gone whole below_left drafts_left changes =
-    (q : PageId) → ((map.get below_left q ≡ map.get below q) × (map.get drafts_left q ≡ map.get drafts q) × (map.get changes q ≡ None))
-    ⊎ ((map.get below_left q ≡ None) × (map.get drafts_left q ≡ None) × IsChange (map.get below q) (now_of gone whole q (map.get drafts q) (map.get below q)) (map.get changes q))
+    (q : PageId) → IsListedAt below drafts gone whole q (map.get below_left q) (map.get drafts_left q) (map.get changes q)
+
+-- where nothing is left below, what was listed of any workspace stays listed
+abbrev pub KeepsListed : PageMap → map.FinMap page_cmp (Option (List ℕ)) → PageMap → map.FinMap page_cmp (Option (List ℕ)) → Type 0
+KeepsListed drafts_old old drafts_new new =
+    (below drafts : PageMap) (gone : PageIds) (whole : Spaces) → IsListed below drafts gone whole map.empty drafts_old old → IsListed below drafts gone whole map.empty drafts_new new

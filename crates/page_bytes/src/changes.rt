@@ -2,7 +2,7 @@
 ghost use Rattle.std.specs.Prelude.{◌≡◌, OnOk, IfOk, Some, None};
 ghost use Rattle.std.specs.FinMap as map;
 ghost use Rattle.page_bytes.specs.Changes.{IsChange};
-ghost use Rattle.page_bytes.specs.Inside.{now_of, Notes, IsListed};
+ghost use Rattle.page_bytes.specs.Inside.{now_of, Notes, IsListed, KeepsListed};
 ghost use Rattle.page_bytes.specs.declared.ids.PageId.{PageId};
 
 use crate::end::NoMemory;
@@ -52,7 +52,12 @@ fn note_new(
     alloc: Global,
     changes: &mut PageTable<Option<Page>>,
     left: &mut Left,
-) -> Result<(), NoMemory> {
+) -> Result<(), NoMemory>
+    requires { left.old.below ≡ map.empty }
+    ensures same { OnOk result (left.new.below ≡ map.empty) }
+    ensures all { OnOk result (left.new.drafts ≡ map.empty) }
+    ensures noted { OnOk result (KeepsListed left.old.drafts changes.old left.new.drafts changes.new) }
+{
     while let Some((id, draft)) = left.drafts.take_first() {
         let page = Page::of(alloc, draft)?;
         changes.insert(id, Some(page))?;

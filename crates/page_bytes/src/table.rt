@@ -91,6 +91,7 @@ impl<V: Drop> PageTable<V> {
     /// Takes out the first page with its value, if there is one.
     pub fn take_first(&mut self) -> Option<(PageId, V)>
         ensures none { IfNone result (self.old ≡ map.empty) }
+        ensures still { IfNone result (self.new ≡ self.old) }
         ensures value { IfSome result (λ e. map.get self.old e.0 ≡ Some e.1) }
         ensures removed { IfSome result (λ e. self.new ≡ map.remove self.old e.0) }
         ensures fewer { OnSome result (map.len self.new < map.len self.old) }

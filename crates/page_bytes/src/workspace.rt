@@ -1,16 +1,23 @@
 //! The pages that a call works on, with its changes to them.
-ghost use Rattle.std.specs.Prelude.{◌≡◌, OnOk, OnErr, IfOk, IfErr, Some, IsSome, ◌<◌};
+ghost use Rattle.std.specs.Prelude.{◌≡◌, OnOk, OnErr, IfOk, IfErr, Some, None, IsSome, IsTrue, ◌<◌};
 ghost use Rattle.std.specs.FinMap as map;
 ghost use Rattle.std.specs.Borrow.{sem};
+ghost use Rattle.std.specs.List.Sorted.{IsStrictlySortedBy};
+ghost use Rattle.page_bytes.specs.declared.ids.PageId.{PageId};
+ghost use Rattle.page_bytes.specs.Order.{page_cmp};
+ghost use Rattle.page_bytes.specs.Known.{is_unknown};
+ghost use Rattle.page_bytes.specs.Changes.{ids_of, change_of, IsChange};
 ghost use Rattle.page_bytes.specs.Head.{head_of, next_page, LAST_PAGE};
 ghost use Rattle.page_bytes.specs.Work.{work_over, without_page, with_space, without_space, first_bytes, fresh_page, with_fresh};
 ghost use Rattle.page_bytes.specs.Refusal.{RefusedBy, edit_refusal, free_refusal, fresh_refusal};
 ghost use Rattle.page_bytes.specs.Inside.{Owns};
 ghost use Rattle.std.specs.Option.{option_or};
 
+use crate::changes::{Left, changes};
 use crate::end::{NoMemory, PageEnd};
 use crate::fields::{read_u8, read_u64};
 use crate::ids::{PageId, Space};
+use crate::lists::ChangeList;
 use crate::page::{Draft, Page};
 use crate::pages::{PageSet, Pages};
 use crate::table::{PageTable, SpaceSet};
@@ -206,6 +213,31 @@ impl Workspace {
             return Err(PageEnd::Spent { number });
         }
         Ok(number)
+    }
+
+    /// The pages that aren't what they were below, each with what it is now, in rising order. Of a dropped space none
+    /// is listed, nor is a page of which nothing is known.
+    pub fn finish(self) -> Result<ChangeList, NoMemory>
+        ensures rising { IfOk result (λ list. IsStrictlySortedBy page_cmp (ids_of list)) }
+        ensures listed { IfOk result (λ list. (id : PageId) → IsChange (map.get self.below id) (map.get self.now.pages id) (change_of list id)) }
+        ensures unknown { IfOk result (λ list. (id : PageId) → IsTrue (is_unknown self.now id) → change_of list id ≡ None) }
+    {
+        let Workspace {
+            alloc,
+            below,
+            drafts,
+            gone,
+            whole,
+        } = self;
+        let left = Left {
+            below,
+            drafts,
+            gone,
+            whole,
+        };
+        let found = changes(alloc, left)?;
+        let items = found.into_list(alloc)?;
+        Ok(ChangeList::of(items))
     }
 }
 
