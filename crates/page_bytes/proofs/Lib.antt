@@ -4,3 +4,4 @@ pub mod Works
 pub mod Refusals
 pub mod ListLemmas
 pub mod Listing
+pub mod Sharing

@@ -29,7 +29,7 @@ get-taken : {X : Type 0} (m : map.FinMap page_cmp X) (k q : PageId) (e : Bool) �
 get-taken m k q e is = map.get-remove page_cmp-total m k q ∙ ap (λ b. cond b None (map.get m q)) is
 
 -- a page is the one at hand or another one
-either : {P : Type 0} (k q : PageId) → (q ≡ k → eq_by_cmp page_cmp q k ≡ true → P) → (eq_by_cmp page_cmp q k ≡ false → P) → P
+pub either : {P : Type 0} (k q : PageId) → (q ≡ k → eq_by_cmp page_cmp q k ≡ true → P) → (eq_by_cmp page_cmp q k ≡ false → P) → P
 either {P} k q same other = at (page_cmp q k) refl
   where
     at : (o : Ordering) → page_cmp q k ≡ o → P

@@ -61,8 +61,8 @@ nothing_absent pages q =
     ∙ ap (λ b. not (map.contains_key pages q) && b) (no_key page_cmp q)
     ∙ never (not (map.contains_key pages q))
 
--- equal at each page, they are one map
-same_pages : (m n : PageMap) → ((q : PageId) → map.get m q ≡ map.get n q) → m ≡ n
+-- equal at each page, two maps are one
+pub same_pages : (m n : PageMap) → ((q : PageId) → map.get m q ≡ map.get n q) → m ≡ n
 same_pages = map.same_map page_cmp-total page_cmp-exact
 
 -- a new workspace has what is below, and nothing is absent

@@ -6,7 +6,8 @@ use Rattle.page_bytes.specs.declared.ids.Space.{Space}
 use Rattle.page_bytes.specs.declared.ids.PageId.{PageId}
 use Rattle.page_bytes.specs.Order.{is_in}
 use Rattle.page_bytes.specs.Head.{head_of, next_page, with_next_page}
-use Rattle.page_bytes.specs.Known.{PageMap, Known, page_map_code, known_code, known_of}
+use Rattle.page_bytes.specs.Overlay.{overlay}
+use Rattle.page_bytes.specs.Known.{PageMap, Known, page_map_code, known_code, known_of, is_absent}
 
 pub record Work : Type 0 where
   pub below : PageMap
@@ -41,6 +42,13 @@ without_space w space = record {
     whole = map.remove w.now.whole space;
     freed = map.retain_keys w.now.freed (λ id. not (is_in space id));
   };
+}
+
+-- more pages are below, and there, each where nothing was known of it
+abbrev pub with_pages : Work → PageMap → Work
+with_pages w more = record {
+  below = overlay w.below more;
+  now = record (w.now) { pages = overlay w.now.pages (map.retain_keys more (λ id. not (is_absent w.now id))) };
 }
 
 -- the bytes that an edit begins with: the page's, or zeros where it isn't there

@@ -100,6 +100,43 @@ impl<V: Drop> PageTable<V> {
     }
 }
 
+impl PageTable<Page> {
+    ghost use Rattle.page_bytes.specs.Overlay.{overlay};
+    ghost use Rattle.page_bytes.specs.declared.ids.PageId.{PageId};
+
+    /// Puts in each page that isn't there yet.
+    pub fn add(&mut self, more: PageTable<Page>) -> Result<(), NoMemory>
+        ensures ok { OnOk result (self.new ≡ overlay self.old more) }
+        ensures err { OnErr result (self.new ≡ self.old) }
+    {
+        let mut more = more;
+        more.leave_those_of(self);
+        if self.share_all(&more).is_err() {
+            self.leave_those_of(&more);
+            return Err(NoMemory);
+        }
+        Ok(())
+    }
+
+    /// Takes out the pages that the other table has.
+    fn leave_those_of(&mut self, other: &PageTable<Page>)
+        ensures { self.new ≡ map.retain_keys self.old (λ id. not (map.contains_key other.now id)) }
+    {
+        self.entries.retain(|id, _| !other.has(*id));
+    }
+
+    /// Puts in all pages of the other table. After an error some of them may be there.
+    fn share_all(&mut self, more: &PageTable<Page>) -> Result<(), NoMemory>
+        ensures ok { OnOk result (self.new ≡ overlay more.now self.old) }
+        ensures err { OnErr result ((q : PageId) → map.get more.now q ≡ None → map.get self.new q ≡ map.get self.old q) }
+    {
+        for (id, page) in &more.entries {
+            self.insert(*id, page.copy()?)?;
+        }
+        Ok(())
+    }
+}
+
 impl PageTable<Option<Page>> {
     ghost use Rattle.std.specs.List.Sorted.{IsStrictlySortedBy};
     ghost use Rattle.page_bytes.specs.Order.{page_cmp};

@@ -8,7 +8,7 @@ ghost use Rattle.page_bytes.specs.Order.{page_cmp};
 ghost use Rattle.page_bytes.specs.Known.{is_unknown};
 ghost use Rattle.page_bytes.specs.Changes.{ids_of, change_of, IsChange};
 ghost use Rattle.page_bytes.specs.Head.{head_of, next_page, LAST_PAGE};
-ghost use Rattle.page_bytes.specs.Work.{work_over, without_page, with_space, without_space, first_bytes, fresh_page, with_fresh};
+ghost use Rattle.page_bytes.specs.Work.{work_over, without_page, with_space, without_space, first_bytes, fresh_page, with_fresh, with_pages};
 ghost use Rattle.page_bytes.specs.Refusal.{RefusedBy, edit_refusal, free_refusal, fresh_refusal};
 ghost use Rattle.page_bytes.specs.Inside.{Owns};
 ghost use Rattle.std.specs.Option.{option_or};
@@ -117,6 +117,14 @@ impl Workspace {
         self.drafts.leave(space);
         self.gone.leave(space);
         self.whole.remove(space);
+    }
+
+    /// Adds pages to those below. A page that is there, or known as absent, stays as it is.
+    pub fn add(&mut self, more: PageSet) -> Result<(), NoMemory>
+        ensures ok { OnOk result (self.new ≡ with_pages self.old more) }
+        ensures err { OnErr result (self.new ≡ self.old) }
+    {
+        self.below.add(more.into_table())
     }
 
     /// The draft of a page to write to, which begins with the page's bytes, or with zeros where the page is absent.
