@@ -5,3 +5,4 @@ pub mod Refusals
 pub mod ListLemmas
 pub mod Listing
 pub mod Sharing
+pub mod FieldLaws

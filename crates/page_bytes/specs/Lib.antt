@@ -1,5 +1,6 @@
 pub mod Order
 pub mod Fields
+pub mod PageNumber
 pub mod Head
 pub mod Overlay
 pub mod Known

@@ -1,4 +1,6 @@
 //! The names of documents' parts: spaces, pages, places in pages, nodes and schema nodes.
+ghost use Rattle.std.specs.Prelude.{◌≡◌, ◌^◌, ◌<◌};
+ghost use Rattle.page_bytes.specs.PageNumber.{page_number};
 
 /// The number of a node of a document, from 1; 0 is no node.
 #[derive(Clone, Copy, Debug, PartialEq, Eq, PartialOrd, Ord)]
@@ -28,6 +30,28 @@ pub struct Addr {
     pub layer: u64,
     pub page: u8,
     pub at: u16,
+}
+
+impl Addr {
+    /// The place `at` of the page with this number.
+    pub fn of(number: u64, at: u16) -> Addr
+        ensures number { page_number result ≡ number }
+        ensures at { result.at ≡ at }
+    {
+        Addr {
+            layer: number / 256,
+            page: (number % 256) as u8,
+            at,
+        }
+    }
+
+    /// The number of the page.
+    pub fn number(&self) -> u64
+        requires { page_number self.now < 2 ^ 64 }
+        ensures { result ≡ page_number self.now }
+    {
+        self.layer * 256 + self.page as u64
+    }
 }
 
 /// What a catalogue has under a document's name: the space of its pages, and whether they keep it in clusters.
