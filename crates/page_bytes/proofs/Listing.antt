@@ -54,9 +54,10 @@ module _ (b d : PageMap) (g : PageIds) (w : Spaces) where
       → Notes old id (Some page) (now_of g w id (map.get d' id) (Some page)) new → IsListed b d g w (map.remove b' id) (map.remove d' id) new
   IsListed-below b' d' old new id page listed there notes q = either id q
       (λ same tied. inr (
-          get-taken b' id q true tied, get-taken d' id q true tied,
-          subst (λ k. IsChange (map.get b k) (now_of g w k (map.get d k) (map.get b k)) (map.get new k)) (sym same) here
-        ))
+        get-taken b' id q true tied,
+        get-taken d' id q true tied,
+        subst (λ k. IsChange (map.get b k) (now_of g w k (map.get d k) (map.get b k)) (map.get new k)) (sym same) here,
+      ))
       (λ apart. moved q (sym (get-taken b' id q false apart)) (sym (get-taken d' id q false apart)) (sym (notes.1 q apart)) (listed q))
     where
       here : IsChange (map.get b id) (now_of g w id (map.get d id) (map.get b id)) (map.get new id)
@@ -70,10 +71,11 @@ module _ (b d : PageMap) (g : PageIds) (w : Spaces) where
       → IsListed b d g w map.empty (map.remove d' id) (map.insert old id (Some draft))
   IsListed-new d' old id draft listed there q = either id q
       (λ same tied. inr (
-          map.get-empty page_cmp q, get-taken d' id q true tied,
-          subst (λ k. IsChange (map.get b k) (now_of g w k (map.get d k) (map.get b k)) (map.get (map.insert old id (Some draft)) k)) (sym same)
-          (subst (IsChange (map.get b id) (now_of g w id (map.get d id) (map.get b id))) (sym (get-inserted old id (Some draft))) here)
-        ))
+        map.get-empty page_cmp q,
+        get-taken d' id q true tied,
+        subst (λ k. IsChange (map.get b k) (now_of g w k (map.get d k) (map.get b k)) (map.get (map.insert old id (Some draft)) k)) (sym same)
+            (subst (IsChange (map.get b id) (now_of g w id (map.get d id) (map.get b id))) (sym (get-inserted old id (Some draft))) here),
+      ))
       (λ apart. moved q refl (sym (get-taken d' id q false apart)) (sym (get-beside old id q (Some draft) apart)) (listed q))
     where
       here : IsChange (map.get b id) (now_of g w id (map.get d id) (map.get b id)) (Some (Some draft))
@@ -82,12 +84,11 @@ module _ (b d : PageMap) (g : PageIds) (w : Spaces) where
           (λ done. some_none draft (sym there ∙ done.1))
           (listed id)
 
-
   -- at the end each change is noted
   pub IsListed-end : (changes : Changes) → IsListed b d g w map.empty map.empty changes → (q : PageId) → IsChange (map.get b q) (now_of g w q (map.get d q) (map.get b q)) (map.get changes q)
   IsListed-end changes listed q = ⊎_elim
       (λ left. subst (λ (t : Option (List ℕ) × (Option (List ℕ) × Option (Option (List ℕ)))). IsChange t.0 (now_of g w q t.1.0 t.0) t.1.1)
-        (λ j. ((sym (map.get-empty page_cmp q) ∙ left.0) j, ((sym (map.get-empty page_cmp q) ∙ left.1) j, sym left.2 j))) (nothing (stays g w q) None))
+      (λ j. ((sym (map.get-empty page_cmp q) ∙ left.0) j, ((sym (map.get-empty page_cmp q) ∙ left.1) j, sym left.2 j))) (nothing (stays g w q) None))
       (λ done. done.2)
       (listed q)
 

@@ -71,7 +71,7 @@ either_way (Some x) m = refl
 pub overlay-left : (s m : PageMap) → overlay (map.retain_keys m (λ id. not (map.contains_key s id))) s ≡ overlay s m
 overlay-left s m = same_pages _ _
     (λ q. get-overlay page_cmp-total (map.retain_keys m (λ id. not (map.contains_key s id))) s q
-        ∙ ap (λ o. option_or o (map.get s q)) (get-kept m (λ id. not (map.contains_key s id)) q) ∙ either_way (map.get s q) (map.get m q) ∙ sym (get-overlay page_cmp-total s m q))
+    ∙ ap (λ o. option_or o (map.get s q)) (get-kept m (λ id. not (map.contains_key s id)) q) ∙ either_way (map.get s q) (map.get m q) ∙ sym (get-overlay page_cmp-total s m q))
 
 back : {X : Type 0} (s m now : Option X) → (cond (not (is_some s)) m None ≡ None → now ≡ s) → cond (not (is_some (cond (not (is_some s)) m None))) now None ≡ s
 back None None now same = same refl
@@ -84,8 +84,8 @@ pub taken_back : (s m now : PageMap) → ((q : PageId) → map.get (map.retain_k
 taken_back s m now same =
     let new = map.retain_keys m (λ id. not (map.contains_key s id)) in
     same_pages _ _ (λ q. get-kept now (λ id. not (map.contains_key new id)) q
-      ∙ ap (λ o. cond (not (is_some o)) (map.get now q) None) (get-kept m (λ id. not (map.contains_key s id)) q)
-      ∙ back (map.get s q) (map.get m q) (map.get now q) (λ none. same q (get-kept m (λ id. not (map.contains_key s id)) q ∙ none)))
+    ∙ ap (λ o. cond (not (is_some o)) (map.get now q) None) (get-kept m (λ id. not (map.contains_key s id)) q)
+    ∙ back (map.get s q) (map.get m q) (map.get now q) (λ none. same q (get-kept m (λ id. not (map.contains_key s id)) q ∙ none)))
 
 -- what a clause says of the answer at hand
 pub on_err_is : {T E P : Type 0} (r : Result T E) → is_err r ≡ true → OnErr r P → P
@@ -111,9 +111,9 @@ work_of-added b d m g w =
     let old = work_of b d g w in let new = λ (id : PageId). not (is_absent old.now id) in
     let same = same_pages (pages_of (overlay b m) d g w) (overlay old.now.pages (map.retain_keys m new))
     (λ q. get-pages_of (overlay b m) d g w q
-        ∙ ap (λ o. option_or (map.get d q) (cond (stays g w q) o None)) (get-overlay page_cmp-total b m q)
-        ∙ added (map.get d q) (map.get b q) (map.get m q) (map.contains_key w q.space) (map.contains_key g q)
-        ∙ ap (λ o. option_or o (cond (not (not (is_some o) && (map.contains_key w q.space || map.contains_key g q))) (map.get m q) None)) (sym (get-pages_of b d g w q))
-        ∙ ap (option_or (map.get old.now.pages q)) (sym (get-kept m new q))
-        ∙ sym (get-overlay page_cmp-total old.now.pages (map.retain_keys m new) q)) in
+    ∙ ap (λ o. option_or (map.get d q) (cond (stays g w q) o None)) (get-overlay page_cmp-total b m q)
+    ∙ added (map.get d q) (map.get b q) (map.get m q) (map.contains_key w q.space) (map.contains_key g q)
+    ∙ ap (λ o. option_or o (cond (not (not (is_some o) && (map.contains_key w q.space || map.contains_key g q))) (map.get m q) None)) (sym (get-pages_of b d g w q))
+    ∙ ap (option_or (map.get old.now.pages q)) (sym (get-kept m new q))
+    ∙ sym (get-overlay page_cmp-total old.now.pages (map.retain_keys m new) q)) in
     λ i. record { below = overlay b m; now = record { pages = same i; whole = w; freed = g } }

@@ -37,17 +37,17 @@ module _ {K V : Type 0} {R : K → K → Ordering} (o : IsTotalOrder R) where
     pub map_of-insert : (m n : BTreeMap K V) (k : K) (v : V) → Updates R m n k (Some v) → map_of {R = R} n ≡ map.insert (map_of m) k v
     map_of-insert m n k v u = map.same_map o exact _ _
         (λ q. get-map_of n q ∙ u.0 q ∙ ap (λ b. cond b (Some v) (tree.get R m q)) ((eq_by_cmp_equiv o).symm k q)
-            ∙ ap (cond (eq_by_cmp R q k) (Some v)) (sym (get-map_of m q)) ∙ sym (map.get-insert o (map_of m) k v q))
+        ∙ ap (cond (eq_by_cmp R q k) (Some v)) (sym (get-map_of m q)) ∙ sym (map.get-insert o (map_of m) k v q))
 
     -- and so is a removal
     pub map_of-remove : (m n : BTreeMap K V) (k : K) → Updates R m n k None → map_of {R = R} n ≡ map.remove (map_of m) k
     map_of-remove m n k u = map.same_map o exact _ _
         (λ q. get-map_of n q ∙ u.0 q ∙ ap (λ b. cond b None (tree.get R m q)) ((eq_by_cmp_equiv o).symm k q)
-            ∙ ap (cond (eq_by_cmp R q k) None) (sym (get-map_of m q)) ∙ sym (map.get-remove o (map_of m) k q))
+        ∙ ap (cond (eq_by_cmp R q k) None) (sym (get-map_of m q)) ∙ sym (map.get-remove o (map_of m) k q))
 
     -- to keep the entries whose keys pass a test is to keep those keys of the map
     pub map_of-filter : (m n : BTreeMap K V) (p : K → Bool) → n.entries ≡ filter (λ e. p e.0) m.entries → map_of {R = R} n ≡ map.retain_keys (map_of m) p
     map_of-filter m n p is = map.same_map o exact _ _
         (λ q. get-map_of n q ∙ ap (lookup (is_at (R q))) is
-            ∙ lookup-filter-keys (is_at (R q)) p (p q) (λ k t. ap p (sym (exact q k (equal _ t)))) m.entries
-            ∙ ap (λ x. cond (p q) x None) (sym (get-map_of m q)) ∙ sym (map.get-retain_keys (map_of m) p q (λ x t. ap p (sym (exact q x t)))))
+        ∙ lookup-filter-keys (is_at (R q)) p (p q) (λ k t. ap p (sym (exact q k (equal _ t)))) m.entries
+        ∙ ap (λ x. cond (p q) x None) (sym (get-map_of m q)) ∙ sym (map.get-retain_keys (map_of m) p q (λ x t. ap p (sym (exact q x t)))))

@@ -79,10 +79,10 @@ pub work_of-draft : (b d : PageMap) (g : PageIds) (w : Spaces) (id : PageId) (x 
 work_of-draft b d g w id x =
     let same = same_pages (pages_of b (map.insert d id x) g w) (map.insert (pages_of b d g w) id x)
     (λ q. get-pages_of b (map.insert d id x) g w q
-        ∙ ap (λ o. option_or o (cond (stays g w q) (map.get b q) None)) (map.get-insert page_cmp-total d id x q)
-        ∙ drafted (eq_by_cmp page_cmp q id) x (map.get d q) (cond (stays g w q) (map.get b q) None)
-        ∙ ap (cond (eq_by_cmp page_cmp q id) (Some x)) (sym (get-pages_of b d g w q))
-        ∙ sym (map.get-insert page_cmp-total (pages_of b d g w) id x q)) in
+    ∙ ap (λ o. option_or o (cond (stays g w q) (map.get b q) None)) (map.get-insert page_cmp-total d id x q)
+    ∙ drafted (eq_by_cmp page_cmp q id) x (map.get d q) (cond (stays g w q) (map.get b q) None)
+    ∙ ap (cond (eq_by_cmp page_cmp q id) (Some x)) (sym (get-pages_of b d g w q))
+    ∙ sym (map.get-insert page_cmp-total (pages_of b d g w) id x q)) in
     λ i. record { below = b; now = record { pages = same i; whole = w; freed = g } }
 
 -- to free a page is to drop its draft and to note that it is gone
@@ -91,11 +91,11 @@ pub work_of-gone : (b d : PageMap) (g : PageIds) (w : Spaces) (id : PageId)
 work_of-gone b d g w id =
     let same = same_pages (pages_of b (map.remove d id) (map.insert g id tt) w) (map.remove (pages_of b d g w) id)
     (λ q. get-pages_of b (map.remove d id) (map.insert g id tt) w q
-        ∙ ap (λ o. option_or o (cond (stays (map.insert g id tt) w q) (map.get b q) None)) (map.get-remove page_cmp-total d id q)
-        ∙ ap (λ o. option_or (cond (eq_by_cmp page_cmp q id) None (map.get d q)) (cond (not (map.contains_key w q.space) && not (is_some o)) (map.get b q) None)) (map.get-insert page_cmp-total g id tt q)
-        ∙ freed (eq_by_cmp page_cmp q id) (map.contains_key w q.space) (map.get d q) (map.get g q) (map.get b q)
-        ∙ ap (cond (eq_by_cmp page_cmp q id) None) (sym (get-pages_of b d g w q))
-        ∙ sym (map.get-remove page_cmp-total (pages_of b d g w) id q)) in
+    ∙ ap (λ o. option_or o (cond (stays (map.insert g id tt) w q) (map.get b q) None)) (map.get-remove page_cmp-total d id q)
+    ∙ ap (λ o. option_or (cond (eq_by_cmp page_cmp q id) None (map.get d q)) (cond (not (map.contains_key w q.space) && not (is_some o)) (map.get b q) None)) (map.get-insert page_cmp-total g id tt q)
+    ∙ freed (eq_by_cmp page_cmp q id) (map.contains_key w q.space) (map.get d q) (map.get g q) (map.get b q)
+    ∙ ap (cond (eq_by_cmp page_cmp q id) None) (sym (get-pages_of b d g w q))
+    ∙ sym (map.get-remove page_cmp-total (pages_of b d g w) id q)) in
     λ i. record { below = b; now = record { pages = same i; whole = w; freed = map.insert g id tt } }
 
 -- to open a space is to drop its drafts and to note that it is whole
@@ -105,12 +105,12 @@ work_of-opened b d g w s =
     let out = λ (q : PageId). not (is_in s q) in
     let same = same_pages (pages_of b (map.retain_keys d out) g (map.insert w s tt)) (map.retain_keys (pages_of b d g w) out)
     (λ q. get-pages_of b (map.retain_keys d out) g (map.insert w s tt) q
-        ∙ ap (λ o. option_or o (cond (stays g (map.insert w s tt) q) (map.get b q) None)) (get-kept d out q)
-        ∙ ap (λ o. option_or (cond (out q) (map.get d q) None) (cond (not (is_some o) && not (map.contains_key g q)) (map.get b q) None)) (map.get-insert space_cmp-total w s tt q.space)
-        ∙ ap (λ e. option_or (cond (out q) (map.get d q) None) (cond (not (is_some (cond e (Some tt) (map.get w q.space))) && not (map.contains_key g q)) (map.get b q) None)) (is_in-cmp s q)
-        ∙ opened (is_in s q) (map.contains_key g q) (map.get d q) (map.get w q.space) (map.get b q)
-        ∙ ap (λ o. cond (out q) o None) (sym (get-pages_of b d g w q))
-        ∙ sym (get-kept (pages_of b d g w) out q)) in
+    ∙ ap (λ o. option_or o (cond (stays g (map.insert w s tt) q) (map.get b q) None)) (get-kept d out q)
+    ∙ ap (λ o. option_or (cond (out q) (map.get d q) None) (cond (not (is_some o) && not (map.contains_key g q)) (map.get b q) None)) (map.get-insert space_cmp-total w s tt q.space)
+    ∙ ap (λ e. option_or (cond (out q) (map.get d q) None) (cond (not (is_some (cond e (Some tt) (map.get w q.space))) && not (map.contains_key g q)) (map.get b q) None)) (is_in-cmp s q)
+    ∙ opened (is_in s q) (map.contains_key g q) (map.get d q) (map.get w q.space) (map.get b q)
+    ∙ ap (λ o. cond (out q) o None) (sym (get-pages_of b d g w q))
+    ∙ sym (get-kept (pages_of b d g w) out q)) in
     λ i. record { below = b; now = record { pages = same i; whole = map.insert w s tt; freed = g } }
 
 -- to drop a space is to drop all that is kept of it
@@ -120,14 +120,14 @@ work_of-dropped b d g w s =
     let out = λ (q : PageId). not (is_in s q) in
     let same = same_pages (pages_of (map.retain_keys b out) (map.retain_keys d out) (map.retain_keys g out) (map.remove w s)) (map.retain_keys (pages_of b d g w) out)
     (λ q. get-pages_of (map.retain_keys b out) (map.retain_keys d out) (map.retain_keys g out) (map.remove w s) q
-        ∙ ap (λ o. option_or o (cond (stays (map.retain_keys g out) (map.remove w s) q) (map.get (map.retain_keys b out) q) None)) (get-kept d out q)
-        ∙ ap (λ o. option_or (cond (out q) (map.get d q) None) (cond (stays (map.retain_keys g out) (map.remove w s) q) o None)) (get-kept b out q)
-        ∙ ap (λ o. option_or (cond (out q) (map.get d q) None) (cond (not (map.contains_key (map.remove w s) q.space) && not (is_some o)) (cond (out q) (map.get b q) None) None)) (get-kept g out q)
-        ∙ ap (λ o. option_or (cond (out q) (map.get d q) None) (cond (not (is_some o) && not (is_some (cond (out q) (map.get g q) None))) (cond (out q) (map.get b q) None) None)) (map.get-remove space_cmp-total w s q.space)
-        ∙ ap (λ e. option_or (cond (out q) (map.get d q) None) (cond (not (is_some (cond e None (map.get w q.space))) && not (is_some (cond (out q) (map.get g q) None))) (cond (out q) (map.get b q) None) None)) (is_in-cmp s q)
-        ∙ dropped (is_in s q) (map.get d q) (map.get g q) (map.get w q.space) (map.get b q)
-        ∙ ap (λ o. cond (out q) o None) (sym (get-pages_of b d g w q))
-        ∙ sym (get-kept (pages_of b d g w) out q)) in
+    ∙ ap (λ o. option_or o (cond (stays (map.retain_keys g out) (map.remove w s) q) (map.get (map.retain_keys b out) q) None)) (get-kept d out q)
+    ∙ ap (λ o. option_or (cond (out q) (map.get d q) None) (cond (stays (map.retain_keys g out) (map.remove w s) q) o None)) (get-kept b out q)
+    ∙ ap (λ o. option_or (cond (out q) (map.get d q) None) (cond (not (map.contains_key (map.remove w s) q.space) && not (is_some o)) (cond (out q) (map.get b q) None) None)) (get-kept g out q)
+    ∙ ap (λ o. option_or (cond (out q) (map.get d q) None) (cond (not (is_some o) && not (is_some (cond (out q) (map.get g q) None))) (cond (out q) (map.get b q) None) None)) (map.get-remove space_cmp-total w s q.space)
+    ∙ ap (λ e. option_or (cond (out q) (map.get d q) None) (cond (not (is_some (cond e None (map.get w q.space))) && not (is_some (cond (out q) (map.get g q) None))) (cond (out q) (map.get b q) None) None)) (is_in-cmp s q)
+    ∙ dropped (is_in s q) (map.get d q) (map.get g q) (map.get w q.space) (map.get b q)
+    ∙ ap (λ o. cond (out q) o None) (sym (get-pages_of b d g w q))
+    ∙ sym (get-kept (pages_of b d g w) out q)) in
     λ i. record { below = map.retain_keys b out; now = record { pages = same i; whole = map.remove w s; freed = map.retain_keys g out } }
 
 -- a page with a draft has the draft's bytes
@@ -154,7 +154,7 @@ get-inserted m k x = map.get-insert page_cmp-total m k x k ∙ ap (λ o. cond (i
 pub insert-inserted : {X : Type 0} (m : map.FinMap page_cmp X) (k : PageId) (x y : X) → map.insert (map.insert m k x) k y ≡ map.insert m k y
 insert-inserted m k x y = map.same_map page_cmp-total page_cmp-exact _ _
     (λ q. map.get-insert page_cmp-total (map.insert m k x) k y q ∙ ap (cond (eq_by_cmp page_cmp q k) (Some y)) (map.get-insert page_cmp-total m k x q)
-        ∙ same_twice (eq_by_cmp page_cmp q k) x y (map.get m q) ∙ sym (map.get-insert page_cmp-total m k y q))
+    ∙ same_twice (eq_by_cmp page_cmp q k) x y (map.get m q) ∙ sym (map.get-insert page_cmp-total m k y q))
 
 -- a page that is there is not unknown, and what it begins with is what it is
 pub there_is_known : (k : Known) (id : PageId) (x : List ℕ) → map.get k.pages id ≡ Some x → is_unknown k id ≡ false
@@ -216,7 +216,7 @@ work_of-fresh b d g w space n x there is =
     let number : n ≡ next_page (first_bytes all.now head) = is ∙ ap next_page bytes in
     work_of-draft b (map.insert (map.insert d head x) id zeros) g w head raised
     ∙ ap (λ z. with_page z head raised) (work_of-draft b (map.insert d head x) g w id zeros
-      ∙ ap (λ z. with_page z id zeros) (work_of-draft b d g w head x ∙ with_page-same all head x there))
+    ∙ ap (λ z. with_page z id zeros) (work_of-draft b d g w head x ∙ with_page-same all head x there))
     ∙ (λ j. with_page (with_page all (record { space = space; number = number j }) zeros) head (with_next_page (bytes j) (number j + 1)))
 
 some_there : {X : Type 0} (m : map.FinMap page_cmp X) (k : PageId) (x : X) (n : ℕ) → map.get m k ≡ Some x → map.len m ≡ n → 0 < n

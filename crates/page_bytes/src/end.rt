@@ -5,12 +5,12 @@ use crate::ids::PageId;
 use thiserror::Error;
 
 /// There was no memory.
-#[derive(Debug, Drop, Error)]
+#[derive(Clone, Copy, Debug, PartialEq, Eq, Error)]
 #[error("no memory")]
 pub struct NoMemory;
 
 /// Why a page call gave no value.
-#[derive(Debug, Drop, Error)]
+#[derive(Clone, Copy, Debug, PartialEq, Eq, Error)]
 pub enum PageEnd {
     /// The call asked for a page that is neither in the set nor known as absent.
     #[error("{page:?} is needed")]

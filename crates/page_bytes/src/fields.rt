@@ -62,8 +62,7 @@ pub fn field_laws()
     ensures count { (n x : ℕ) → length (big_bytes n x) ≡ n }
     ensures byte { (page : List ℕ) (at : ℕ) → slice_index (bytes_at at 1 page) 0 ≡ slice_index page at }
     ensures same_length { (page : List ℕ) (to : ℕ) (bytes : List ℕ) → to + length bytes ≤ length page → length (with_bytes page to bytes) ≡ length page }
-{
-}
+{}
 
 fn fill_range(page: &mut [u8], at: usize, len: usize, value: u8)
     requires { at + len ≤ length page.old }

@@ -13,11 +13,11 @@ returns-in-Some c =
     let now = now_of left.gone left.whole id c.args.draft (Some page) in
     let is : now ≡ Some draft = ap (λ o. now_of left.gone left.whole id o (Some page)) c.in-Some.is in
     let differs : Some page ≢ now = λ same.
-      let equal : page ≡ draft = ap (λ o. unwrap_or o page) (same ∙ is) in
-      true≢false (sym (c.if-eq.ensures ∙ ap (pointwise nat_eq c.bytes.result.now) (c.bytes-in-Some.ensures ∙ equal ∙ sym c.bytes.ensures) ∙ nat_list_eq_equiv.refl c.bytes.result.now)) in
+    let equal : page ≡ draft = ap (λ o. unwrap_or o page) (same ∙ is) in
+    true≢false (sym (c.if-eq.ensures ∙ ap (pointwise nat_eq c.bytes.result.now) (c.bytes-in-Some.ensures ∙ equal ∙ sym c.bytes.ensures) ∙ nat_list_eq_equiv.refl c.bytes.result.now)) in
     on_ok_weaker c.insert.result
     (λ put. subst (Notes c.args.changes.now id (Some page) now) (sym put)
-      (Notes-inserted c.args.changes.now id (Some page) now (Some c.in_ok-page.page) (ap Some c.in_ok-page.ensures ∙ sym is) differs))
+    (Notes-inserted c.args.changes.now id (Some page) now (Some c.in_ok-page.page) (ap Some c.in_ok-page.ensures ∙ sym is) differs))
     c.insert.ensures.ok
 
 pub returns-then-has : goal.returns-then-has
@@ -28,7 +28,7 @@ returns-then-has c =
     let is : now ≡ None = ap (λ o. now_of left.gone left.whole id o (Some page)) c.in_default.is ∙ ap (λ s. cond s (Some page) None) out in
     on_ok_weaker c.insert-then-has.result
     (λ put. subst (Notes c.args.changes.now id (Some page) now) (sym put)
-      (Notes-inserted c.args.changes.now id (Some page) now None (sym is) (λ same. some_none page (same ∙ is))))
+    (Notes-inserted c.args.changes.now id (Some page) now None (sym is) (λ same. some_none page (same ∙ is))))
     c.insert-then-has.ensures.ok
 
 pub returns-then-has-2 : goal.returns-then-has-2
@@ -41,5 +41,5 @@ returns-then-has-2 c =
     let is : now ≡ None = ap (λ o. now_of left.gone left.whole id o (Some page)) c.in_default.is ∙ ap (λ s. cond s (Some page) None) out in
     on_ok_weaker c.insert-then-has-2.result
     (λ put. subst (Notes c.args.changes.now id (Some page) now) (sym put)
-      (Notes-inserted c.args.changes.now id (Some page) now None (sym is) (λ same. some_none page (same ∙ is))))
+    (Notes-inserted c.args.changes.now id (Some page) now None (sym is) (λ same. some_none page (same ∙ is))))
     c.insert-then-has-2.ensures.ok

@@ -14,9 +14,10 @@ loop-id-preserved c =
     let notes : Notes c.loop-id.changes id (Some page) (now_of l.gone l.whole id (map.get at.drafts id) (Some page)) new =
     subst (λ (t : PageIds × (Spaces × Option (List ℕ))). Notes c.loop-id.changes id (Some page) (now_of t.0 t.1.0 id t.1.1 (Some page)) new)
     (λ j. (known.0 j, (known.1 j, c.take-draft.ensures.value j))) c.in_ok-note.ensures in (
-      known.0, known.1,
+      known.0,
+      known.1,
       subst (λ (t : PageMap × PageMap). IsListed l.below l.drafts l.gone l.whole t.0 t.1 new) (λ j. (sym c.in-Some.ensures.removed j, sym c.take-draft.ensures.removed j))
-      (IsListed-below l.below l.drafts l.gone l.whole at.below at.drafts c.loop-id.changes new id page known.2 c.in-Some.ensures.value notes),
+          (IsListed-below l.below l.drafts l.gone l.whole at.below at.drafts c.loop-id.changes new id page known.2 c.in-Some.ensures.value notes),
     )
 
 pub returns-clause-all : goal.returns-clause-all

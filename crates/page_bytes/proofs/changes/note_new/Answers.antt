@@ -12,7 +12,7 @@ loop-id-preserved c =
     let put = c.in_ok-insert.ensures.ok ∙ ap (λ page. map.insert c.loop-id.changes id (Some page)) c.in_ok-page.ensures in (
       known.0,
       λ b d g w listed. subst (λ (t : PageMap × map.FinMap page_cmp (Option (List ℕ))). IsListed b d g w map.empty t.0 t.1) (λ j. (sym c.in-Some.ensures.removed j, sym put j))
-      (IsListed-new b d g w at.drafts c.loop-id.changes id draft (known.1 b d g w listed) c.in-Some.ensures.value),
+          (IsListed-new b d g w at.drafts c.loop-id.changes id draft (known.1 b d g w listed) c.in-Some.ensures.value),
     )
 
 pub returns-clause-all : goal.returns-clause-all

@@ -12,18 +12,20 @@ pub loop-id-init : goal.loop-id-init
 loop-id-init c =
     let tree = c.more.inside.entries in let more = c.args.more.now in let gives = c.into_iter-id-iterator.ensures.into_iter_gives in
     let seen : (q : PageId) → map.get more q ≡ map.get (map.from_entries {R = page_cmp} tree.entries) q = λ q. sym (ap (λ m. map.get m q) c.more.view_is) in (
-      tt, tt,
+      tt,
+      tt,
       IsShared-start c.args.self.now more c.into_iter-id-iterator.result
-      (λ q. seen q ∙ map.get-from_entries page_cmp-total tree.entries q ∙ ap (find page_cmp q) (sym gives.0))
-      (subst (AllFound more) (sym gives.0) (AllFound-from more tree.entries (λ k d within. seen _ ∙ get-map_of page_cmp-total tree _ ∙ gives.6 k d within))),
+          (λ q. seen q ∙ map.get-from_entries page_cmp-total tree.entries q ∙ ap (find page_cmp q) (sym gives.0))
+          (subst (AllFound more) (sym gives.0) (AllFound-from more tree.entries (λ k d within. seen _ ∙ get-map_of page_cmp-total tree _ ∙ gives.6 k d within))),
     )
 
 pub loop-id-preserved : goal.loop-id-preserved
 loop-id-preserved c =
     let old = c.args.self.now in let more = c.args.more.now in let id = c.in-Some.id.now in let page = c.in-Some.page.now in (
-      tt, tt,
+      tt,
+      tt,
       IsShared-next old more c.loop-id.self c.insert.new.self id page c.next.new.self (subst (IsShared old more c.loop-id.self) c.in-Some.ensures.steps c.loop-id.invariant.2)
-      (c.in_ok-insert.ensures.ok ∙ ap (map.insert c.loop-id.self id) c.in_ok-copy.ensures),
+          (c.in_ok-insert.ensures.ok ∙ ap (map.insert c.loop-id.self id) c.in_ok-copy.ensures),
     )
 
 pub returns-clause-ok : goal.returns-clause-ok

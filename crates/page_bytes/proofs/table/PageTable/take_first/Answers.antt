@@ -32,6 +32,6 @@ returns g c =
       value = IfSome_then c.pop_first.result c.pop_first.ensures.value (λ e is. ap (λ m. map.get m e.0) (sym c.self.view_is) ∙ get-map_of page_cmp-total tree e.0 ∙ is);
       removed = IfSome_then c.pop_first.result c.pop_first.ensures.updates (λ e is. map_of-remove page_cmp-total page_cmp-exact tree c.pop_first.new.self e.0 is ∙ ap (λ m. map.remove m e.0) c.self.view_is);
       fewer = fewer_left c.args.self.now (map_of c.pop_first.new.self) c.pop_first.result
-        (IfSome_then c.pop_first.result c.pop_first.ensures.value (λ e is. ap (λ m. map.get m e.0) (sym c.self.view_is) ∙ get-map_of page_cmp-total tree e.0 ∙ is))
-        (IfSome_then c.pop_first.result c.pop_first.ensures.updates (λ e is. map_of-remove page_cmp-total page_cmp-exact tree c.pop_first.new.self e.0 is ∙ ap (λ m. map.remove m e.0) c.self.view_is));
+          (IfSome_then c.pop_first.result c.pop_first.ensures.value (λ e is. ap (λ m. map.get m e.0) (sym c.self.view_is) ∙ get-map_of page_cmp-total tree e.0 ∙ is))
+          (IfSome_then c.pop_first.result c.pop_first.ensures.updates (λ e is. map_of-remove page_cmp-total page_cmp-exact tree c.pop_first.new.self e.0 is ∙ ap (λ m. map.remove m e.0) c.self.view_is));
     }

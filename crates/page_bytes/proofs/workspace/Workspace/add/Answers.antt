@@ -10,8 +10,8 @@ pub returns : goal.returns
 returns c =
     let i = c.self.inside in record {
       ok = on_ok_weaker c.add.result
-        (λ is. ap (λ b. work_of b i.drafts i.gone i.whole) (is ∙ ap (overlay i.below) c.into_table.ensures)
+          (λ is. ap (λ b. work_of b i.drafts i.gone i.whole) (is ∙ ap (overlay i.below) c.into_table.ensures)
           ∙ work_of-added i.below i.drafts c.args.more i.gone i.whole ∙ ap (λ w. with_pages w c.args.more) c.self.view_is)
-        c.add.ensures.ok;
+          c.add.ensures.ok;
       err = on_err_weaker c.add.result (λ is. ap (λ b. work_of b i.drafts i.gone i.whole) is ∙ c.self.view_is) c.add.ensures.err;
     }

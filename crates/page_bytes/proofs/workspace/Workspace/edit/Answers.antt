@@ -28,9 +28,12 @@ pub returns : goal.returns
 returns c =
     let i = c.self.inside in let id = c.args.id in let draft = c.in_ok-draft.draft in
     let was : Some c.lend-2.result.now ≡ Some draft = sym c.lend-2.ensures.value ∙ ap (λ d. map.get d id) c.in_ok-insert.ensures.ok ∙ get-inserted i.drafts id draft in (
-      (λ j. inl (c.lend-2.result.ghost_name, λ w. (ap (λ d. work_of i.below (map.insert d id w) i.gone i.whole) c.in_ok-insert.ensures.ok
-        ∙ ap (λ d. work_of i.below d i.gone i.whole) (insert-inserted i.drafts id draft w)
-        ∙ work_of-draft i.below i.drafts i.gone i.whole id w ∙ ap (λ z. with_page z id w) c.self.view_is) j)),
+      (λ j. inl (
+        c.lend-2.result.ghost_name,
+        λ w. (ap (λ d. work_of i.below (map.insert d id w) i.gone i.whole) c.in_ok-insert.ensures.ok
+            ∙ ap (λ d. work_of i.below d i.gone i.whole) (insert-inserted i.drafts id draft w)
+            ∙ work_of-draft i.below i.drafts i.gone i.whole id w ∙ ap (λ z. with_page z id w) c.self.view_is) j,
+      )),
       record {
         writes_back = tt;
         refused = RefusedBy-ok (edit_refusal c.args.self.now.now id) draft c.lend-2.result (subst (λ (w : Work). RefusedBy {X = List ℕ} (edit_refusal w.now id) (Ok draft)) c.self.view_is c.in_ok-draft.ensures.refused);

@@ -13,7 +13,7 @@ returns-clause-listed c id =
     let i = c.self.inside in
     subst (λ (w : Work). IsChange (map.get w.below id) (map.get w.now.pages id) (change_of c.of.result id)) c.self.view_is
     (subst (IsChange (map.get i.below id) (map.get (pages_of i.below i.drafts i.gone i.whole) id)) (sym (ap (λ list. change_of list id) c.of.ensures ∙ c.in_ok-items.ensures.listed id))
-      (IsChange-pages_of i.below i.drafts i.gone i.whole id (map.get c.in_ok-found.found id) (c.in_ok-found.ensures id)))
+    (IsChange-pages_of i.below i.drafts i.gone i.whole id (map.get c.in_ok-found.found id) (c.in_ok-found.ensures id)))
 
 pub returns-clause-unknown : goal.returns-clause-unknown
 returns-clause-unknown c id unknown =
@@ -21,5 +21,5 @@ returns-clause-unknown c id unknown =
     let same = subst (λ (w : Work). is_unknown w.now id ≡ true → map.get w.below id ≡ map.get w.now.pages id) c.self.view_is (unknown_below i.below i.drafts i.gone i.whole id) unknown in
     IsChange-same (map.get c.args.self.below id) (map.get c.args.self.now.pages id) (change_of c.of.result id) same
     (subst (λ (w : Work). IsChange (map.get w.below id) (map.get w.now.pages id) (change_of c.of.result id)) c.self.view_is
-      (subst (IsChange (map.get i.below id) (map.get (pages_of i.below i.drafts i.gone i.whole) id)) (sym (ap (λ list. change_of list id) c.of.ensures ∙ c.in_ok-items.ensures.listed id))
-        (IsChange-pages_of i.below i.drafts i.gone i.whole id (map.get c.in_ok-found.found id) (c.in_ok-found.ensures id))))
+    (subst (IsChange (map.get i.below id) (map.get (pages_of i.below i.drafts i.gone i.whole) id)) (sym (ap (λ list. change_of list id) c.of.ensures ∙ c.in_ok-items.ensures.listed id))
+    (IsChange-pages_of i.below i.drafts i.gone i.whole id (map.get c.in_ok-found.found id) (c.in_ok-found.ensures id))))
