@@ -14,6 +14,8 @@ mod measure;
 mod names;
 mod node;
 mod place;
+#[cfg(test)]
+mod tests;
 mod text_lines;
 
 pub use laws::{
