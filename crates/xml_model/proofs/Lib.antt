@@ -3,5 +3,6 @@ pub mod Lines
 pub mod Nodes
 pub mod ReadAgain
 pub mod ReadIsValid
+mod Rows
 pub mod TextAgain
 pub mod TextLines

@@ -1,5 +1,5 @@
--- What is read from PYX is valid.
-use Rattle.std.proofs.Common.{◌≡◌, ℕ, ◌+◌, ◌<◌, ◌≤◌, Bool, true, false, cond, IsTrue, List, [], ◌∷◌, ◌++◌, length, Option, None, Some, Result, Ok, Err, refl, subst, arith}
+-- What is read from PYX is valid, and its nodes and bytes are counted.
+use Rattle.std.proofs.Common.{◌≡◌, ℕ, ◌+◌, ◌<◌, ◌≤◌, Bool, true, false, cond, IsTrue, List, [], ◌∷◌, ◌++◌, length, Option, None, Some, Result, Ok, Err, refl, sym, subst, true≢false, arith}
 use Rattle.std.specs.Str.{bytes_eq}
 use Rattle.std.proofs.lemmas.Bool.{or_parts, or_from, and_left, not-false, leb-false, ltb-false}
 use Rattle.std.proofs.lemmas.List.{length-append}
@@ -12,6 +12,7 @@ use Rattle.xml_model.specs.declared.node.Node.{Node, Element', Text, Pi}
 use Rattle.xml_model.specs.declared.node.Node.TheVariants.{Element, outs-Element', outs-Text, outs-Pi}
 use Rattle.xml_model.specs.Names.{is_name}
 use Rattle.xml_model.specs.Trees.{count_of, count_step, bytes_of, bytes_step, depth_of, depth_step, has_attribute, value_bytes}
+use Rattle.xml_model.specs.Counts.{open_nodes, open_bytes, IsCounted}
 use Rattle.xml_model.specs.Document.{IsValid, AllFormed, IsApart, AreAttributes, is_text}
 use Rattle.xml_model.specs.Pyx.{Line, Form, no_form, begins, ends, attribute, characters, instruction, form, OpenElement, Reading, start, refusal, taken, next_line, closed, step, stepped, after, ended, ended_at, ◌>>=◌, read, closes, has_already, texts_added, with_characters, with_attribute}
 use Rattle.xml_model.proofs.Lines.{bytes_eq_sym}
@@ -29,24 +30,16 @@ abbrev AreOpen : List OpenElement → Type 0
 AreOpen [] = Unit {0}
 AreOpen (e ∷ outer) = IsOpen (length outer) e × AreOpen outer
 
--- the nodes and the bytes of values in open elements, without those that stand in the innermost
-abbrev open_nodes : List OpenElement → ℕ
-open_nodes [] = 0
-open_nodes (e ∷ outer) = 1 + length e.attrs + count_of e.before + open_nodes outer
-
-abbrev open_bytes : List OpenElement → ℕ
-open_bytes [] = 0
-open_bytes (e ∷ outer) = value_bytes e.attrs + bytes_of e.before + open_bytes outer
-
 -- what holds of each reading, by its parts
-record IsSound (stack : List OpenElement) (here : List Node) (nodes bytes : ℕ) : Type 0 where
+record IsSound (stack : List OpenElement) (here : List Node) (tag : Bool) (nodes bytes : ℕ) : Type 0 where
+  pub inside : tag ≡ true → 0 < length stack
   pub are_open : AreOpen stack
   pub formed : AllFormed here
   pub apart : IsApart false here
   pub deep : depth_of here + length stack ≤ DEPTH_MAX
-  pub counted : count_of here + open_nodes stack ≤ nodes
+  pub counted : nodes ≡ count_of here + open_nodes stack
   pub few : nodes ≤ NODES_MAX
-  pub measured : bytes_of here + open_bytes stack ≤ bytes
+  pub measured : bytes ≡ bytes_of here + open_bytes stack
   pub short : bytes ≤ TEXT_BYTES_MAX
 
 -- a test that was passed
@@ -130,8 +123,8 @@ characters_grow c cs (x ∷ more) = characters_more false c cs x more
 -- what is taken keeps it
 
 -- a beginning of an element
-begins_kept : (name : List ℕ) (r : Reading) → refusal (begins name) r ≡ None → IsSound r.stack r.here r.nodes r.bytes
-    → IsSound (record { name = name; attrs = []; before = r.here } ∷ r.stack) [] (r.nodes + 1) r.bytes
+begins_kept : (name : List ℕ) (r : Reading) → refusal (begins name) r ≡ None → IsSound r.stack r.here r.in_tag r.nodes r.bytes
+    → IsSound (record { name = name; attrs = []; before = r.here } ∷ r.stack) [] true (r.nodes + 1) r.bytes
 begins_kept name r e s =
     let p = passed _ _ _ e in
     let q = passed _ _ _ p.1 in
@@ -139,6 +132,7 @@ begins_kept name r e s =
     let room : length r.stack < DEPTH_MAX = leb-false _ _ q.0 in
     let few : r.nodes + 1 ≤ NODES_MAX = ltb-false _ _ t.0 in
     record {
+      inside = λ h. omega arith;
       are_open = (record { named = not-false _ p.0; attributes = tt; formed = s.formed; apart = s.apart; deep = s.deep }, s.are_open);
       formed = tt;
       apart = tt;
@@ -150,13 +144,14 @@ begins_kept name r e s =
     }
 
 -- an end of an element
-ends_kept : (name : List ℕ) (stack : List OpenElement) (r : Reading) → closes name stack ≡ true → IsSound stack r.here r.nodes r.bytes
-    → IsSound (closed stack r).stack (closed stack r).here (closed stack r).nodes (closed stack r).bytes
+ends_kept : (name : List ℕ) (stack : List OpenElement) (r : Reading) → closes name stack ≡ true → IsSound stack r.here r.in_tag r.nodes r.bytes
+    → IsSound (closed stack r).stack (closed stack r).here (closed stack r).in_tag (closed stack r).nodes (closed stack r).bytes
 ends_kept name [] r e s = cc
 ends_kept name (o ∷ outer) r e s =
     let is = s.are_open.0 in
     let x = Element o.name o.attrs r.here in
     record {
+      inside = λ h. absurd (true≢false (sym h));
       are_open = s.are_open.1;
       formed = AllFormed-push o.before x is.formed (formed-Element o.name o.attrs r.here is.named is.attributes s.apart s.formed);
       apart = IsApart-push false o.before x is.apart refl;
@@ -169,12 +164,12 @@ ends_kept name (o ∷ outer) r e s =
 
 -- an attribute
 attribute_kept : (a : Attr) (stack : List OpenElement) (here : List Node) (n b : ℕ) → IsTrue (is_name a.name) → has_already a.name stack ≡ false → n + 1 ≤ NODES_MAX → b + length a.value ≤ TEXT_BYTES_MAX
-    → IsSound stack here n b → IsSound (with_attribute a stack) here (n + 1) (b + length a.value)
-attribute_kept a [] here n b named new few short s =
-    record { are_open = tt; formed = s.formed; apart = s.apart; deep = s.deep; counted = omega (arith, s.counted); few = few; measured = omega (arith, s.measured); short = short }
+    → IsSound stack here true n b → IsSound (with_attribute a stack) here true (n + 1) (b + length a.value)
+attribute_kept a [] here n b named new few short s = absurd (omega (arith, s.inside refl))
 attribute_kept a (o ∷ outer) here n b named new few short s =
     let is = s.are_open.0 in
     record {
+      inside = λ h. omega arith;
       are_open = (record { named = is.named; attributes = AreAttributes-push o.attrs a is.attributes named new; formed = is.formed; apart = is.apart; deep = is.deep }, s.are_open.1);
       formed = s.formed;
       apart = s.apart;
@@ -186,13 +181,14 @@ attribute_kept a (o ∷ outer) here n b named new few short s =
     }
 
 -- characters
-characters_kept : (value : List ℕ) (stack : List OpenElement) (here : List Node) (n b : ℕ) → n + texts_added value here ≤ NODES_MAX → b + length value ≤ TEXT_BYTES_MAX
-    → IsSound stack here n b → IsSound stack (with_characters value here) (n + texts_added value here) (b + length value)
-characters_kept [] stack here n b few short s =
-    record { are_open = s.are_open; formed = s.formed; apart = s.apart; deep = s.deep; counted = omega (arith, s.counted); few = few; measured = omega (arith, s.measured); short = short }
-characters_kept (c ∷ cs) stack here n b few short s =
+characters_kept : (value : List ℕ) (stack : List OpenElement) (here : List Node) (tag : Bool) (n b : ℕ) → n + texts_added value here ≤ NODES_MAX → b + length value ≤ TEXT_BYTES_MAX
+    → IsSound stack here tag n b → IsSound stack (with_characters value here) false (n + texts_added value here) (b + length value)
+characters_kept [] stack here tag n b few short s =
+    record { inside = λ h. absurd (true≢false (sym h)); are_open = s.are_open; formed = s.formed; apart = s.apart; deep = s.deep; counted = omega (arith, s.counted); few = few; measured = omega (arith, s.measured); short = short }
+characters_kept (c ∷ cs) stack here tag n b few short s =
     let g = characters_grow c cs here in
     record {
+      inside = λ h. absurd (true≢false (sym h));
       are_open = s.are_open;
       formed = g.formed s.formed;
       apart = g.apart s.apart;
@@ -204,11 +200,12 @@ characters_kept (c ∷ cs) stack here n b few short s =
     }
 
 -- an instruction
-instruction_kept : (target value : List ℕ) (stack : List OpenElement) (here : List Node) (n b : ℕ) → IsTrue (is_name target) → n + 1 ≤ NODES_MAX → b + length value ≤ TEXT_BYTES_MAX
-    → IsSound stack here n b → IsSound stack (here ++ Pi target value ∷ []) (n + 1) (b + length value)
-instruction_kept target value stack here n b named few short s =
+instruction_kept : (target value : List ℕ) (stack : List OpenElement) (here : List Node) (tag : Bool) (n b : ℕ) → IsTrue (is_name target) → n + 1 ≤ NODES_MAX → b + length value ≤ TEXT_BYTES_MAX
+    → IsSound stack here tag n b → IsSound stack (here ++ Pi target value ∷ []) false (n + 1) (b + length value)
+instruction_kept target value stack here tag n b named few short s =
     let x = Pi target value in
     record {
+      inside = λ h. absurd (true≢false (sym h));
       are_open = s.are_open;
       formed = AllFormed-push here x s.formed named;
       apart = IsApart-push false here x s.apart refl;
@@ -220,7 +217,7 @@ instruction_kept target value stack here n b named few short s =
     }
 
 -- any line that is not refused
-kept : (f : Form) (r : Reading) → refusal f r ≡ None → IsSound r.stack r.here r.nodes r.bytes → IsSound (taken f r).stack (taken f r).here (taken f r).nodes (taken f r).bytes
+kept : (f : Form) (r : Reading) → refusal f r ≡ None → IsSound r.stack r.here r.in_tag r.nodes r.bytes → IsSound (taken f r).stack (taken f r).here (taken f r).in_tag (taken f r).nodes (taken f r).bytes
 kept no_form r e s = cc
 kept (begins name) r e s = begins_kept name r e s
 kept (ends name) r e s =
@@ -233,16 +230,20 @@ kept (attribute name value) r e s =
     let t = passed _ _ _ q.1 in
     let u = passed _ _ _ t.1 in
     let v = passed _ _ _ u.1 in
-    attribute_kept (record { name = name; value = value }) r.stack r.here r.nodes r.bytes (not-false _ p.0) t.0 (ltb-false _ _ u.0) (ltb-false _ _ v.0) s
+    let a : Attr = record { name = name; value = value } in
+    let tag : r.in_tag ≡ true = not-false _ q.0 in
+    let sound : IsSound r.stack r.here true r.nodes r.bytes = subst (λ t. IsSound r.stack r.here t r.nodes r.bytes) tag s in
+    subst (λ t. IsSound (with_attribute a r.stack) r.here t (r.nodes + 1) (r.bytes + length value)) (sym tag)
+    (attribute_kept a r.stack r.here r.nodes r.bytes (not-false _ p.0) t.0 (ltb-false _ _ u.0) (ltb-false _ _ v.0) sound)
 kept (characters value) r e s =
     let p = passed _ _ _ e in
     let q = passed _ _ _ p.1 in
-    characters_kept value r.stack r.here r.nodes r.bytes (ltb-false _ _ p.0) (ltb-false _ _ q.0) s
+    characters_kept value r.stack r.here r.in_tag r.nodes r.bytes (ltb-false _ _ p.0) (ltb-false _ _ q.0) s
 kept (instruction target value) r e s =
     let p = passed _ _ _ e in
     let q = passed _ _ _ p.1 in
     let t = passed _ _ _ q.1 in
-    instruction_kept target value r.stack r.here r.nodes r.bytes (not-false _ p.0) (ltb-false _ _ q.0) (ltb-false _ _ t.0) s
+    instruction_kept target value r.stack r.here r.in_tag r.nodes r.bytes (not-false _ p.0) (ltb-false _ _ q.0) (ltb-false _ _ t.0) s
 
 -- what stands behind an answer
 
@@ -252,33 +253,39 @@ ok_parts (Ok a) f b e = (a, refl, e)
 ok_parts (Err x) f b e = cc
 
 -- a line that was read keeps it
-stepped_kept : (o : Option PyxRefusal) (f : Form) (r then : Reading) → refusal f r ≡ o → stepped o f r ≡ Ok then → IsSound r.stack r.here r.nodes r.bytes → IsSound then.stack then.here then.nodes then.bytes
+stepped_kept : (o : Option PyxRefusal) (f : Form) (r then : Reading) → refusal f r ≡ o → stepped o f r ≡ Ok then → IsSound r.stack r.here r.in_tag r.nodes r.bytes → IsSound then.stack then.here then.in_tag then.nodes then.bytes
 stepped_kept (Some why) f r then e g s = cc
 stepped_kept None f r then e g s =
     let same : record (taken f r) { lines = next_line r.lines } ≡ then = cc in
-    subst (λ q. IsSound q.stack q.here q.nodes q.bytes) same (kept f r e s)
+    subst (λ q. IsSound q.stack q.here q.in_tag q.nodes q.bytes) same (kept f r e s)
 
 -- all lines that were read keep it
-after_kept : (lines : List Line) (r then : Reading) → after lines r ≡ Ok then → IsSound r.stack r.here r.nodes r.bytes → IsSound then.stack then.here then.nodes then.bytes
-after_kept [] r then e s = let same : r ≡ then = cc in subst (λ q. IsSound q.stack q.here q.nodes q.bytes) same s
+after_kept : (lines : List Line) (r then : Reading) → after lines r ≡ Ok then → IsSound r.stack r.here r.in_tag r.nodes r.bytes → IsSound then.stack then.here then.in_tag then.nodes then.bytes
+after_kept [] r then e s = let same : r ≡ then = cc in subst (λ q. IsSound q.stack q.here q.in_tag q.nodes q.bytes) same s
 after_kept (line ∷ lines) r then e s =
     let p = ok_parts (step line r) (after lines) then e in
     after_kept lines p.0 then p.2 (stepped_kept (refusal (form line) r) (form line) r p.0 refl p.1 s)
 
 -- at the end no element is open
 
-ended_valid : (stack : List OpenElement) (r : Reading) (doc : Doc) → ended_at stack r ≡ Ok doc → IsSound stack r.here r.nodes r.bytes → IsValid doc
+ended_valid : (stack : List OpenElement) (r : Reading) (doc : Doc) → ended_at stack r ≡ Ok doc → IsSound stack r.here r.in_tag r.nodes r.bytes → IsValid doc
 ended_valid [] r doc e s =
     let same : record { kids = r.here } ≡ doc = cc in
     subst IsValid same (record { formed = s.formed; apart = s.apart; depth = omega (arith, s.deep); nodes = omega (arith, s.counted, s.few); text = omega (arith, s.measured, s.short) })
 ended_valid (f ∷ outer) r doc e s = cc
 
 -- it holds at the start
-start_sound : IsSound [] [] 0 0
-start_sound = record { are_open = tt; formed = tt; apart = tt; deep = omega arith; counted = omega arith; few = omega arith; measured = omega arith; short = omega arith }
+start_sound : IsSound [] [] false 0 0
+start_sound = record { inside = λ h. absurd (true≢false (sym h)); are_open = tt; formed = tt; apart = tt; deep = omega arith; counted = omega arith; few = omega arith; measured = omega arith; short = omega arith }
 
 -- what lines are read as is a valid document
 pub read_is_valid : (lines : List Line) (doc : Doc) → read lines ≡ Ok doc → IsValid doc
 read_is_valid lines doc e =
     let p = ok_parts (after lines start) ended doc e in
     ended_valid p.0.stack p.0 doc p.2 (after_kept lines start p.0 p.1 start_sound)
+
+-- what has been read is counted
+pub read_is_counted : (lines : List Line) (r : Reading) → after lines start ≡ Ok r → IsCounted r
+read_is_counted lines r e =
+    let s = after_kept lines start r e start_sound in
+    record { nodes = s.counted; bytes = s.measured }

@@ -1,5 +1,8 @@
 -- Which documents are valid (XQuery 1.0 and XPath 2.0 Data Model, sections 2.4 and 6, and this profile).
-use Rattle.std.specs.Prelude.{◌≡◌, ℕ, ◌<◌, ◌≤◌, Bool, true, false, ◌&&◌, IsTrue, List, [], ◌∷◌, length}
+-- The bytes are those of `Str`: that they are UTF-8 is kept by that type, and not by these definitions.
+-- Nodes are matched here by their data type, since no fold gives a type: in `Element' name attrs s row` the
+-- row is the list of children as data, and `s` its shape.
+use Rattle.std.specs.Prelude.{◌≡◌, ◌<◌, ◌≤◌, Bool, true, false, ◌&&◌, IsTrue, List, [], ◌∷◌, length}
 use Rattle.xml_model.specs.declared.limits.TheConstants.{DEPTH_MAX, NODES_MAX, TEXT_BYTES_MAX}
 use Rattle.xml_model.specs.declared.node.Attr.{Attr}
 use Rattle.xml_model.specs.declared.node.Doc.{Doc}

@@ -4,3 +4,4 @@ pub mod Document
 pub mod Place
 pub mod Values
 pub mod Pyx
+pub mod Counts

@@ -1,5 +1,5 @@
 -- What trees have in them. Each is a fold: one node, with what its children have in their place.
-use Rattle.std.specs.Prelude.{ℕ, ◌+◌, max, List, [], ◌∷◌, ◌++◌, map, length, sum_by, Bool, true, false, ◌||◌}
+use Rattle.std.specs.Prelude.{ℕ, ◌+◌, max, List, [], ◌∷◌, ◌++◌, map, length, Bool, false, ◌||◌}
 use Rattle.std.specs.Str.{bytes_eq}
 use Rattle.xml_model.specs.declared.node.Attr.{Attr}
 use Rattle.xml_model.specs.declared.node.Node.{Node}

@@ -1,7 +1,10 @@
+// These functions do nothing. The contract of each is a law, proved over the definitions alone.
+
 ghost use Rattle.std.specs.Prelude.{◌≡◌, List, ℕ};
 ghost use Rattle.xml_model.specs.declared.node.Doc.{Doc};
+ghost use Rattle.xml_model.specs.Counts.{IsCounted};
 ghost use Rattle.xml_model.specs.Document.{IsValid};
-ghost use Rattle.xml_model.specs.Pyx.{read, pyx, Line, split_lines, text_of};
+ghost use Rattle.xml_model.specs.Pyx.{read, pyx, Line, Reading, after, start, split_lines, text_of};
 
 /// What is written as PYX is read again.
 pub fn pyx_is_read_again()
@@ -11,6 +14,11 @@ pub fn pyx_is_read_again()
 /// What is read from PYX is valid.
 pub fn what_is_read_is_valid()
     ensures { (lines : List Line) (doc : Doc) → read lines ≡ Ok doc → IsValid doc }
+{}
+
+/// After any lines the counters, which the limits are compared with, are what has been read.
+pub fn what_is_counted()
+    ensures { (lines : List Line) (r : Reading) → after lines start ≡ Ok r → IsCounted r }
 {}
 
 /// The lines of a valid document's canonical text are its lines.

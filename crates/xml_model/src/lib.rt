@@ -3,7 +3,7 @@
 //! Contracts see a `Node`, an `Attr` and a `Doc` as plain values. The definitions that every crate
 //! above rests on stand here: which documents are valid (`Document`), places and their order
 //! (`Place`), and how lines of PYX spell a document (`Pyx`), with the laws between them
-//! (`pyx_is_read_again`, `what_is_read_is_valid`).
+//! (`pyx_is_read_again`, `what_is_read_is_valid`, `what_is_counted`).
 //! Nothing is refused here: a call ends with its answer or, where it takes memory, `NoMemory`.
 #![tactic(auto)]
 
@@ -14,9 +14,13 @@ mod measure;
 mod names;
 mod node;
 mod place;
+#[cfg(test)]
+mod tests;
 mod text_lines;
 
-pub use laws::{canonical_text_is_read_again, pyx_is_read_again, what_is_read_is_valid};
+pub use laws::{
+    canonical_text_is_read_again, pyx_is_read_again, what_is_counted, what_is_read_is_valid,
+};
 pub use limits::{DEPTH_MAX, NAME_BYTES_MAX, NODES_MAX, TEXT_BYTES_MAX};
 pub use names::is_name;
 pub use node::{Attr, AttrList, Doc, Measure, Node, NodeList, RefusedLine};

@@ -18,6 +18,7 @@ fn cut_line(text: &str) -> Option<(&str, &str)>
 }
 
 /// The first line of a text that is not empty. A last newline ends the last line and begins none.
+/// Not by `str::lines`, since this keeps a carriage return and tells whether a newline ends the line.
 pub fn first_line(text: &str) -> Option<FirstLine<'_>>
     ensures { MatchOption result (text.now ≡ []) (λ f. IsFirstLine text.now f.line.now f.is_ended f.rest.now) }
 {

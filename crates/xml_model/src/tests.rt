@@ -1,0 +1,189 @@
+use crate::{
+    Attr, AttrList, Doc, Measure, Node, NodeList, Place, PlaceStep, first_line, is_name,
+    place_order,
+};
+use std::alloc::Global;
+use std::cmp::Ordering;
+use std::test::Fail;
+use xq_ast::{Items, NoMemory, Sequence, Str};
+
+#[test]
+fn a_name_is_told_by_its_bytes(rt: HostRuntime) -> Result<(), Fail> {
+    let alloc = rt.alloc();
+    let longest = "a".repeat(alloc, 255)?;
+    let too_long = "a".repeat(alloc, 256)?;
+    let too_many_bytes = "é".repeat(alloc, 128)?;
+    for (text, want) in [
+        ("", false),
+        (longest.as_str(), true),
+        (too_long.as_str(), false),
+        (too_many_bytes.as_str(), false),
+        ("a", true),
+        ("Z", true),
+        ("_", true),
+        (":", true),
+        ("é", true),
+        ("1", false),
+        ("-a", false),
+        (".a", false),
+        ("@a", false),
+        ("[a", false),
+        ("a1-.b:_é", true),
+        ("a b", false),
+        ("a/b", false),
+        ("a\n", false),
+    ] {
+        assert_eq!(rt; is_name(text), want, "of {text}");
+    }
+    Ok(())
+}
+
+fn attribute(alloc: Global, name: &str, value: &str) -> Result<Attr, NoMemory> {
+    Ok(Attr {
+        name: Str::of(alloc, name)?,
+        value: Str::of(alloc, value)?,
+    })
+}
+
+fn text(alloc: Global, value: &str) -> Result<Node, NoMemory> {
+    Ok(Node::Text {
+        value: Str::of(alloc, value)?,
+    })
+}
+
+fn instruction(alloc: Global, target: &str, value: &str) -> Result<Node, NoMemory> {
+    Ok(Node::Pi {
+        target: Str::of(alloc, target)?,
+        value: Str::of(alloc, value)?,
+    })
+}
+
+/// An element named `e`.
+fn element(alloc: Global, attrs: AttrList, kids: NodeList) -> Result<Node, NoMemory> {
+    Ok(Node::Element {
+        name: Str::of(alloc, "e")?,
+        attrs,
+        kids,
+    })
+}
+
+/// `<e x="1" y="22"><e>tt</e><?p vvv?></e><?q?>zzzz`
+fn every_kind(alloc: Global) -> Result<Doc, NoMemory> {
+    let mut inside: NodeList = Items::new(alloc);
+    inside.push(text(alloc, "tt")?)?;
+    let mut kids: NodeList = Items::new(alloc);
+    kids.push(element(alloc, Sequence::new(alloc), inside)?)?;
+    kids.push(instruction(alloc, "p", "vvv")?)?;
+    let mut attrs = Sequence::new(alloc);
+    attrs.push(attribute(alloc, "x", "1")?)?;
+    attrs.push(attribute(alloc, "y", "22")?)?;
+    let mut top: NodeList = Items::new(alloc);
+    top.push(element(alloc, attrs, kids)?)?;
+    top.push(instruction(alloc, "q", "")?)?;
+    top.push(text(alloc, "zzzz")?)?;
+    Ok(Doc { kids: top })
+}
+
+#[test]
+fn attributes_count_and_the_document_does_not(rt: HostRuntime) -> Result<(), Fail> {
+    let alloc = rt.alloc();
+    let empty = Doc {
+        kids: Items::new(alloc),
+    };
+    assert_eq!(rt;
+        empty.measure(),
+        Measure {
+            depth: 0,
+            nodes: 0,
+            bytes: 0
+        }
+    );
+    let doc = every_kind(alloc)?;
+    assert_eq!(rt;
+        doc.measure(),
+        Measure {
+            depth: 2,
+            nodes: 8,
+            bytes: 12
+        }
+    );
+    Ok(())
+}
+
+#[test]
+fn a_copy_is_the_same_document(rt: HostRuntime) -> Result<(), Fail> {
+    let alloc = rt.alloc();
+    let doc = every_kind(alloc)?;
+    let copied = doc.copy(alloc)?;
+    assert_eq!(rt;
+        format!(in alloc; "{copied:?}")?,
+        format!(in alloc; "{doc:?}")?
+    );
+    Ok(())
+}
+
+fn place(alloc: Global, steps: &[PlaceStep]) -> Result<Place, NoMemory> {
+    let mut place = Sequence::new(alloc);
+    for step in steps {
+        place.push(*step)?;
+    }
+    Ok(place)
+}
+
+#[test]
+fn places_are_in_document_order(rt: HostRuntime) -> Result<(), Fail> {
+    let alloc = rt.alloc();
+    for (before, behind) in [
+        ([].as_slice(), [PlaceStep::Kid(0)].as_slice()),
+        (
+            [PlaceStep::Kid(1)].as_slice(),
+            [PlaceStep::Kid(1), PlaceStep::Attr(0)].as_slice(),
+        ),
+        (
+            [PlaceStep::Attr(5)].as_slice(),
+            [PlaceStep::Kid(0)].as_slice(),
+        ),
+        (
+            [PlaceStep::Attr(5)].as_slice(),
+            [PlaceStep::Attr(6)].as_slice(),
+        ),
+        (
+            [PlaceStep::Kid(9)].as_slice(),
+            [PlaceStep::Kid(10)].as_slice(),
+        ),
+        (
+            [PlaceStep::Kid(0), PlaceStep::Kid(7)].as_slice(),
+            [PlaceStep::Kid(1)].as_slice(),
+        ),
+    ] {
+        let first = place(alloc, before)?;
+        let second = place(alloc, behind)?;
+        assert_eq!(rt;
+            place_order(&first, &second),
+            Ordering::Less,
+            "{before:?} {behind:?}"
+        );
+        assert_eq!(rt;
+            place_order(&second, &first),
+            Ordering::Greater,
+            "{before:?} {behind:?}"
+        );
+        assert_eq!(rt; place_order(&first, &first), Ordering::Equal, "{before:?}");
+    }
+    Ok(())
+}
+
+#[test]
+fn a_text_is_cut_at_its_first_newline(rt: HostRuntime) {
+    assert_eq!(rt; first_line("").is_none(), true);
+    for (text, line, is_ended, rest) in [
+        ("a", "a", false, ""),
+        ("a\n", "a", true, ""),
+        ("\n", "", true, ""),
+        ("a\nb", "a", true, "b"),
+        ("a\r\n\nb\n", "a\r", true, "\nb\n"),
+    ] {
+        let first = first_line(text).map(|f| (f.line, f.is_ended, f.rest));
+        assert_eq!(rt; first, Some((line, is_ended, rest)), "of {text:?}");
+    }
+}
