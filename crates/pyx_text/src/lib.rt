@@ -6,10 +6,13 @@ mod escape;
 mod fault;
 mod lines;
 mod listing;
+mod open_tag;
 mod pending;
 mod progress;
 mod reader;
 mod room;
+#[cfg(test)]
+mod tests;
 mod write;
 
 pub use fault::PyxFault;
