@@ -1,8 +1,7 @@
 // Reading a source to its end.
 ghost use Rattle.std.specs.Prelude.{◌≡◌, ◌<◌, ◌≤◌, length, IfOk, OnOk, IfSome, IsErrOf, vec_len};
 ghost use Rattle.std.specs.Io.KnownBytes.{prepend_known, IsAtEnd};
-ghost use Rattle.byte_edge.specs.Faults.{Rose};
-ghost use Rattle.byte_edge.specs.Took.{Took};
+ghost use Rattle.byte_edge.specs.Took.{HasReadCause, Took};
 
 use crate::source::Source;
 use std::alloc::{AllocError, Global};
@@ -30,8 +29,7 @@ pub fn read_all<R: Source>(alloc: Global, from: &mut R, limit: usize) -> Result<
     // Too large exactly where more than `limit` bytes were taken.
     ensures took { Took limit (R.rest from.old) (R.rest from.new) result }
     ensures too_large { IsErrOf result ReadEnd.TooLarge → IfSome (R.rest from.old) (λ bytes. limit < length bytes) }
-    ensures cause { IsErrOf result ReadEnd.ReadFault → Rose (R.faults from.old) (R.faults from.new) }
-    ensures later { R.faults from.old ≤ R.faults from.new }
+    ensures cause { HasReadCause (R.faults from.old) (R.faults from.new) result }
 {
     let Ok(mut chunk) = zeros(alloc, CHUNK) else {
         return Err(ReadEnd::NoMemory);
@@ -52,8 +50,7 @@ fn read_by<R: Source>(
     ensures within { IfOk result (λ v. vec_len v ≤ limit) }
     ensures took { Took limit (R.rest from.old) (R.rest from.new) result }
     ensures too_large { IsErrOf result ReadEnd.TooLarge → IfSome (R.rest from.old) (λ bytes. limit < length bytes) }
-    ensures cause { IsErrOf result ReadEnd.ReadFault → Rose (R.faults from.old) (R.faults from.new) }
-    ensures later { R.faults from.old ≤ R.faults from.new }
+    ensures cause { HasReadCause (R.faults from.old) (R.faults from.new) result }
 {
     let mut bytes = Vec::new(alloc);
     'pieces: loop {

@@ -1,6 +1,6 @@
 // The adapters over a reader and a writer of std: the trusted edge. They tell no contents, and pass on what std tells.
 ghost use Rattle.std.specs.Prelude.{◌≡◌, ◌<◌, ◌≤◌, length, IfOk};
-ghost use Rattle.std.specs.Io.KnownBytes.{Keeps, ReadConsumes, WriteAppends};
+ghost use Rattle.std.specs.Io.KnownBytes.{ReadConsumes, WriteAppends};
 ghost use Rattle.byte_edge.specs.Faults.{HasCause};
 
 use crate::faults::next_count;
@@ -19,11 +19,12 @@ pub struct StdSource<R> {
 }
 
 impl<R: Read> StdSource<R> {
-    ghost use Rattle.byte_edge.specs.Edge.{reader_of};
+    ghost use Rattle.byte_edge.specs.Edge.{reader_of, source_faults};
 
     /// A source of the bytes that this reader has left.
     pub fn of(reader: R) -> StdSource<R>
-        ensures { reader_of result ≡ reader }
+        ensures reader { reader_of result ≡ reader }
+        ensures faults { source_faults result ≡ 0 }
     {
         StdSource { reader, failed: 0 }
     }
@@ -50,7 +51,7 @@ impl<R: Read> Source for StdSource<R> {
     }
 }
 
-/// A sink over a writer of std. What a writer with a buffer holds back is written by `flush`.
+/// A sink over a writer of std. What a writer with a buffer holds back is written where it is dropped or flushed.
 #[derive(Drop)]
 pub struct StdSink<W> {
     writer: W,
@@ -62,21 +63,10 @@ impl<W: Write> StdSink<W> {
 
     /// A sink that appends to this writer.
     pub fn of(writer: W) -> StdSink<W>
-        ensures { writer_of result ≡ writer }
+        ensures writer { writer_of result ≡ writer }
+        ensures faults { sink_faults result ≡ 0 }
     {
         StdSink { writer, failed: 0 }
-    }
-
-    /// Flushes the writer. A flush that fails counts as a fault.
-    pub fn flush(&mut self) -> Result<(), Failed>
-        ensures cause { HasCause (sink_faults self.old) (sink_faults self.new) result }
-        ensures keeps { Keeps (W.contents (writer_of self.old)) (W.contents (writer_of self.new)) }
-    {
-        if self.writer.flush().is_err() {
-            self.failed = next_count(self.failed);
-            return Err(Failed);
-        }
-        Ok(())
     }
 
     /// The writer, as it is.

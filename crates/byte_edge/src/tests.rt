@@ -60,7 +60,6 @@ fn std_is_read_and_written(rt: HostRuntime) -> Result<(), Fail> {
     );
     let mut sink = StdSink::of(Vec::new(alloc));
     assert_eq!(rt; write_all(&mut sink, &[3, 4]).err(), None);
-    assert_eq!(rt; sink.flush().err(), None);
     assert_eq!(rt; sink.into_writer().as_slice(), [3, 4].as_slice());
     Ok(())
 }

@@ -29,7 +29,7 @@ sent_then {bytes} {more} {a} {b} {c} s t = record {
   put = s.put ++ t.put;
   written = written_then a.written b.written c.written s.put t.put s.written t.written;
   waiting = waiting_then a.waiting b.waiting c.waiting bytes more s.put t.put s.waiting t.waiting;
-  later = omega (arith, s.later, t.later);
+  kept = t.kept ∙ s.kept;
 }
 
 -- sent, and then failed
@@ -39,8 +39,8 @@ broke_then {bytes} {more} {a} {b} {c} s t = record {
   lost = t.lost;
   written = written_then a.written b.written c.written s.put t.put s.written t.written;
   waiting = waiting_then a.waiting b.waiting t.lost bytes more s.put t.put s.waiting t.waiting;
-  later = omega (arith, s.later, t.later);
-  rose = rose_then a.faults b.faults c.faults s.later t.rose;
+  later = omega (arith, s.kept, t.later);
+  rose = let le : a.faults ≤ b.faults = omega (arith, s.kept) in rose_then a.faults b.faults c.faults le t.rose;
 }
 
 -- failed before more was sent
@@ -91,7 +91,7 @@ append_known-nil (Some xs) = ap Some (sym (append-nil xs))
 
 -- nothing was sent
 pub sent_none : (a : Stage) → Sent [] a a
-sent_none a = record { put = []; written = append_known-nil a.written; waiting = append-nil a.waiting; later = le_refl a.faults }
+sent_none a = record { put = []; written = append_known-nil a.written; waiting = append-nil a.waiting; kept = refl }
 
 -- what is sent item by item
 module _ {A : Type 0} (f : List A → List ℕ) (g : A → List ℕ) (together : (xs ys : List A) → f (xs ++ ys) ≡ f xs ++ f ys) (alone : (x : A) → f (x ∷ []) ≡ g x) where
@@ -127,5 +127,5 @@ sends_prefix (Err e) bytes a b none s = prefix bytes s.put s.lost a.written b.wr
 
 -- a failure has its cause in the sink
 pub sends_cause : {T E : Type 0} (r : Result T E) (bytes : List ℕ) (a b : Stage) → Sends r bytes a b → HasCause a.faults b.faults r
-sends_cause (Ok x) bytes a b s = record { later = s.later; failed = λ h. absurd (cc h) }
-sends_cause (Err e) bytes a b s = record { later = s.later; failed = λ h. s.rose }
+sends_cause (Ok x) bytes a b s = record { later = omega (arith, s.kept); failed = λ h. absurd (cc h); kept = λ h. s.kept }
+sends_cause (Err e) bytes a b s = record { later = s.later; failed = λ h. s.rose; kept = λ h. absurd (cc h) }

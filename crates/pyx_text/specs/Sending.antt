@@ -17,7 +17,7 @@ pub record Sent (bytes : List ℕ) (old new : Stage) : Type 0 where
   pub put : List ℕ
   pub written : new.written ≡ append_known old.written put
   pub waiting : old.waiting ++ bytes ≡ put ++ new.waiting
-  pub later : old.faults ≤ new.faults
+  pub kept : new.faults ≡ old.faults
 
 -- the sink failed: the first of both were written, and the others are lost
 pub record Broke (bytes : List ℕ) (old new : Stage) : Type 0 where

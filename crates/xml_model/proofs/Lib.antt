@@ -4,3 +4,4 @@ pub mod Nodes
 pub mod ReadAgain
 pub mod ReadIsValid
 pub mod TextAgain
+pub mod TextLines

@@ -8,14 +8,9 @@ use Rattle.xml_model.specs.declared.node.Node.{Node, Element', Text, Pi, Row_of-
 use Rattle.xml_model.specs.Names.{is_name, continues_name}
 use Rattle.xml_model.specs.Values.{escaped, escaped_byte}
 use Rattle.xml_model.specs.Document.{IsValid, IsFormed, AreFormed, AllFormed, AreAttributes}
-use Rattle.xml_model.specs.Pyx.{Line, attribute_line, behind_target, pyx_step, pyx_node, pyx_of, pyx, text_of, in_front, lines_of}
+use Rattle.xml_model.specs.Pyx.{Line, attribute_line, behind_target, pyx_step, pyx_node, pyx_of, pyx, text_of, in_front, split_lines, IsPlain}
 use Rattle.xml_model.proofs.Lines.{name_continues}
 use Rattle.xml_model.proofs.Nodes.{fold-Text, fold-Pi, fold-Element'}
-
--- bytes without a newline
-abbrev IsPlain : List ℕ → Type 0
-IsPlain [] = Unit {0}
-IsPlain (b ∷ bs) = ((b == 10) ≡ false) × IsPlain bs
 
 abbrev ArePlain : List Line → Type 0
 ArePlain [] = Unit {0}
@@ -32,12 +27,12 @@ ArePlain-append [] ys p q = q
 ArePlain-append (x ∷ xs) ys p q = (p.0, ArePlain-append xs ys p.1 q)
 
 -- the first line of a text ends at the first newline
-first_line : (line : Line) (rest : List ℕ) → IsPlain line → lines_of (line ++ 10 ∷ rest) ≡ line ∷ lines_of rest
+pub first_line : (line : Line) (rest : List ℕ) → IsPlain line → split_lines (line ++ 10 ∷ rest) ≡ line ∷ split_lines rest
 first_line [] rest plain = refl
 first_line (b ∷ line) rest plain = rw plain.0 (ap (in_front b) (first_line line rest plain.1))
 
 -- so plain lines are the lines of their text
-plain_again : (lines : List Line) → ArePlain lines → lines_of (text_of lines) ≡ lines
+plain_again : (lines : List Line) → ArePlain lines → split_lines (text_of lines) ≡ lines
 plain_again [] plain = refl
 plain_again (line ∷ lines) plain = first_line line (text_of lines) plain.0 ∙ ap (λ r. line ∷ r) (plain_again lines plain.1)
 
@@ -99,5 +94,5 @@ plain_list [] formed = tt
 plain_list (x ∷ xs) formed = ArePlain-append (pyx_node x) (pyx_of xs) (plain_node x formed.0) (plain_list xs formed.1)
 
 -- the lines of the text of a valid document are its canonical lines
-pub text_again : (doc : Doc) → IsValid doc → lines_of (text_of (pyx doc)) ≡ pyx doc
+pub text_again : (doc : Doc) → IsValid doc → split_lines (text_of (pyx doc)) ≡ pyx doc
 text_again doc valid = plain_again (pyx doc) (plain_list doc.kids valid.formed)

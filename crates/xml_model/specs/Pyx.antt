@@ -1,5 +1,5 @@
 -- How lines of PYX spell a document. A line is the list of its bytes, without a newline.
-use Rattle.std.specs.Prelude.{ℕ, ◌+◌, ◌-◌, ◌^◌, min, List, [], ◌∷◌, ◌++◌, map, length, Option, None, Some, Result, Ok, Err, Bool, true, false, not, ◌||◌, ◌==◌, nat_lt, nat_le, if◌then◌else◌}
+use Rattle.std.specs.Prelude.{◌≡◌, ℕ, ◌+◌, ◌-◌, ◌<◌, ◌^◌, min, List, [], ◌∷◌, ◌++◌, map, length, Option, None, Some, Result, Ok, Err, Bool, true, false, not, ◌||◌, ◌==◌, nat_lt, nat_le, if◌then◌else◌}
 use Rattle.std.specs.Str.{bytes_eq}
 use Rattle.std.specs.List.{before_first, after_first}
 use Rattle.xq_ast.specs.declared.refusal.PyxRefusal.{PyxRefusal}
@@ -215,6 +215,31 @@ abbrev pub in_front : ℕ → List Line → List Line
 in_front b [] = (b ∷ []) ∷ []
 in_front b (line ∷ lines) = (b ∷ line) ∷ lines
 
-abbrev pub lines_of : List ℕ → List Line
-lines_of [] = []
-lines_of (b ∷ bs) = if b == 10 then [] ∷ lines_of bs else in_front b (lines_of bs)
+abbrev pub split_lines : List ℕ → List Line
+split_lines [] = []
+split_lines (b ∷ bs) = if b == 10 then [] ∷ split_lines bs else in_front b (split_lines bs)
+
+-- the same of those lines alone that a newline ends
+abbrev pub in_front_of_ended : ℕ → List Line → List Line
+in_front_of_ended b [] = []
+in_front_of_ended b (line ∷ lines) = (b ∷ line) ∷ lines
+
+abbrev pub split_ended_lines : List ℕ → List Line
+split_ended_lines [] = []
+split_ended_lines (b ∷ bs) = if b == 10 then [] ∷ split_ended_lines bs else in_front_of_ended b (split_ended_lines bs)
+
+-- bytes without a newline
+abbrev pub IsPlain : List ℕ → Type 0
+IsPlain [] = Unit {0}
+IsPlain (b ∷ bs) = ((b == 10) ≡ false) × IsPlain bs
+
+-- a text cut in two at its first newline
+pub record IsCutLine (text line rest : List ℕ) : Type 0 where
+  pub whole : text ≡ line ++ 10 ∷ rest
+  pub plain : IsPlain line
+
+-- a text is its first line, whether a newline ends it, and the rest
+pub record IsFirstLine (text line : List ℕ) (is_ended : Bool) (rest : List ℕ) : Type 0 where
+  pub lines : split_lines text ≡ line ∷ split_lines rest
+  pub ended : split_ended_lines text ≡ (if is_ended then line ∷ split_ended_lines rest else [])
+  pub shorter : length rest < length text

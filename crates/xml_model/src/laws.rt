@@ -1,7 +1,7 @@
 ghost use Rattle.std.specs.Prelude.{◌≡◌, List, ℕ};
 ghost use Rattle.xml_model.specs.declared.node.Doc.{Doc};
 ghost use Rattle.xml_model.specs.Document.{IsValid};
-ghost use Rattle.xml_model.specs.Pyx.{read, pyx, Line, lines_of, text_of};
+ghost use Rattle.xml_model.specs.Pyx.{read, pyx, Line, split_lines, text_of};
 
 /// What is written as PYX is read again.
 pub fn pyx_is_read_again()
@@ -15,5 +15,5 @@ pub fn what_is_read_is_valid()
 
 /// The lines of a valid document's canonical text are its lines.
 pub fn canonical_text_is_read_again()
-    ensures { (doc : Doc) → IsValid doc → lines_of (text_of (pyx doc)) ≡ pyx doc }
+    ensures { (doc : Doc) → IsValid doc → split_lines (text_of (pyx doc)) ≡ pyx doc }
 {}

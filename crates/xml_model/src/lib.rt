@@ -14,9 +14,11 @@ mod measure;
 mod names;
 mod node;
 mod place;
+mod text_lines;
 
 pub use laws::{canonical_text_is_read_again, pyx_is_read_again, what_is_read_is_valid};
 pub use limits::{DEPTH_MAX, NAME_BYTES_MAX, NODES_MAX, TEXT_BYTES_MAX};
 pub use names::is_name;
 pub use node::{Attr, AttrList, Doc, Measure, Node, NodeList, RefusedLine};
 pub use place::{Place, PlaceStep, place_order};
+pub use text_lines::{FirstLine, first_line};

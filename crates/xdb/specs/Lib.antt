@@ -1,0 +1,4 @@
+pub mod Input
+pub mod Ends
+pub mod Tool
+pub mod Parts

@@ -1,0 +1,10 @@
+(library
+(shelf
+(book
+)book
+(book
+)book
+)shelf
+(shelf
+)shelf
+)library
