@@ -1,5 +1,5 @@
 -- The names of the attributes behind the first sixteen.
-use Rattle.std.proofs.Common.{◌≡◌, ℕ, ◌+◌, ◌<◌, ◌≤◌, Bool, true, false, cond, ◌||◌, List, [], ◌∷◌, ◌++◌, take, drop, length, refl, ap, sym, ◌∙◌, take-append-drop, length-append, arith}
+use Rattle.std.proofs.Common.{◌≡◌, ℕ, ◌<◌, ◌≤◌, Bool, true, false, cond, ◌||◌, List, [], ◌∷◌, ◌++◌, take, drop, length, refl, ap, sym, ◌∙◌, take-append-drop, length-append, arith}
 use Rattle.std.proofs.lemmas.List.{drop-append-le, drop_all}
 use Rattle.std.specs.Str.{bytes_eq}
 use Rattle.xml_model.specs.declared.node.Attr.{Attr}
