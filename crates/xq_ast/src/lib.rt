@@ -1,23 +1,52 @@
-//! The base types of texts, lists and kinds that all crates above share.
+//! The base types that all crates above share: texts, lists, calls with their syntax tree and
+//! tokens, locks that a call needs, and the codes of its answers.
 //!
-//! Contracts see a `Str` as the list of its bytes, and a `Sequence` as the list of its items.
-//! Neither hides anything else that a caller could tell apart, so a copy equals what it copies.
-//! A `Str` is always UTF-8. What takes memory answers `NoMemory` where there is none, and
+//! Contracts see a `Str` as the list of its bytes, a `Sequence` or `Items` as the list of its
+//! items, a `Boxed` as its value, and all else as plain data. Nothing is hidden that a caller
+//! could tell apart, so a `copy` equals what it copies. A `Str` is always UTF-8.
+//! `Code::text` is a code's text in a journal and `Code::of_text` reads it; a text determines
+//! its code but for a mark. What takes memory answers `NoMemory` where there is none, and
 //! leaves what it was given as it was. Nothing else is refused here.
 #![tactic(auto)]
 
+mod call;
+mod code;
+mod code_reading;
+mod code_text;
+mod copy;
+mod copy_tree;
 mod kind;
 mod memory;
+mod need;
 mod refusal;
 mod sequence;
+mod step;
 mod text;
+mod token;
+mod tree;
+mod update;
 
+pub use call::{Call, CallText};
+pub use code::{Code, Mark, SpentKind};
+pub use code_reading::text_determines_code;
+pub use copy::{copy_needs, copy_path, copy_texts, copy_tokens};
 pub use kind::Kind;
 pub use memory::NoMemory;
+pub use need::{LockMode, Need, NeedList};
 pub use refusal::PyxRefusal;
 pub use sequence::Sequence;
 pub use sqlite_items::{Boxed, Items};
+pub use step::{Axis, PathStep, PathTest, Test};
 pub use text::Str;
+pub use token::{Symbol, Token, TokenList};
+pub use tree::{
+    Bind, BindList, CompareOp, Expr, ExprList, ProductOp, ProductPart, ProductPartList, Sign,
+    SignList, SortKey, SortKeyList, Start, Step, StepList, SumPart, SumPartList,
+};
+pub use update::Update;
 
 /// A list of texts.
 pub type StrList = Sequence<Str>;
+
+#[cfg(test)]
+mod tests;

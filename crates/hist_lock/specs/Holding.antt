@@ -1,0 +1,5 @@
+-- The value in the hands of a pass.
+use Rattle.hist_lock.specs.declared.held.Held.{Held}
+
+abbrev pub value_of : {T : Type 0} → Held T → T
+value_of h = h.value

@@ -1,0 +1,7 @@
+pub mod Sign
+pub mod Reading
+pub mod KeyValue
+pub mod LabelOrder
+pub mod Neighbours
+pub mod LabelShape
+pub mod Insertions

@@ -1,0 +1,13 @@
+pub mod Order
+pub mod Fields
+pub mod PageNumber
+pub mod Head
+pub mod Overlay
+pub mod Known
+pub mod Work
+pub mod Refusal
+pub mod Changes
+pub mod Inside
+pub mod Lends
+pub mod LendsBytes
+pub mod LendsPage

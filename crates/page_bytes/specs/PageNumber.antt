@@ -1,0 +1,6 @@
+-- The number of the page that an address is in: 256 pages to a layer.
+use Rattle.std.specs.Prelude.{ℕ, ◌+◌, ◌*◌}
+use Rattle.page_bytes.specs.declared.ids.Addr.{Addr}
+
+abbrev pub page_number : Addr → ℕ
+page_number a = a.layer * 256 + a.page

@@ -1,0 +1,30 @@
+//! Pages of 4,096 bytes, sets of them, and the workspace in which a call changes them.
+//!
+//! A `Page` never changes and is shared; a `Draft` is a page that is being written, with the fields of `fields`.
+//! Contracts see both as lists of bytes. `Pages` is what page calls read: a finite map of pages, with the spaces that
+//! are known whole and the pages that were freed, which tell what is known as absent. A `PageSet` is such a map. A
+//! `Workspace` has the pages below, which it was given, and what it knows now. Its calls are `edit`, `fresh`, `free`,
+//! `open_space`, `drop_space` and `add`; `finish` lists the pages that differ from those below. They refuse with Need
+//! for a page of which nothing is known, with Damaged for one that should be there, with Spent where page numbers end.
+#![tactic(auto)]
+
+mod changes;
+mod end;
+mod fields;
+mod ids;
+mod lists;
+mod page;
+mod pages;
+mod table;
+mod workspace;
+
+pub use end::{NoMemory, PageEnd};
+pub use fields::{field_laws, read_bytes, read_u8, read_u16, read_u32, read_u64};
+pub use ids::{Addr, DocEntry, NodeNo, PageId, SchemaId, Space};
+pub use lists::{ChangeList, PageChange, PageIdList};
+pub use page::{Draft, Page};
+pub use pages::{PageSet, Pages};
+pub use workspace::Workspace;
+
+#[cfg(test)]
+mod tests;

@@ -1,0 +1,5 @@
+use Rattle.std.proofs.Common.{◌≤◌, length}
+use Rattle.page_device.proofs.file_device.OpenFile.read.Given as goal
+
+abbrev pub invariant-loop : goal.invariant-loop
+invariant-loop l = l.count ≤ length l.into

@@ -1,0 +1,9 @@
+pub mod Image
+pub mod Write
+pub mod Device
+pub mod Run
+pub mod Plan
+pub mod Memory
+pub mod MemoryLaws
+pub mod MemDevice
+pub mod Gate

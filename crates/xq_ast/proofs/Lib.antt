@@ -1,0 +1,6 @@
+pub mod Codes
+pub mod Cuts
+pub mod Law
+pub mod Numbers
+pub mod Tables
+pub mod Words
