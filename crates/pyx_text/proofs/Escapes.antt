@@ -1,5 +1,5 @@
 -- Escapes, at the first byte that has one.
-use Rattle.std.proofs.Common.{◌≡◌, ◌≢◌, ℕ, suc, ◌+◌, ◌<◌, Bool, true, false, cond, List, [], ◌∷◌, ◌++◌, length, nat_eq, refl, ap, sym, ◌∙◌, append_assoc, arith}
+use Rattle.std.proofs.Common.{◌≡◌, ◌≢◌, ℕ, false, List, [], ◌∷◌, ◌++◌, nat_eq, refl, ap, sym, ◌∙◌, arith}
 use Rattle.xml_model.specs.Values.{escaped, escaped_byte, unescaped, behind_backslash}
 use Rattle.pyx_text.specs.Replacing.{replaced, tab, line_or_tab}
 use Rattle.pyx_text.specs.Cuts.{Lacks, IsCut}

@@ -1,6 +1,6 @@
 -- The form of a line that begins with none of the five marks.
-use Rattle.std.proofs.Common.{◌≡◌, ◌≢◌, ℕ, List, [], ◌∷◌, Bool, true, false, nat_eq, refl, ap, arith}
-use Rattle.xml_model.specs.Pyx.{form, Form, no_form}
+use Rattle.std.proofs.Common.{◌≡◌, ◌≢◌, ℕ, List, [], ◌∷◌, false, nat_eq, refl, ap}
+use Rattle.xml_model.specs.Pyx.{form, no_form}
 use Rattle.pyx_text.proofs.Escapes.{nat_eq-differ}
 
 pub form_other : (line : List ℕ) → ((rest : List ℕ) → line ≢ 40 ∷ rest) → ((rest : List ℕ) → line ≢ 41 ∷ rest) → ((rest : List ℕ) → line ≢ 65 ∷ rest)

@@ -4,7 +4,7 @@ use Rattle.xml_model.specs.declared.node.Attr.{Attr}
 use Rattle.xml_model.specs.declared.node.Node.{Node}
 use Rattle.xml_model.specs.Trees.{joined}
 use Rattle.xml_model.specs.Values.{escaped, escaped_byte}
-use Rattle.xml_model.specs.Pyx.{Line, text_of, attribute_line, behind_target, pyx_node, pyx_of}
+use Rattle.xml_model.specs.Pyx.{Line, text_of, attribute_line, pyx_node, pyx_of}
 
 pub text_of-append : (xs ys : List Line) → text_of (xs ++ ys) ≡ text_of xs ++ text_of ys
 text_of-append [] ys = refl

@@ -1,6 +1,6 @@
 -- Replacing goes item by item.
-use Rattle.std.proofs.Common.{◌≡◌, ◌≢◌, ℕ, suc, ◌+◌, ◌<◌, List, [], ◌∷◌, ◌++◌, length, get_or, refl, ap, sym, ◌∙◌, append_assoc, arith, add-one}
-use Rattle.pyx_text.specs.Replacing.{replaced, tab, line_or_tab}
+use Rattle.std.proofs.Common.{◌≡◌, ◌≢◌, ℕ, suc, ◌<◌, List, [], ◌∷◌, ◌++◌, length, refl, ap, sym, ◌∙◌, append_assoc, arith}
+use Rattle.pyx_text.specs.Replacing.{replaced}
 use Rattle.pyx_text.specs.Cuts.{Lacks, IsCut}
 
 -- the first of a list that lacks c is not c

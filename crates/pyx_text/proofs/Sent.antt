@@ -1,5 +1,5 @@
 -- What was sent in turn was sent together.
-use Rattle.std.proofs.Common.{◌≡◌, ℕ, ◌+◌, ◌≤◌, ◌<◌, IsErr, IfOk, OnOk, Option, Some, None, List, [], ◌∷◌, ◌++◌, length, take, Result, Ok, Err, inl, inr, ◌⊎◌, refl, ap, sym, ◌∙◌, append_assoc, append-nil, take-append-drop, drop, get_or, subst, le_refl, length-append, arith}
+use Rattle.std.proofs.Common.{◌≡◌, ℕ, ◌+◌, ◌≤◌, ◌<◌, IsErr, OnOk, Option, Some, None, List, [], ◌∷◌, ◌++◌, length, take, Result, Ok, Err, inl, inr, refl, ap, sym, ◌∙◌, append_assoc, append-nil, take-append-drop, drop, get_or, subst, length-append, arith}
 use Rattle.std.proofs.lemmas.List.{take_more, take_at}
 use Rattle.std.specs.Io.KnownBytes.{append_known}
 use Rattle.byte_edge.specs.Faults.{Rose, HasCause}

@@ -4,7 +4,7 @@ use Rattle.xml_model.specs.declared.node.RefusedLine.{RefusedLine}
 use Rattle.xml_model.specs.Pyx.{Reading, OpenElement, Form, refusal, stepped}
 use Rattle.pyx_text.specs.declared.fault.PyxFault.{PyxFault}
 use Rattle.pyx_text.specs.declared.fault.PyxFault.TheVariants.{Refused, NoMemory}
-use Rattle.pyx_text.specs.declared.progress.OpenTag.{OpenTag}
+use Rattle.pyx_text.specs.declared.open_tag.OpenTag.{OpenTag}
 use Rattle.pyx_text.specs.declared.progress.Progress.{Progress}
 
 abbrev pub open_of : OpenTag → OpenElement

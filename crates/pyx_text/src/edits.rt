@@ -1,13 +1,13 @@
 ghost use Rattle.std.specs.Prelude.{◌≡◌, ◌<◌, ◌≤◌, ◌+◌, ◌++◌, ◌∷◌, [], OnOk, OnErr, IfErr, vec_len, vec_capacity};
 ghost use Rattle.xml_model.specs.Pyx as spec;
-ghost use Rattle.xml_model.specs.Trees.{has_attribute};
 ghost use Rattle.xml_model.specs.declared.node.Node.{out-Node};
 ghost use Rattle.xml_model.specs.declared.node.Node.TheVariants as nodes;
 ghost use Rattle.pyx_text.specs.Progress.{stack_of};
 
 use crate::fault::PyxFault;
-use crate::progress::OpenTag;
+use crate::open_tag::OpenTag;
 use crate::room::push_in_room;
+use std::alloc::Global;
 use xml_model::{Attr, Node};
 use xq_ast::Str;
 
@@ -21,30 +21,22 @@ pub(crate) fn closes_innermost(stack: &[OpenTag], name: &str) -> bool
     }
 }
 
-/// Whether one of the attributes has this name.
-pub(crate) fn is_among(attrs: &[Attr], name: &str) -> bool
-    ensures { result ≡ has_attribute name.now attrs.now }
-{
-    for attr in attrs {
-        if attr.name.as_str() == name {
-            return true;
-        }
-    }
-    false
-}
-
 /// Whether the innermost open element has an attribute of this name.
 pub(crate) fn has_already(stack: &[OpenTag], name: &str) -> bool
     ensures { result ≡ spec.has_already name.now (stack_of stack.now) }
 {
     match stack {
         [] => false,
-        [.., innermost] => is_among(&innermost.attrs, name),
+        [.., innermost] => innermost.has(name),
     }
 }
 
 /// Adds an attribute to the innermost open element. After an error nothing has changed.
-pub(crate) fn add_attribute(stack: &mut Vec<OpenTag>, attr: Attr) -> Result<(), PyxFault>
+pub(crate) fn add_attribute(
+    alloc: Global,
+    stack: &mut Vec<OpenTag>,
+    attr: Attr,
+) -> Result<(), PyxFault>
     ensures ok { OnOk result (stack_of stack.new.items ≡ spec.with_attribute attr (stack_of stack.old.items)) }
     ensures err { OnErr result (stack_of stack.new.items ≡ stack_of stack.old.items) }
     ensures memory { IfErr result (λ e. e ≡ PyxFault.NoMemory) }
@@ -52,12 +44,9 @@ pub(crate) fn add_attribute(stack: &mut Vec<OpenTag>, attr: Attr) -> Result<(), 
     let Some(mut innermost) = stack.pop() else {
         return Ok(());
     };
-    let room = innermost.attrs.reserve(1);
-    if room.is_ok() {
-        push_in_room(&mut innermost.attrs, attr);
-    }
+    let added = innermost.add(alloc, attr);
     push_in_room(stack, innermost);
-    Ok(room?)
+    added
 }
 
 fn is_text(node: &Node) -> bool

@@ -6,8 +6,10 @@ use xml_model::RefusedLine;
 /// Why a reader did not take a line, or has no document.
 #[derive(Clone, Copy, Debug, PartialEq, Eq, Error)]
 pub enum PyxFault {
+    /// The lines spell no document: the first refusal, and the number of its line.
     #[error("{} {:?}", .0.line, .0.why)]
     Refused(RefusedLine),
+    /// There was no memory. The line counts as not given.
     #[error("NoMemory")]
     NoMemory,
 }

@@ -1,4 +1,11 @@
 //! PYX text: documents as lines, both ways.
+//!
+//! Contracts see a `PyxReader` as what has been read so far, or as the first refusal. `line` takes a line
+//! as the definition `Pyx` says, and `end` gives the document. `write_doc` writes a document's canonical
+//! text to a sink, and `lines_of` lists its canonical lines.
+//! A line is refused, with its number, that is of no kind, has a bad name, ends another element than the
+//! innermost, has a late or repeated attribute, or passes a limit; and the end, where an element is open
+//! (`PyxRefusal`). A refusal stays. After `NoMemory` a line counts as not given.
 #![tactic(auto)]
 
 mod edits;
@@ -6,10 +13,13 @@ mod escape;
 mod fault;
 mod lines;
 mod listing;
+mod open_tag;
 mod pending;
 mod progress;
 mod reader;
 mod room;
+#[cfg(test)]
+mod tests;
 mod write;
 
 pub use fault::PyxFault;

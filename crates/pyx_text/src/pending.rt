@@ -64,7 +64,9 @@ impl Pending {
 
 /// Puts what waits.
 pub(crate) fn flush<W: Sink>(to: &mut W, pending: &mut Pending) -> Result<(), WriteFault>
-    ensures sends { Sends result [] (stage (W.written to.old) (W.faults to.old) pending.old) (stage (W.written to.new) (W.faults to.new) pending.new) }
+    ensures sends { Sends result []
+        (stage (W.written to.old) (W.faults to.old) pending.old)
+        (stage (W.written to.new) (W.faults to.new) pending.new) }
     ensures empty { OnOk result (pending.new ≡ []) }
 {
     write_all(to, pending.waiting())?;
@@ -74,7 +76,9 @@ pub(crate) fn flush<W: Sink>(to: &mut W, pending: &mut Pending) -> Result<(), Wr
 
 // Puts what waits, where there is no room for a byte more.
 fn make_room<W: Sink>(to: &mut W, pending: &mut Pending) -> Result<(), WriteFault>
-    ensures sends { Sends result [] (stage (W.written to.old) (W.faults to.old) pending.old) (stage (W.written to.new) (W.faults to.new) pending.new) }
+    ensures sends { Sends result []
+        (stage (W.written to.old) (W.faults to.old) pending.old)
+        (stage (W.written to.new) (W.faults to.new) pending.new) }
     ensures room { OnOk result (length pending.new < PENDING_MAX) }
 {
     if pending.has_room() {
@@ -89,7 +93,9 @@ pub(crate) fn send_byte<W: Sink>(
     pending: &mut Pending,
     byte: u8,
 ) -> Result<(), WriteFault>
-    ensures { Sends result (byte ∷ []) (stage (W.written to.old) (W.faults to.old) pending.old) (stage (W.written to.new) (W.faults to.new) pending.new) }
+    ensures { Sends result (byte ∷ [])
+        (stage (W.written to.old) (W.faults to.old) pending.old)
+        (stage (W.written to.new) (W.faults to.new) pending.new) }
 {
     make_room(to, pending)?;
     pending.push(byte);
@@ -102,7 +108,9 @@ pub(crate) fn send_bytes<W: Sink>(
     pending: &mut Pending,
     bytes: &[u8],
 ) -> Result<(), WriteFault>
-    ensures { Sends result bytes.now (stage (W.written to.old) (W.faults to.old) pending.old) (stage (W.written to.new) (W.faults to.new) pending.new) }
+    ensures { Sends result bytes.now
+        (stage (W.written to.old) (W.faults to.old) pending.old)
+        (stage (W.written to.new) (W.faults to.new) pending.new) }
 {
     for byte in bytes {
         send_byte(to, pending, *byte)?;

@@ -3,19 +3,12 @@ ghost use Rattle.xml_model.specs.Pyx as spec;
 
 use crate::edits::{add_attribute, add_characters, closes_innermost, has_already, texts_added};
 use crate::fault::PyxFault;
+use crate::open_tag::OpenTag;
 use crate::room::push_in_room;
 use std::alloc::Global;
 use std::mem;
 use xml_model::{Attr, DEPTH_MAX, Doc, NODES_MAX, Node, RefusedLine, TEXT_BYTES_MAX, is_name};
 use xq_ast::{Items, PyxRefusal, Sequence, Str};
-
-/// An element that is open, with its attributes so far and the nodes before it in its list.
-#[derive(Drop)]
-pub(crate) struct OpenTag {
-    pub(crate) name: Str,
-    pub(crate) attrs: Vec<Attr>,
-    pub(crate) before: Vec<Node>,
-}
 
 /// What has been read: the open elements, the innermost last, and the nodes inside the innermost.
 #[derive(Drop)]
@@ -76,14 +69,7 @@ impl Progress {
         let name = Str::of(self.alloc, name)?;
         self.stack.reserve(1)?;
         let before = mem::replace(&mut self.here, Vec::new(self.alloc));
-        push_in_room(
-            &mut self.stack,
-            OpenTag {
-                name,
-                attrs: Vec::new(self.alloc),
-                before,
-            },
-        );
+        push_in_room(&mut self.stack, OpenTag::new(self.alloc, name, before));
         self.in_tag = true;
         self.nodes += 1;
         self.lines = self.lines.saturating_add(1);
@@ -99,28 +85,22 @@ impl Progress {
         if !closes_innermost(&self.stack, name) {
             return Err(self.refused(PyxRefusal::EndMismatch));
         }
-        let Some(
-            OpenTag {
-                name,
-                attrs,
-                mut before,
-            },
-        ) = self.stack.pop()
-        else {
+        let Some(mut tag) = self.stack.pop() else {
             return Err(self.refused(PyxRefusal::EndMismatch));
         };
-        if before.reserve(1).is_err() {
-            push_in_room(
-                &mut self.stack,
-                OpenTag {
-                    name,
-                    attrs,
-                    before,
-                },
-            );
+        if tag.before.reserve(1).is_err() {
+            push_in_room(&mut self.stack, tag);
             return Err(PyxFault::NoMemory);
         }
-        let kids = mem::replace(&mut self.here, before);
+        let OpenTag {
+            name,
+            mut attrs,
+            before,
+            ..
+        } = tag;
+        let mut kids = mem::replace(&mut self.here, before);
+        attrs.shrink_to_fit();
+        kids.shrink_to_fit();
         push_in_room(
             &mut self.here,
             Node::Element {
@@ -155,7 +135,7 @@ impl Progress {
             return Err(self.refused(PyxRefusal::TooMuchText));
         }
         let name = Str::of(self.alloc, name)?;
-        add_attribute(&mut self.stack, Attr { name, value })?;
+        add_attribute(self.alloc, &mut self.stack, Attr { name, value })?;
         self.nodes += 1;
         self.bytes = bytes;
         self.lines = self.lines.saturating_add(1);

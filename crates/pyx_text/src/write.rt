@@ -26,7 +26,9 @@ fn letter_of(byte: u8) -> Option<u8>
 
 // A byte of a value.
 fn send_escaped<W: Sink>(to: &mut W, pending: &mut Pending, byte: u8) -> Result<(), WriteFault>
-    ensures { Sends result (escaped (byte ∷ [])) (stage (W.written to.old) (W.faults to.old) pending.old) (stage (W.written to.new) (W.faults to.new) pending.new) }
+    ensures { Sends result (escaped (byte ∷ []))
+        (stage (W.written to.old) (W.faults to.old) pending.old)
+        (stage (W.written to.new) (W.faults to.new) pending.new) }
 {
     match letter_of(byte) {
         None => send_byte(to, pending, byte),
@@ -39,7 +41,9 @@ fn send_escaped<W: Sink>(to: &mut W, pending: &mut Pending, byte: u8) -> Result<
 
 // A value, with its escapes.
 fn send_value<W: Sink>(to: &mut W, pending: &mut Pending, value: &[u8]) -> Result<(), WriteFault>
-    ensures { Sends result (escaped value.now) (stage (W.written to.old) (W.faults to.old) pending.old) (stage (W.written to.new) (W.faults to.new) pending.new) }
+    ensures { Sends result (escaped value.now)
+        (stage (W.written to.old) (W.faults to.old) pending.old)
+        (stage (W.written to.new) (W.faults to.new) pending.new) }
 {
     for byte in value {
         send_escaped(to, pending, *byte)?;
@@ -54,7 +58,9 @@ fn send_mark<W: Sink>(
     mark: u8,
     name: &Str,
 ) -> Result<(), WriteFault>
-    ensures { Sends result (mark ∷ name.now) (stage (W.written to.old) (W.faults to.old) pending.old) (stage (W.written to.new) (W.faults to.new) pending.new) }
+    ensures { Sends result (mark ∷ name.now)
+        (stage (W.written to.old) (W.faults to.old) pending.old)
+        (stage (W.written to.new) (W.faults to.new) pending.new) }
 {
     send_byte(to, pending, mark)?;
     send_bytes(to, pending, name.as_bytes())
@@ -67,7 +73,9 @@ fn send_rest<W: Sink>(
     before: u8,
     value: &Str,
 ) -> Result<(), WriteFault>
-    ensures { Sends result (before ∷ (escaped value.now ++ 10 ∷ [])) (stage (W.written to.old) (W.faults to.old) pending.old) (stage (W.written to.new) (W.faults to.new) pending.new) }
+    ensures { Sends result (before ∷ (escaped value.now ++ 10 ∷ []))
+        (stage (W.written to.old) (W.faults to.old) pending.old)
+        (stage (W.written to.new) (W.faults to.new) pending.new) }
 {
     send_byte(to, pending, before)?;
     send_value(to, pending, value.as_bytes())?;
@@ -81,7 +89,9 @@ fn send_tag<W: Sink>(
     mark: u8,
     name: &Str,
 ) -> Result<(), WriteFault>
-    ensures { Sends result (text_of ((mark ∷ name.now) ∷ [])) (stage (W.written to.old) (W.faults to.old) pending.old) (stage (W.written to.new) (W.faults to.new) pending.new) }
+    ensures { Sends result (text_of ((mark ∷ name.now) ∷ []))
+        (stage (W.written to.old) (W.faults to.old) pending.old)
+        (stage (W.written to.new) (W.faults to.new) pending.new) }
 {
     send_mark(to, pending, mark, name)?;
     send_byte(to, pending, b'\n')
@@ -89,7 +99,9 @@ fn send_tag<W: Sink>(
 
 // What stands behind an instruction's target, to the line's end.
 fn send_behind<W: Sink>(to: &mut W, pending: &mut Pending, value: &Str) -> Result<(), WriteFault>
-    ensures { Sends result (behind_target value.now ++ 10 ∷ []) (stage (W.written to.old) (W.faults to.old) pending.old) (stage (W.written to.new) (W.faults to.new) pending.new) }
+    ensures { Sends result (behind_target value.now ++ 10 ∷ [])
+        (stage (W.written to.old) (W.faults to.old) pending.old)
+        (stage (W.written to.new) (W.faults to.new) pending.new) }
 {
     if value.is_empty() {
         return send_byte(to, pending, b'\n');
@@ -103,14 +115,18 @@ fn send_instruction<W: Sink>(
     target: &Str,
     value: &Str,
 ) -> Result<(), WriteFault>
-    ensures { Sends result (text_of ((63 ∷ (target.now ++ behind_target value.now)) ∷ [])) (stage (W.written to.old) (W.faults to.old) pending.old) (stage (W.written to.new) (W.faults to.new) pending.new) }
+    ensures { Sends result (text_of ((63 ∷ (target.now ++ behind_target value.now)) ∷ []))
+        (stage (W.written to.old) (W.faults to.old) pending.old)
+        (stage (W.written to.new) (W.faults to.new) pending.new) }
 {
     send_mark(to, pending, b'?', target)?;
     send_behind(to, pending, value)
 }
 
 fn send_attribute<W: Sink>(to: &mut W, pending: &mut Pending, attr: &Attr) -> Result<(), WriteFault>
-    ensures { Sends result (text_of (attribute_line attr.now ∷ [])) (stage (W.written to.old) (W.faults to.old) pending.old) (stage (W.written to.new) (W.faults to.new) pending.new) }
+    ensures { Sends result (text_of (attribute_line attr.now ∷ []))
+        (stage (W.written to.old) (W.faults to.old) pending.old)
+        (stage (W.written to.new) (W.faults to.new) pending.new) }
 {
     send_mark(to, pending, b'A', &attr.name)?;
     send_rest(to, pending, b' ', &attr.value)
@@ -121,7 +137,9 @@ fn send_attributes<W: Sink>(
     pending: &mut Pending,
     attrs: &AttrList,
 ) -> Result<(), WriteFault>
-    ensures { Sends result (text_of (map attribute_line attrs.now)) (stage (W.written to.old) (W.faults to.old) pending.old) (stage (W.written to.new) (W.faults to.new) pending.new) }
+    ensures { Sends result (text_of (map attribute_line attrs.now))
+        (stage (W.written to.old) (W.faults to.old) pending.old)
+        (stage (W.written to.new) (W.faults to.new) pending.new) }
 {
     for attr in attrs.as_slice() {
         send_attribute(to, pending, attr)?;
@@ -135,7 +153,9 @@ fn send_nodes<W: Sink>(
     pending: &mut Pending,
     nodes: &NodeList,
 ) -> Result<(), WriteFault>
-    ensures { Sends result (text_of (pyx_of nodes.now)) (stage (W.written to.old) (W.faults to.old) pending.old) (stage (W.written to.new) (W.faults to.new) pending.new) }
+    ensures { Sends result (text_of (pyx_of nodes.now))
+        (stage (W.written to.old) (W.faults to.old) pending.old)
+        (stage (W.written to.new) (W.faults to.new) pending.new) }
 {
     for node in nodes.as_slice() {
         send_node(to, pending, node)?;
@@ -151,7 +171,9 @@ fn send_element<W: Sink>(
     attrs: &AttrList,
     kids: &NodeList,
 ) -> Result<(), WriteFault>
-    ensures { Sends result (text_of ((40 ∷ name.now) ∷ (map attribute_line attrs.now ++ (pyx_of kids.now ++ (41 ∷ name.now) ∷ [])))) (stage (W.written to.old) (W.faults to.old) pending.old) (stage (W.written to.new) (W.faults to.new) pending.new) }
+    ensures { Sends result (text_of ((40 ∷ name.now) ∷ (map attribute_line attrs.now ++ (pyx_of kids.now ++ (41 ∷ name.now) ∷ []))))
+        (stage (W.written to.old) (W.faults to.old) pending.old)
+        (stage (W.written to.new) (W.faults to.new) pending.new) }
 {
     send_tag(to, pending, b'(', name)?;
     send_attributes(to, pending, attrs)?;
@@ -161,7 +183,9 @@ fn send_element<W: Sink>(
 
 #[cycle(send)]
 fn send_node<W: Sink>(to: &mut W, pending: &mut Pending, node: &Node) -> Result<(), WriteFault>
-    ensures { Sends result (text_of (pyx_node node.now)) (stage (W.written to.old) (W.faults to.old) pending.old) (stage (W.written to.new) (W.faults to.new) pending.new) }
+    ensures { Sends result (text_of (pyx_node node.now))
+        (stage (W.written to.old) (W.faults to.old) pending.old)
+        (stage (W.written to.new) (W.faults to.new) pending.new) }
 {
     match node {
         Node::Element { name, attrs, kids } => send_element(to, pending, name, attrs, kids),

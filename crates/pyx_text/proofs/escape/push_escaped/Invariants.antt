@@ -2,7 +2,6 @@ use Rattle.std.proofs.Common.{◌≡◌, ◌++◌, length}
 use denote.Text.{Utf8}
 use denote.Shadow.{shadow}
 use Rattle.xml_model.specs.Values as spec
-use Rattle.pyx_text.specs.Replacing.{replaced, tab, line_or_tab}
 use Rattle.pyx_text.proofs.escape.push_escaped.Given as goal
 
 abbrev pub invariant-loop-before : goal.invariant-loop-before

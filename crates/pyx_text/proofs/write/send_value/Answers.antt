@@ -1,4 +1,4 @@
-use Rattle.std.proofs.Common.{refl, List, ℕ, ◌∷◌, []}
+use Rattle.std.proofs.Common.{refl, ◌∷◌, []}
 use Rattle.xml_model.specs.Values.{escaped}
 use Rattle.pyx_text.proofs.LineText.{escaped-append}
 use Rattle.pyx_text.proofs.Sent.{failed, sent_none, sent_next, broke_next}
