@@ -1,5 +1,5 @@
 -- How a listing of changes goes on from page to page.
-use Rattle.std.proofs.Common.{◌≡◌, ◌≢◌, ℕ, Bool, true, false, not, ◌&&◌, ◌||◌, List, Option, Some, None, ◌⊎◌, inl, inr, ⊎_elim, refl, sym, ap, ◌∙◌, subst, cond, is_some, true≢false}
+use Rattle.std.proofs.Common.{◌≡◌, ◌≢◌, ℕ, Bool, true, false, not, ◌&&◌, ◌||◌, List, Option, Some, None, inl, inr, ⊎_elim, refl, sym, ap, ◌∙◌, subst, cond, is_some, true≢false}
 use Rattle.std.specs.Option.{option_or}
 use Rattle.std.specs.declared.cmp.Ordering.{Ordering}
 use Rattle.std.specs.declared.cmp.Ordering.TheVariants.{Less, Equal, Greater}
@@ -7,9 +7,9 @@ use Rattle.std.specs.Ordering.{eq_by_cmp, is_eq}
 use Rattle.std.specs.FinMap as map
 use Rattle.page_bytes.specs.declared.ids.PageId.{PageId}
 use Rattle.page_bytes.specs.Order.{page_cmp}
-use Rattle.page_bytes.specs.Known.{PageMap, PageIds, Spaces, Known, is_unknown}
+use Rattle.page_bytes.specs.Known.{PageMap, PageIds, Spaces, is_unknown}
 use Rattle.page_bytes.specs.Changes.{IsChange}
-use Rattle.page_bytes.specs.Inside.{stays, pages_of, work_of, now_of, Notes, IsListedAt, IsListed, KeepsListed}
+use Rattle.page_bytes.specs.Inside.{stays, pages_of, work_of, now_of, Notes, IsListedAt, IsListed}
 use Rattle.page_bytes.proofs.Orders.{page_cmp-total, page_cmp-exact}
 use Rattle.page_bytes.proofs.Works.{get-inserted, get-beside, get-pages_of}
 

@@ -9,12 +9,12 @@ use Rattle.std.specs.FinMap as map
 use Rattle.page_bytes.specs.declared.ids.Space.{Space}
 use Rattle.page_bytes.specs.declared.ids.PageId.{PageId}
 use Rattle.page_bytes.specs.Order.{space_cmp, page_cmp, is_in}
-use Rattle.page_bytes.specs.Overlay.{overlay, get-overlay}
+use Rattle.page_bytes.specs.Overlay.{get-overlay}
 use Rattle.page_bytes.specs.Known.{PageMap, PageIds, Spaces, Known, known_of, is_absent, is_unknown}
 use Rattle.page_bytes.specs.Work.{Work, work_over, with_page, without_page, with_space, without_space, first_bytes, zeros, with_fresh}
 use Rattle.page_bytes.specs.Head.{head_of, next_page, with_next_page}
 use Rattle.page_bytes.specs.Inside.{stays, pages_of, work_of, Owns}
-use Rattle.page_bytes.proofs.Orders.{page_cmp-total, page_cmp-exact, space_cmp-total, space_cmp-exact, is_in-cmp}
+use Rattle.page_bytes.proofs.Orders.{page_cmp-total, page_cmp-exact, space_cmp-total, is_in-cmp}
 
 never : (b : Bool) → (b && false) ≡ false
 never true = refl

@@ -1,5 +1,5 @@
 -- Which refusal a call on a workspace has to give, by what is known when it is called.
-use Rattle.std.specs.Prelude.{◌≡◌, ℕ, Bool, List, Option, Some, None, Result, Ok, Err, not, ◌&&◌, ◌==◌, if◌then◌else◌, slice_index, ⊤}
+use Rattle.std.specs.Prelude.{◌≡◌, ℕ, List, Option, Some, None, Result, Ok, Err, not, ◌==◌, if◌then◌else◌, ⊤}
 use Rattle.std.specs.FinMap as map
 use Rattle.page_bytes.specs.declared.ids.Space.{Space}
 use Rattle.page_bytes.specs.declared.ids.PageId.{PageId}

@@ -22,7 +22,7 @@ pub use end::{NoMemory, PageEnd};
 pub use fields::{field_laws, read_bytes, read_u8, read_u16, read_u32, read_u64};
 pub use ids::{Addr, DocEntry, NodeNo, PageId, SchemaId, Space};
 pub use lists::{ChangeList, PageChange, PageIdList};
-pub use page::{Draft, Page};
+pub use page::{Draft, PAGE_BYTES, Page};
 pub use pages::{PageSet, Pages};
 pub use workspace::Workspace;
 

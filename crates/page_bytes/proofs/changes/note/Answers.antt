@@ -1,4 +1,4 @@
-use Rattle.std.proofs.Common.{◌≡◌, ◌≢◌, List, ℕ, Option, Some, None, true, false, not, ◌&&◌, sym, ap, ◌∙◌, subst, unwrap_or, true≢false, nat_eq, cond}
+use Rattle.std.proofs.Common.{◌≡◌, ◌≢◌, Some, None, true, false, not, ◌&&◌, sym, ap, ◌∙◌, subst, unwrap_or, true≢false, nat_eq, cond}
 use Rattle.std.specs.Cmp.Lexicographic.{pointwise}
 use Rattle.std.specs.FinMap as map
 use Rattle.std.proofs.lemmas.Cmp.{nat_list_eq_equiv}

@@ -1,4 +1,4 @@
-use Rattle.std.proofs.Common.{◌≡◌, IsSome, Option, Some, None, refl, sym, ap, ◌∙◌, subst, MutBor, true}
+use Rattle.std.proofs.Common.{◌≡◌, IsSome, Option, Some, None, refl, sym, ap, ◌∙◌, subst, MutBor}
 use Rattle.std.specs.FinMap as map
 use Rattle.std.specs.Option.{option_copied_mut}
 use Rattle.page_bytes.proofs.Orders.{page_cmp-total, page_cmp-exact}

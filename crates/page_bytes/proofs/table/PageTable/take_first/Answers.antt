@@ -1,4 +1,4 @@
-use Rattle.std.proofs.Common.{◌≡◌, ℕ, ◌<◌, ◌↔◌, List, [], ◌∷◌, Option, Some, None, IsSome, IfNone, IfSome, OnSome, length, refl, sym, ap, subst, ◌∙◌, true≢false, arith}
+use Rattle.std.proofs.Common.{◌≡◌, ◌<◌, ◌↔◌, List, [], ◌∷◌, Option, Some, None, IsSome, IfNone, IfSome, OnSome, length, refl, sym, ap, subst, ◌∙◌, true≢false, arith}
 use Rattle.std.specs.FinMap as map
 use Rattle.std.proofs.lemmas.Option.{IfSome_then}
 use Rattle.page_bytes.proofs.Orders.{page_cmp-total, page_cmp-exact}

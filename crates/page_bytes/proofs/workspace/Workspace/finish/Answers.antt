@@ -1,6 +1,5 @@
 use Rattle.std.proofs.Common.{◌≡◌, true, sym, ap, ◌∙◌, subst}
 use Rattle.std.specs.FinMap as map
-use Rattle.page_bytes.specs.declared.ids.PageId.{PageId}
 use Rattle.page_bytes.specs.Known.{is_unknown}
 use Rattle.page_bytes.specs.Work.{Work}
 use Rattle.page_bytes.specs.Changes.{change_of, IsChange}

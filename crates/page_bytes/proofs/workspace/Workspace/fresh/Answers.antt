@@ -1,6 +1,5 @@
-use Rattle.std.proofs.Common.{◌≡◌, ℕ, ◌+◌, List, Some, Result, Ok, Err, OnErr, refl, sym, ap, ◌∙◌, is_some, unwrap_or}
+use Rattle.std.proofs.Common.{◌≡◌, ◌+◌, Some, Result, Ok, Err, OnErr, sym, ap, ◌∙◌, is_some, unwrap_or}
 use Rattle.std.specs.FinMap as map
-use Rattle.std.specs.Option.{option_or}
 use Rattle.page_bytes.specs.declared.ids.PageId.{PageId}
 use Rattle.page_bytes.specs.Head.{head_of, next_page, with_next_page}
 use Rattle.page_bytes.specs.Work.{Work, zeros, with_fresh}

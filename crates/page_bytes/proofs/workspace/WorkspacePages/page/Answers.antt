@@ -1,4 +1,4 @@
-use Rattle.std.proofs.Common.{◌≡◌, Some, None, true, false, not, ◌&&◌, sym, ap, ◌∙◌}
+use Rattle.std.proofs.Common.{◌≡◌, Some, true, false, not, ◌&&◌, sym, ap, ◌∙◌}
 use Rattle.std.specs.Option.{option_copied}
 use Rattle.std.specs.FinMap as map
 use Rattle.page_bytes.specs.Work.{Work}
