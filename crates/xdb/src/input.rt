@@ -69,11 +69,7 @@ fn read_lines(reader: &mut PyxReader, buffer: &mut Str, text: &str) -> Result<()
 
 /// Gives a reader those lines of a text that a newline ends.
 #[tactic(auto, using(crate::proofs::Lines::line_laws))]
-fn read_ended_lines(
-    reader: &mut PyxReader,
-    buffer: &mut Str,
-    text: &str,
-) -> Result<(), InputEnd>
+fn read_ended_lines(reader: &mut PyxReader, buffer: &mut Str, text: &str) -> Result<(), InputEnd>
     requires { IsOk reader.old }
     ensures { ReadsLines result reader.old reader.new (split_ended_lines text.now) }
 {

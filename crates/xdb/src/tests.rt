@@ -64,7 +64,13 @@ const DONE: TopEnd = TopEnd {
 };
 
 /// What `pyx` answers to an input, and what it writes.
-fn check_pyx(rt: &(impl Abort + Print), alloc: Global, input: &[u8], want: TopEnd, text: &[u8]) -> Result<(), Fail> {
+fn check_pyx(
+    rt: &(impl Abort + Print),
+    alloc: Global,
+    input: &[u8],
+    want: TopEnd,
+    text: &[u8],
+) -> Result<(), Fail> {
     let words = words_of(alloc, &["pyx"])?;
     let mut source = MemSource::of(input.to_vec(alloc)?, Vec::new(alloc));
     let mut sink = MemSink::of(alloc, Vec::new(alloc));
@@ -96,8 +102,20 @@ fn late_attribute(rt: HostRuntime) -> Result<(), Fail> {
 fn end_tags(rt: HostRuntime) -> Result<(), Fail> {
     let want = refused(3, PyxRefusal::EndMismatch);
     check_pyx(&rt, rt.alloc(), b"(a\n(b\n)a\n", want, b"")?;
-    check_pyx(&rt, rt.alloc(), b"(a\n", refused(2, PyxRefusal::Unclosed), b"")?;
-    check_pyx(&rt, rt.alloc(), b"(a", refused(2, PyxRefusal::Unclosed), b"")
+    check_pyx(
+        &rt,
+        rt.alloc(),
+        b"(a\n",
+        refused(2, PyxRefusal::Unclosed),
+        b"",
+    )?;
+    check_pyx(
+        &rt,
+        rt.alloc(),
+        b"(a",
+        refused(2, PyxRefusal::Unclosed),
+        b"",
+    )
 }
 
 #[test]
@@ -105,7 +123,13 @@ fn bytes_that_are_no_text(rt: HostRuntime) -> Result<(), Fail> {
     check_pyx(&rt, rt.alloc(), b"\xff", not_utf8(1), b"")?;
     check_pyx(&rt, rt.alloc(), b"(a\n)a\n-\xc3", not_utf8(3), b"")?;
     check_pyx(&rt, rt.alloc(), b"(a\nx\xff\n", not_utf8(2), b"")?;
-    check_pyx(&rt, rt.alloc(), b"x\n\xff\n", refused(1, PyxRefusal::BadLine), b"")
+    check_pyx(
+        &rt,
+        rt.alloc(),
+        b"x\n\xff\n",
+        refused(1, PyxRefusal::BadLine),
+        b"",
+    )
 }
 
 #[test]
@@ -134,14 +158,26 @@ fn faulty_source_and_sink(rt: HostRuntime) -> Result<(), Fail> {
     let mut source = MemSource::of(input.to_vec(rt.alloc())?, first);
     let mut sink = MemSink::of(rt.alloc(), Vec::new(rt.alloc()));
     let end = tool(rt.alloc(), &words, &mut source, &mut sink);
-    assert_eq!(rt; end, TopEnd { status: 4, fault: Some(TopFault::ReadFault) });
+    assert_eq!(rt;
+        end,
+        TopEnd {
+            status: 4,
+            fault: Some(TopFault::ReadFault)
+        }
+    );
     assert_eq!(rt; sink.bytes().len(), 0);
 
     let first = [1].to_vec(rt.alloc())?;
     let mut source = MemSource::of(input.to_vec(rt.alloc())?, Vec::new(rt.alloc()));
     let mut sink = MemSink::of(rt.alloc(), first);
     let end = tool(rt.alloc(), &words, &mut source, &mut sink);
-    assert_eq!(rt; end, TopEnd { status: 5, fault: Some(TopFault::WriteFault) });
+    assert_eq!(rt;
+        end,
+        TopEnd {
+            status: 5,
+            fault: Some(TopFault::WriteFault)
+        }
+    );
     assert_eq!(rt; sink.bytes().len(), 0);
     Ok(())
 }

@@ -115,12 +115,7 @@ fn run<R: Source, W: Sink>(
 /// Does what the words say, over this source and this sink. The one command is `pyx`: it reads the source
 /// to its end, reads it as PYX, and writes the canonical text of the document. The order of refusals is:
 /// words, reading, input, writing. Nothing is written with a status other than 0, but with 5 a prefix.
-pub fn tool<R: Source, W: Sink>(
-    alloc: Global,
-    words: &[String],
-    from: &mut R,
-    to: &mut W,
-) -> TopEnd
+pub fn tool<R: Source, W: Sink>(alloc: Global, words: &[String], from: &mut R, to: &mut W) -> TopEnd
     ensures status { result.status ≡ spec.status_of result.fault }
     // BadWords exactly where the words are no command, ReadFault and WriteFault exactly where source and sink failed.
     ensures words { (result.fault ≡ Some TopFault.BadWords) ↔ (is_command (words_of words.now) ≡ false) }
