@@ -11,6 +11,7 @@ use std::test::Fail;
 use xq_ast::PyxRefusal;
 
 /// A source that makes bytes, all of one kind.
+#[derive(Drop)]
 struct Maker {
     left: usize,
 }
