@@ -1,4 +1,6 @@
 pub mod Escapes
+pub mod Forests
+pub mod Framing
 pub mod Lines
 pub mod Nodes
 pub mod ReadAgain

@@ -5,3 +5,6 @@ pub mod Place
 pub mod Values
 pub mod Pyx
 pub mod Counts
+pub mod Forest
+pub mod Statement
+pub mod Needs

@@ -1,7 +1,13 @@
 // These functions do nothing. The contract of each is a law, proved over the definitions alone.
 
-ghost use Rattle.std.specs.Prelude.{◌≡◌, List, ℕ};
+ghost use Rattle.std.specs.Prelude.{◌≡◌, List, ℕ, IsTrue};
+ghost use Rattle.xq_ast.specs.Parsed.{has_good_names};
+ghost use Rattle.xq_ast.specs.declared.call.Call.{Call};
+ghost use Rattle.xq_ast.specs.declared.call.Call.TheVariants.{ShowDocuments};
 ghost use Rattle.xml_model.specs.declared.node.Doc.{Doc};
+ghost use Rattle.xml_model.specs.Forest.{Forest, IsForest};
+ghost use Rattle.xml_model.specs.Needs.{KeepsToNeeds};
+ghost use Rattle.xml_model.specs.Statement.{stmt};
 ghost use Rattle.xml_model.specs.Counts.{IsCounted};
 ghost use Rattle.xml_model.specs.Document.{IsValid};
 ghost use Rattle.xml_model.specs.Pyx.{read, pyx, Line, Reading, after, start, split_lines, text_of};
@@ -24,4 +30,14 @@ pub fn what_is_counted()
 /// The lines of a valid document's canonical text are its lines.
 pub fn canonical_text_is_read_again()
     ensures { (doc : Doc) → IsValid doc → split_lines (text_of (pyx doc)) ≡ pyx doc }
+{}
+
+/// A statement whose names are names of documents leaves a forest.
+pub fn statements_keep_forests()
+    ensures { (F : Forest) (call : Call) → IsForest F → IsTrue (has_good_names call) → IsForest (stmt F call).forest }
+{}
+
+/// Every call but SHOW DOCUMENTS keeps to its needs.
+pub fn calls_keep_to_their_needs()
+    ensures { (call : Call) → (call ≡ ShowDocuments → ⊥) → KeepsToNeeds call }
 {}

@@ -2,11 +2,14 @@
 //!
 //! Contracts see a `Node`, an `Attr` and a `Doc` as plain values. The definitions that every crate
 //! above rests on stand here: which documents are valid (`Document`), places and their order
-//! (`Place`), and how lines of PYX spell a document (`Pyx`), with the laws between them
-//! (`pyx_is_read_again`, `what_is_read_is_valid`, `what_is_counted`).
+//! (`Place`), how lines of PYX spell a document (`Pyx`), with the laws between them
+//! (`pyx_is_read_again`, `what_is_read_is_valid`, `what_is_counted`), what a statement says of a
+//! forest and does to it (`Forest`, `Statement`, with `statements_keep_forests`), and the locks
+//! that a call needs (`Needs`, with `calls_keep_to_their_needs`).
 //! Nothing is refused here: a call ends with its answer or, where it takes memory, `NoMemory`.
 #![tactic(auto)]
 
+mod call_needs;
 mod copy;
 mod laws;
 mod limits;
@@ -18,10 +21,12 @@ mod place;
 mod tests;
 mod text_lines;
 
+pub use call_needs::needs;
 pub use laws::{
-    canonical_text_is_read_again, pyx_is_read_again, what_is_counted, what_is_read_is_valid,
+    calls_keep_to_their_needs, canonical_text_is_read_again, pyx_is_read_again,
+    statements_keep_forests, what_is_counted, what_is_read_is_valid,
 };
-pub use limits::{DEPTH_MAX, NAME_BYTES_MAX, NODES_MAX, TEXT_BYTES_MAX};
+pub use limits::{DEPTH_MAX, NAME_BYTES_MAX, NODES_MAX, REPLY_BYTES_MAX, TEXT_BYTES_MAX};
 pub use names::is_name;
 pub use node::{Attr, AttrList, Doc, Measure, Node, NodeList, RefusedLine};
 pub use place::{Place, PlaceStep, place_order};

@@ -9,3 +9,6 @@ pub const NODES_MAX: u64 = 4_194_304;
 
 /// The most bytes of all values of a document.
 pub const TEXT_BYTES_MAX: u64 = 268_435_456;
+
+/// The most bytes of an answer's lines with their newlines.
+pub const REPLY_BYTES_MAX: u64 = 67_108_864;

@@ -1,0 +1,76 @@
+-- The text of a journal: one line an event, and behind an answer its lines.
+use Rattle.std.specs.Prelude.{ℕ, ◌==◌, Bool, true, false, if◌then◌else◌, List, [], ◌∷◌, ◌++◌, length, codes}
+use Rattle.std.specs.Fmt.{decimal}
+use Rattle.xq_ast.specs.CodeText.{code_text}
+use Rattle.xq_ast.specs.declared.need.LockMode.{LockMode}
+use Rattle.xq_ast.specs.declared.need.LockMode.TheVariants.{S, X}
+use Rattle.xq_ast.specs.declared.need.Need.{Need}
+use Rattle.xml_model.specs.Pyx.{Line, text_of}
+use Rattle.session_core.specs.declared.event.BeginKind.{BeginKind}
+use Rattle.session_core.specs.declared.event.BeginKind.TheVariants.{Updating, Reading}
+use Rattle.session_core.specs.declared.event.Says.{Says}
+use Rattle.session_core.specs.declared.event.Says.TheVariants as says
+use Rattle.session_core.specs.declared.event.Event.{Event}
+use Rattle.session_core.specs.declared.event.Event.TheVariants.{Began, Granted, Refused, Answered, Committed, Ended, RolledBack, Doubt, Settled, Left}
+
+-- each quote twice
+abbrev pub doubled : List ℕ → List ℕ
+doubled [] = []
+doubled (b ∷ bs) = if b == 39 then b ∷ b ∷ doubled bs else b ∷ doubled bs
+
+-- a name between single quotes
+abbrev pub quoted : List ℕ → List ℕ
+quoted name = 39 ∷ (doubled name ++ 39 ∷ [])
+
+abbrev pub mode_text : LockMode → List ℕ
+mode_text S = codes "S"
+mode_text X = codes "X"
+
+-- `'a' S`
+abbrev pub need_text : Need → List ℕ
+need_text n = quoted n.name ++ (codes " " ++ mode_text n.mode)
+
+-- `'a' S, 'b' X`
+abbrev pub needs_text : List Need → List ℕ
+needs_text [] = []
+needs_text (n ∷ []) = need_text n
+needs_text (n ∷ m ∷ more) = need_text n ++ (codes ", " ++ needs_text (m ∷ more))
+
+-- the session's number, a space and some words
+abbrev pub line_of : ℕ → List ℕ → Line
+line_of session words = decimal session ++ (codes " " ++ words)
+
+abbrev pub kind_text : BeginKind → List ℕ
+kind_text Updating = codes "began update"
+kind_text (Reading n) = codes "began read " ++ decimal n
+
+abbrev pub stands_text : Bool → List ℕ
+stands_text true = codes "yes"
+stands_text false = codes "no"
+
+-- what an answer is printed as: Done, its number of lines and the lines, or its code; nothing else is an answer
+abbrev pub answer_lines : ℕ → Says → List Line
+answer_lines s says.Done = line_of s (codes "done") ∷ []
+answer_lines s (says.Lines all) = line_of s (codes "answer " ++ decimal (length all)) ∷ all
+answer_lines s (says.Error code) = line_of s (codes "error " ++ code_text code) ∷ []
+answer_lines s _ = []
+
+abbrev pub event_lines : Event → List Line
+event_lines (Began s kind) = line_of s (kind_text kind) ∷ []
+event_lines (Granted s needs) = line_of s (codes "granted " ++ needs_text needs) ∷ []
+event_lines (Refused s name holder needs) = line_of s (codes "refused " ++ (quoted name ++ (codes " by " ++ decimal holder))) ∷ []
+event_lines (Answered s reply) = answer_lines s reply.says
+event_lines (Committed s n) = line_of s (codes "committed " ++ decimal n) ∷ []
+event_lines (Ended s) = line_of s (codes "ended") ∷ []
+event_lines (RolledBack s) = line_of s (codes "rolled back") ∷ []
+event_lines (Doubt s n mark) = line_of s (codes "doubt " ++ decimal n) ∷ []
+event_lines (Settled by s stands) = line_of by (codes "settled " ++ (decimal s ++ (codes " " ++ stands_text stands))) ∷ []
+event_lines (Left s) = line_of s (codes "left") ∷ []
+
+abbrev pub journal_lines : List Event → List Line
+journal_lines [] = []
+journal_lines (e ∷ more) = event_lines e ++ journal_lines more
+
+-- the text, each line with its newline
+abbrev pub text : List Event → List ℕ
+text journal = text_of (journal_lines journal)

@@ -1,0 +1,5 @@
+//! Scripts of sessions and journals as texts.
+//!
+//! The text of a journal is defined here (`JournalText`): one line an event, and behind an answer
+//! its lines.
+#![tactic(auto)]

@@ -1,0 +1,118 @@
+-- The clause `closes` of a legal history: the events of each session are those of the calls of its script, in order.
+use Rattle.std.specs.Prelude.{◌≡◌, ℕ, zero, suc, ◌+◌, ◌==◌, Bool, true, false, ◌&&◌, ◌||◌, if◌then◌else◌, IsTrue, List, [], ◌∷◌, length, slice_get, Option, Some, None, IfSome, is_some, Result, Ok, Err, ◌⊎◌}
+use Rattle.xq_ast.specs.declared.call.Call.{Call}
+use Rattle.xq_ast.specs.declared.call.Call.TheVariants.{Begin, BeginRead, Commit, Rollback}
+use Rattle.xq_ast.specs.declared.call.CallText.{CallText}
+use Rattle.xq_ast.specs.declared.code.Code.{Code}
+use Rattle.xq_ast.specs.declared.code.Code.TheVariants as codes
+use Rattle.xq_ast.specs.Parsed.{Parsed}
+use Rattle.xml_model.specs.Needs.{needs}
+use Rattle.session_core.specs.declared.event.BeginKind.TheVariants as kinds
+use Rattle.session_core.specs.declared.event.State.{State}
+use Rattle.session_core.specs.declared.event.State.TheVariants.{Idle, Updating, Reading, InDoubt}
+use Rattle.session_core.specs.declared.event.Reply.{Reply}
+use Rattle.session_core.specs.declared.event.Says.{Says}
+use Rattle.session_core.specs.declared.event.Says.TheVariants as says
+use Rattle.session_core.specs.declared.event.Event.{Event}
+use Rattle.session_core.specs.declared.event.Event.TheVariants.{Began, Granted, Refused, Answered, Committed, Ended, RolledBack, Doubt, Settled, Left}
+use Rattle.session_core.specs.History.{session_of, is_closing}
+use Rattle.session_core.specs.States.{state, is_open}
+
+-- the calls of the sessions from 1 on
+abbrev pub Scripts : Type 0
+Scripts = List (List CallText)
+
+abbrev pub or_none : Option (List CallText) → List CallText
+or_none None = []
+or_none (Some calls) = calls
+
+-- the calls of a session; a number without a script has none
+abbrev pub calls_of : Scripts → ℕ → List CallText
+calls_of P zero = []
+calls_of P (suc s) = or_none (slice_get P s)
+
+abbrev pub more_closed : ℕ → Event → ℕ
+more_closed s e = if is_closing e && (session_of e == s) then 1 else 0
+
+-- how many calls of the session are closed
+abbrev pub closed_of : ℕ → List Event → ℕ
+closed_of s [] = 0
+closed_of s (e ∷ past) = more_closed s e + closed_of s past
+
+-- the session's next call
+abbrev pub next_call : Scripts → ℕ → List Event → Option CallText
+next_call P s past = slice_get (calls_of P s) (closed_of s past)
+
+abbrev pub is_left_by : ℕ → Event → Bool
+is_left_by s (Left t) = t == s
+is_left_by s _ = false
+
+-- the session has left
+abbrev pub has_left : ℕ → List Event → Bool
+has_left s [] = false
+has_left s (e ∷ past) = is_left_by s e || has_left s past
+
+-- a reply keeps the reading of its call; for want of memory it may be lost
+abbrev pub KeepsReading : Result Call Code → Reply → Type 0
+KeepsReading (Ok call) reply = (reply.call ≡ Some call) ⊎ ((reply.call ≡ None) × (reply.says ≡ says.Error codes.NoMemory))
+KeepsReading (Err code) reply = reply.call ≡ None
+
+abbrev pub ClosesCall : Call → Event → Type 0
+ClosesCall call (Began s kinds.Updating) = call ≡ Begin
+ClosesCall call (Began s (kinds.Reading n)) = call ≡ BeginRead
+ClosesCall call (Committed s n) = call ≡ Commit
+ClosesCall call (Doubt s n mark) = call ≡ Commit
+ClosesCall call (Ended s) = call ≡ Commit
+ClosesCall call (RolledBack s) = call ≡ Rollback
+ClosesCall call (Refused s name holder asked) = asked ≡ needs call
+ClosesCall call (Answered s reply) = KeepsReading (Ok call) reply
+ClosesCall call (Granted s asked) = Unit {0}
+ClosesCall call (Settled by s stands) = Unit {0}
+ClosesCall call (Left s) = Unit {0}
+
+-- a text that is no call is closed by an answer alone
+abbrev pub ClosesText : Code → Event → Type 0
+ClosesText code (Answered s reply) = KeepsReading (Err code) reply
+ClosesText code _ = ⊥
+
+abbrev pub Closes : Result Call Code → Event → Type 0
+Closes (Ok call) e = ClosesCall call e
+Closes (Err code) e = ClosesText code e
+
+-- the event closes a call of this text, by what the text is
+pub record ClosesBy (text : CallText) (e : Event) : Type 0 where
+  pub what : Result Call Code
+  pub parsed : Parsed text what
+  pub closes : Closes what e
+
+abbrev pub ClosesNext : Option CallText → Event → Type 0
+ClosesNext None e = ⊥
+ClosesNext (Some text) e = ClosesBy text e
+
+-- an event for a call: it is the session's next one
+abbrev pub IsForCall : Scripts → Event → List Event → Type 0
+IsForCall P (Granted s asked) past = IsTrue (is_some (next_call P s past))
+IsForCall P (Settled by s stands) past = IsTrue (is_some (next_call P by past))
+IsForCall P (Left s) past = (closed_of s past ≡ length (calls_of P s)) × IsTrue (is_open (state s past))
+IsForCall P e past = ClosesNext (next_call P (session_of e) past) e
+
+abbrev pub ClosesAt : Scripts → Event → List Event → Type 0
+ClosesAt P e past = IsForCall P e past × (has_left (session_of e) past ≡ false)
+
+-- at the end each call is closed, and no transaction is open but those in doubt
+abbrev pub ClosesAtEnd : Scripts → List Event → Type 0
+ClosesAtEnd P past = (s : ℕ) → (closed_of s past ≡ length (calls_of P s)) × (is_open (state s past) ≡ false)
+
+-- a text that is no call is answered with its refusal; before that a session in doubt is settled
+abbrev pub IsTextAnswer : Result Call Code → State → Says → Type 0
+IsTextAnswer (Ok call) state' answer = Unit {0}
+IsTextAnswer (Err code) state' answer = (answer ≡ says.Error code) ⊎ ((answer ≡ says.Error codes.NoMemory) ⊎ (state' ≡ InDoubt))
+
+pub record IsAnswerTo (text : CallText) (state' : State) (answer : Says) : Type 0 where
+  pub what : Result Call Code
+  pub parsed : Parsed text what
+  pub answers : IsTextAnswer what state' answer
+
+abbrev pub TextRefusalsAt : Scripts → Event → List Event → Type 0
+TextRefusalsAt P (Answered s reply) past = IfSome (next_call P s past) (λ text. IsAnswerTo text (state s past) reply.says)
+TextRefusalsAt P _ past = Unit {0}

@@ -1,0 +1,48 @@
+-- The legal history: of a journal over a base and, with the scripts of its sessions, whole. Each clause is a fact of
+-- every event and the events before it; three have a part at the end.
+use Rattle.std.specs.Prelude.{List}
+use Rattle.session_core.specs.declared.event.Event.{Event}
+use Rattle.session_core.specs.History.{past_of, AtEach}
+use Rattle.session_core.specs.Transactions.{Base}
+use Rattle.session_core.specs.Locks.{LocksAt}
+use Rattle.session_core.specs.Replies.{SerialAt, SnapshotsAt, UnfinishedAt, UnfinishedAtEnd}
+use Rattle.session_core.specs.Refusals.{RefusalsAt}
+use Rattle.session_core.specs.Settling.{SettlingAt}
+use Rattle.session_core.specs.Marks.{MarksAt}
+use Rattle.session_core.specs.Closes.{Scripts, ClosesAt, ClosesAtEnd, TextRefusalsAt}
+
+-- The events answer the calls of the scripts, in order.
+pub record IsClosed (P : Scripts) (past : List Event) : Type 0 where
+  pub each : AtEach (ClosesAt P) past
+  pub at_end : ClosesAtEnd P past
+
+-- Transactions without a commit answer as those with one.
+pub record IsUnfinished (B : Base) (past : List Event) : Type 0 where
+  pub each : AtEach (UnfinishedAt B) past
+  pub at_end : UnfinishedAtEnd B past
+
+-- Each call is answered by the order of refusals.
+pub record IsOrdered (P : Scripts) (past : List Event) : Type 0 where
+  pub by_state : AtEach RefusalsAt past
+  pub by_text : AtEach (TextRefusalsAt P) past
+
+-- The part that holds without scripts: the journal, its newest event first, is legal so far.
+pub record SoFar (B : Base) (past : List Event) : Type 0 where
+  pub locks : AtEach LocksAt past
+  pub serial : AtEach (SerialAt B) past
+  pub snapshots : AtEach (SnapshotsAt B) past
+  pub unfinished : IsUnfinished B past
+  pub refusals : AtEach RefusalsAt past
+  pub settling : AtEach (SettlingAt B) past
+  pub marks : AtEach MarksAt past
+
+-- The journal is one legal history of the scripts over the base.
+pub record Legal (journal : List Event) (B : Base) (P : Scripts) : Type 0 where
+  pub closes : IsClosed P (past_of journal)
+  pub locks : AtEach LocksAt (past_of journal)
+  pub serial : AtEach (SerialAt B) (past_of journal)
+  pub snapshots : AtEach (SnapshotsAt B) (past_of journal)
+  pub unfinished : IsUnfinished B (past_of journal)
+  pub refusals : IsOrdered P (past_of journal)
+  pub settling : AtEach (SettlingAt B) (past_of journal)
+  pub marks : AtEach MarksAt (past_of journal)

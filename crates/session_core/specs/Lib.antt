@@ -1,0 +1,10 @@
+pub mod History
+pub mod Transactions
+pub mod States
+pub mod Locks
+pub mod Replies
+pub mod Refusals
+pub mod Settling
+pub mod Marks
+pub mod Closes
+pub mod Legal

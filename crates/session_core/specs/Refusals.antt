@@ -1,0 +1,118 @@
+-- The clause `refusals` of a legal history: each call is answered by the order of refusals, which begins with the
+-- session's state.
+use Rattle.std.specs.Prelude.{◌≡◌, ℕ, Bool, true, false, ◌||◌, IsTrue, List, Option, Some, None, ◌⊎◌}
+use Rattle.xq_ast.specs.declared.call.Call.{Call}
+use Rattle.xq_ast.specs.declared.call.Call.TheVariants.{Begin, BeginRead, Commit, Rollback, Checkpoint, ShowDocuments, Create, Drop, Load, Export}
+use Rattle.xq_ast.specs.declared.code.Code.{Code}
+use Rattle.xq_ast.specs.declared.code.Code.TheVariants as codes
+use Rattle.session_core.specs.declared.event.State.{State}
+use Rattle.session_core.specs.declared.event.State.TheVariants.{Idle, Updating, Reading, InDoubt}
+use Rattle.session_core.specs.declared.event.Says.{Says}
+use Rattle.session_core.specs.declared.event.Says.TheVariants as says
+use Rattle.session_core.specs.declared.event.Event.{Event}
+use Rattle.session_core.specs.declared.event.Event.TheVariants.{Began, Granted, Refused, Answered, Committed, Ended, RolledBack, Doubt, Settled, Left}
+use Rattle.session_core.specs.Transactions.{says_run}
+use Rattle.session_core.specs.States.{state, is_open, is_reading}
+
+-- What a call does: it begins a transaction, ends one, makes a checkpoint, reads documents, shows their names, or
+-- changes them.
+pub data Work : Type 0 where
+  begins : Work
+  ends : Work
+  checkpoints : Work
+  reads : Work
+  shows : Work
+  changes : Work
+
+abbrev pub work_of : Call → Work
+work_of Begin = begins
+work_of BeginRead = begins
+work_of Commit = ends
+work_of Rollback = ends
+work_of Checkpoint = checkpoints
+work_of ShowDocuments = shows
+work_of (Create name) = changes
+work_of (Drop name) = changes
+work_of (Load name pyx) = changes
+work_of (Export name) = reads
+
+abbrev pub in_idle : Work → Option Code
+in_idle begins = None
+in_idle checkpoints = None
+in_idle _ = Some codes.NoTransaction
+
+abbrev pub in_updating : Work → Option Code
+in_updating begins = Some codes.InTransaction
+in_updating checkpoints = Some codes.InTransaction
+in_updating shows = Some codes.Updating
+in_updating _ = None
+
+abbrev pub in_reading : Work → Option Code
+in_reading begins = Some codes.InTransaction
+in_reading checkpoints = Some codes.InTransaction
+in_reading changes = Some codes.ReadOnly
+in_reading _ = None
+
+-- the table: why the state refuses a call, if it does; a session in doubt is settled before
+abbrev pub refused_in : State → Work → Option Code
+refused_in Idle work = in_idle work
+refused_in Updating work = in_updating work
+refused_in (Reading n) work = in_reading work
+refused_in InDoubt work = None
+
+-- these answers have rules of their own: want of memory, a failing device and a number at its last value
+abbrev pub is_apart : Says → Bool
+is_apart (says.Error codes.NoMemory) = true
+is_apart (says.Error (codes.Failed mark)) = true
+is_apart (says.Error (codes.Spent kind number)) = true
+is_apart _ = false
+
+-- the refusals of a text that is no call
+abbrev pub is_of_text : Says → Bool
+is_of_text (says.Error codes.TooLong) = true
+is_of_text (says.Error codes.XPST0003) = true
+is_of_text (says.Error codes.NestedTooDeep) = true
+is_of_text (says.Error codes.BadName) = true
+is_of_text (says.Error codes.XPST0017) = true
+is_of_text (says.Error codes.XPST0008) = true
+is_of_text _ = false
+
+-- Done, or whether the checkpoint stands is not known
+abbrev pub is_checkpoint_answer : Says → Bool
+is_checkpoint_answer says.Done = true
+is_checkpoint_answer (says.Error (codes.InDoubt mark)) = true
+is_checkpoint_answer _ = false
+
+-- what is answered to a call that the state lets pass; those that begin or end a transaction have other events
+abbrev pub passes_with : Work → Says → Bool
+passes_with begins answer = false
+passes_with ends answer = false
+passes_with checkpoints answer = is_checkpoint_answer answer
+passes_with _ answer = says_run answer
+
+abbrev pub IsByTable : Option Code → Work → Says → Type 0
+IsByTable (Some code) work answer = answer ≡ says.Error code
+IsByTable None work answer = IsTrue (passes_with work answer)
+
+abbrev pub IsInOrder : State → Option Call → Says → Type 0
+IsInOrder state' None answer = IsTrue (is_of_text answer)
+IsInOrder state' (Some call) answer = IsByTable (refused_in state' (work_of call)) (work_of call) answer
+
+-- a session in doubt is settled first, so its call gets no other answer before
+abbrev pub IsBehindSettling : State → Option Call → Says → Type 0
+IsBehindSettling InDoubt call answer = ⊥
+IsBehindSettling Idle call answer = IsInOrder Idle call answer
+IsBehindSettling Updating call answer = IsInOrder Updating call answer
+IsBehindSettling (Reading n) call answer = IsInOrder (Reading n) call answer
+
+abbrev pub RefusalsAt : Event → List Event → Type 0
+RefusalsAt (Began s kind) past = state s past ≡ Idle
+RefusalsAt (Answered s reply) past = IsTrue (is_apart reply.says) ⊎ IsBehindSettling (state s past) reply.call reply.says
+RefusalsAt (Refused s name holder needs) past = state s past ≡ Updating
+RefusalsAt (Committed s n) past = state s past ≡ Updating
+RefusalsAt (Doubt s n mark) past = state s past ≡ Updating
+RefusalsAt (Ended s) past = IsTrue (is_reading (state s past))
+RefusalsAt (RolledBack s) past = IsTrue (is_open (state s past))
+RefusalsAt (Left s) past = IsTrue (is_open (state s past))
+RefusalsAt (Granted s needs) past = Unit {0}
+RefusalsAt (Settled by s stands) past = Unit {0}

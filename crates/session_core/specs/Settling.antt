@@ -1,0 +1,131 @@
+-- The clause `settling` of a legal history: commits in doubt, checkpoints, and numbers at their last value.
+use Rattle.std.specs.Prelude.{◌≡◌, ℕ, ◌+◌, ◌-◌, ◌^◌, ◌≤◌, ◌==◌, Bool, true, false, not, if◌then◌else◌, IsTrue, List, [], ◌∷◌, Option, Some, None, ◌⊎◌}
+use Rattle.xq_ast.specs.declared.call.Call.{Call}
+use Rattle.xq_ast.specs.declared.call.Call.TheVariants.{Commit, Checkpoint, Create, Load}
+use Rattle.xq_ast.specs.declared.code.SpentKind.{SpentKind}
+use Rattle.xq_ast.specs.declared.code.SpentKind.TheVariants as spent
+use Rattle.xq_ast.specs.declared.code.Code.{Code}
+use Rattle.xq_ast.specs.declared.code.Code.TheVariants as codes
+use Rattle.session_core.specs.declared.event.State.{State}
+use Rattle.session_core.specs.declared.event.State.TheVariants.{Idle, Updating, Reading, InDoubt}
+use Rattle.session_core.specs.declared.event.Says.{Says}
+use Rattle.session_core.specs.declared.event.Says.TheVariants as says
+use Rattle.session_core.specs.declared.event.Event.{Event}
+use Rattle.session_core.specs.declared.event.Event.TheVariants.{Began, Granted, Refused, Answered, Committed, Ended, RolledBack, Doubt, Settled, Left}
+use Rattle.session_core.specs.History.{session_of, last_of}
+use Rattle.session_core.specs.Transactions.{Base, commit_count}
+use Rattle.session_core.specs.States.{state, in_doubt}
+
+-- the last number of 64 bits
+abbrev pub last_number : ℕ
+last_number = 2 ^ 64 - 1
+
+-- the last value of each number that ends
+abbrev pub last_of_kind : SpentKind → ℕ
+last_of_kind spent.Commit = last_number
+last_of_kind spent.Generation = last_number
+last_of_kind spent.Page = last_number
+last_of_kind spent.Slot = 2251799813685246
+last_of_kind spent.Log = 2 ^ 63 - 1
+
+-- no commit number is left
+abbrev pub HasNoCommitLeft : Base → List Event → Type 0
+HasNoCommitLeft B past = B.commit + commit_count past ≡ last_number
+
+abbrev pub counts_generation : Option Call → ℕ
+counts_generation (Some Commit) = 1
+counts_generation (Some Checkpoint) = 1
+counts_generation _ = 0
+
+abbrev pub generations_by : Event → ℕ
+generations_by (Committed s n) = 1
+generations_by (Doubt s n mark) = 1
+generations_by (Ended s) = 1
+generations_by (Answered s reply) = counts_generation reply.call
+generations_by _ = 0
+
+-- how many COMMIT and CHECKPOINT calls are closed
+abbrev pub generation_calls : List Event → ℕ
+generation_calls [] = 0
+generation_calls (e ∷ past) = generations_by e + generation_calls past
+
+-- the call is a COMMIT in an updating transaction, or a CHECKPOINT outside of one
+abbrev pub writes_store : State → Option Call → Bool
+writes_store Updating (Some Commit) = true
+writes_store Idle (Some Checkpoint) = true
+writes_store _ _ = false
+
+abbrev pub commits_in : State → Option Call → Bool
+commits_in Updating (Some Commit) = true
+commits_in _ _ = false
+
+-- the call makes pages, in an updating transaction
+abbrev pub makes_pages : State → Option Call → Bool
+makes_pages Updating (Some (Create name)) = true
+makes_pages Updating (Some (Load name pyx)) = true
+makes_pages _ _ = false
+
+-- a number at its last value stands only for the calls that would take the next, and a COMMIT tests the commit
+-- number before the others
+abbrev pub IsSpent : Base → SpentKind → State → Option Call → List Event → Type 0
+IsSpent B spent.Commit state' call past = IsTrue (commits_in state' call) × HasNoCommitLeft B past
+IsSpent B spent.Generation state' call past = IsTrue (writes_store state' call) × (IsTrue (commits_in state' call) → HasNoCommitLeft B past → ⊥) × (last_number ≤ B.generation + generation_calls past)
+IsSpent B spent.Slot state' call past = IsTrue (writes_store state' call) × (IsTrue (commits_in state' call) → HasNoCommitLeft B past → ⊥)
+IsSpent B spent.Log state' call past = IsTrue (writes_store state' call) × (IsTrue (commits_in state' call) → HasNoCommitLeft B past → ⊥)
+IsSpent B spent.Page state' call past = IsTrue (makes_pages state' call)
+
+-- a checkpoint is done only where nothing is in doubt
+abbrev pub IsSettledForCheckpoint : Option Call → List Event → Type 0
+IsSettledForCheckpoint (Some Checkpoint) past = in_doubt past ≡ None
+IsSettledForCheckpoint _ past = Unit {0}
+
+abbrev pub SettlingOfAnswer : Base → State → Option Call → Says → List Event → Type 0
+SettlingOfAnswer B state' call (says.Error (codes.Spent kind number)) past = (number ≡ last_of_kind kind) × IsSpent B kind state' call past
+SettlingOfAnswer B state' call (says.Error (codes.Damaged commit ordinal page)) past = ⊥
+SettlingOfAnswer B state' call says.Done past = IsSettledForCheckpoint call past
+SettlingOfAnswer B state' call _ past = Unit {0}
+
+-- nothing is in doubt, and a commit number is left
+abbrev pub MayCommit : Base → List Event → Type 0
+MayCommit B past = (in_doubt past ≡ None) × (HasNoCommitLeft B past → ⊥)
+
+-- who settles: the session in doubt, or one that commits or makes a checkpoint
+abbrev pub MaySettle : ℕ → ℕ → State → Type 0
+MaySettle by s state' = (by ≡ s) ⊎ ((state' ≡ Updating) ⊎ (state' ≡ Idle))
+
+-- what an event does to a commit in doubt
+abbrev pub SettlingOf : Base → Event → List Event → Type 0
+SettlingOf B (Settled by s stands) past = (state s past ≡ InDoubt) × MaySettle by s (state by past)
+SettlingOf B (Committed s n) past = MayCommit B past
+SettlingOf B (Doubt s n mark) past = MayCommit B past
+SettlingOf B (Answered s reply) past = SettlingOfAnswer B (state s past) reply.call reply.says past
+SettlingOf B (Began s kind) past = Unit {0}
+SettlingOf B (Granted s needs) past = Unit {0}
+SettlingOf B (Refused s name holder needs) past = Unit {0}
+SettlingOf B (Ended s) past = Unit {0}
+SettlingOf B (RolledBack s) past = Unit {0}
+SettlingOf B (Left s) past = Unit {0}
+
+-- for want of memory the call may be lost
+abbrev pub IsForStore : State → Option Call → Says → Type 0
+IsForStore state' (Some call) answer = IsTrue (writes_store state' (Some call))
+IsForStore state' None answer = answer ≡ says.Error codes.NoMemory
+
+-- what a session closes that has settled another's commit: its COMMIT or its CHECKPOINT
+abbrev pub ClosesForStore : Event → List Event → Type 0
+ClosesForStore (Committed s n) past = Unit {0}
+ClosesForStore (Doubt s n mark) past = Unit {0}
+ClosesForStore (Answered s reply) past = IsForStore (state s past) reply.call reply.says
+ClosesForStore _ past = ⊥
+
+-- and one that has settled its own: any call, which is settled once
+abbrev pub ClosesAny : Event → Type 0
+ClosesAny (Settled by s stands) = ⊥
+ClosesAny _ = Unit {0}
+
+abbrev pub IsBehindSettled : Option Event → Event → List Event → Type 0
+IsBehindSettled (Some (Settled by s stands)) e past = if by == s then ClosesAny e else ClosesForStore e past
+IsBehindSettled _ e past = Unit {0}
+
+abbrev pub SettlingAt : Base → Event → List Event → Type 0
+SettlingAt B e past = SettlingOf B e past × IsBehindSettled (last_of (session_of e) past) e past

@@ -1,0 +1,5 @@
+use Rattle.xml_model.proofs.Framing.{keeps}
+use Rattle.xml_model.proofs.laws.calls_keep_to_their_needs.Goals as goal
+
+pub returns : goal.returns
+returns c = keeps
