@@ -1,11 +1,12 @@
 -- The clause `closes` of a legal history: the events of each session are those of the calls of its script, in order.
-use Rattle.std.specs.Prelude.{◌≡◌, ℕ, zero, suc, ◌+◌, ◌==◌, Bool, true, false, ◌&&◌, ◌||◌, if◌then◌else◌, IsTrue, List, [], ◌∷◌, length, slice_get, Option, Some, None, IfSome, is_some, Result, Ok, Err, ◌⊎◌}
+use Rattle.std.specs.Prelude.{◌≡◌, ℕ, zero, suc, ◌+◌, ◌==◌, Bool, true, false, ◌&&◌, ◌||◌, if◌then◌else◌, IsTrue, List, [], ◌∷◌, length, slice_get, Option, Some, None, IfSome, Result, Ok, Err, ◌⊎◌}
 use Rattle.xq_ast.specs.declared.call.Call.{Call}
 use Rattle.xq_ast.specs.declared.call.Call.TheVariants.{Begin, BeginRead, Commit, Rollback}
 use Rattle.xq_ast.specs.declared.call.CallText.{CallText}
 use Rattle.xq_ast.specs.declared.code.Code.{Code}
 use Rattle.xq_ast.specs.declared.code.Code.TheVariants as codes
 use Rattle.xq_ast.specs.Parsed.{Parsed}
+use Rattle.xq_ast.specs.declared.need.Need.{Need}
 use Rattle.xml_model.specs.Needs.{needs}
 use Rattle.session_core.specs.declared.event.BeginKind.TheVariants as kinds
 use Rattle.session_core.specs.declared.event.State.{State}
@@ -17,6 +18,7 @@ use Rattle.session_core.specs.declared.event.Event.{Event}
 use Rattle.session_core.specs.declared.event.Event.TheVariants.{Began, Granted, Refused, Answered, Committed, Ended, RolledBack, Doubt, Settled, Left}
 use Rattle.session_core.specs.History.{session_of, is_closing}
 use Rattle.session_core.specs.States.{state, is_open}
+use Rattle.session_core.specs.Settling.{writes_store}
 
 -- the calls of the sessions from 1 on
 abbrev pub Scripts : Type 0
@@ -85,16 +87,29 @@ pub record ClosesBy (text : CallText) (e : Event) : Type 0 where
   pub parsed : Parsed text what
   pub closes : Closes what e
 
-abbrev pub ClosesNext : Option CallText → Event → Type 0
-ClosesNext None e = ⊥
-ClosesNext (Some text) e = ClosesBy text e
+-- a text of which locks are granted: a call that needs them
+pub record NeedsThese (asked : List Need) (text : CallText) : Type 0 where
+  pub call : Call
+  pub parsed : Parsed text (Ok call)
+  pub needs_are : needs call ≡ asked
+
+-- a text for which another session's commit is settled: a COMMIT in an updating transaction, or a CHECKPOINT
+-- outside of one
+pub record SettlesFor (state' : State) (text : CallText) : Type 0 where
+  pub call : Call
+  pub parsed : Parsed text (Ok call)
+  pub writes : IsTrue (writes_store state' (Some call))
+
+abbrev pub IsSomeText : Option CallText → (CallText → Type 0) → Type 0
+IsSomeText None Fact = ⊥
+IsSomeText (Some text) Fact = Fact text
 
 -- an event for a call: it is the session's next one
 abbrev pub IsForCall : Scripts → Event → List Event → Type 0
-IsForCall P (Granted s asked) past = IsTrue (is_some (next_call P s past))
-IsForCall P (Settled by s stands) past = IsTrue (is_some (next_call P by past))
+IsForCall P (Granted s asked) past = IsSomeText (next_call P s past) (NeedsThese asked)
+IsForCall P (Settled by s stands) past = IsSomeText (next_call P by past) (λ text. (by ≡ s) ⊎ SettlesFor (state by past) text)
 IsForCall P (Left s) past = (closed_of s past ≡ length (calls_of P s)) × IsTrue (is_open (state s past))
-IsForCall P e past = ClosesNext (next_call P (session_of e) past) e
+IsForCall P e past = IsSomeText (next_call P (session_of e) past) (λ text. ClosesBy text e)
 
 abbrev pub ClosesAt : Scripts → Event → List Event → Type 0
 ClosesAt P e past = IsForCall P e past × (has_left (session_of e) past ≡ false)

@@ -1,5 +1,5 @@
 -- The legal history: of a journal over a base and, with the scripts of its sessions, whole. Each clause is a fact of
--- every event and the events before it; three have a part at the end.
+-- every event and the events before it; two have a part at the end.
 use Rattle.std.specs.Prelude.{List}
 use Rattle.session_core.specs.declared.event.Event.{Event}
 use Rattle.session_core.specs.History.{past_of, AtEach}
@@ -26,15 +26,15 @@ pub record IsOrdered (P : Scripts) (past : List Event) : Type 0 where
   pub by_state : AtEach RefusalsAt past
   pub by_text : AtEach (TextRefusalsAt P) past
 
--- The part that holds without scripts: the journal, its newest event first, is legal so far.
-pub record SoFar (B : Base) (past : List Event) : Type 0 where
-  pub locks : AtEach LocksAt past
-  pub serial : AtEach (SerialAt B) past
-  pub snapshots : AtEach (SnapshotsAt B) past
-  pub unfinished : IsUnfinished B past
-  pub refusals : AtEach RefusalsAt past
-  pub settling : AtEach (SettlingAt B) past
-  pub marks : AtEach MarksAt past
+-- The part that holds without scripts: the journal is legal so far.
+pub record SoFar (B : Base) (journal : List Event) : Type 0 where
+  pub locks : AtEach LocksAt (past_of journal)
+  pub serial : AtEach (SerialAt B) (past_of journal)
+  pub snapshots : AtEach (SnapshotsAt B) (past_of journal)
+  pub unfinished : IsUnfinished B (past_of journal)
+  pub refusals : AtEach RefusalsAt (past_of journal)
+  pub settling : AtEach (SettlingAt B) (past_of journal)
+  pub marks : AtEach MarksAt (past_of journal)
 
 -- The journal is one legal history of the scripts over the base.
 pub record Legal (journal : List Event) (B : Base) (P : Scripts) : Type 0 where

@@ -23,16 +23,20 @@ abbrev pub AllFree : ℕ → List Need → List Event → Type 0
 AllFree s [] past = Unit {0}
 AllFree s (n ∷ more) past = IsFree s n past × AllFree s more past
 
--- the locks are granted: some, all at once, to an updating transaction
+-- the locks are granted: all needs of a call at once, some at least, to an updating transaction
 pub record IsGranted (s : ℕ) (asked : List Need) (past : List Event) : Type 0 where
   pub updating : state s past ≡ Updating
+  pub call : Call
+  pub needs_are : needs call ≡ asked
   pub some : 0 < length asked
   pub free : AllFree s asked past
 
--- the locks are refused: `name` is the first of which another session holds a conflicting lock, and `holder` the
--- least such session
+-- the locks are refused: of a call's needs, `name` is the first of which another session holds a conflicting lock,
+-- and `holder` the least such session
 pub record IsRefused (s : ℕ) (name : List ℕ) (holder : ℕ) (asked : List Need) (past : List Event) : Type 0 where
   pub updating : state s past ≡ Updating
+  pub call : Call
+  pub needs_are : needs call ≡ asked
   pub before : List Need
   pub blocked : Need
   pub behind : List Need

@@ -1,6 +1,6 @@
 -- The clause `refusals` of a legal history: each call is answered by the order of refusals, which begins with the
 -- session's state.
-use Rattle.std.specs.Prelude.{◌≡◌, ℕ, Bool, true, false, ◌||◌, IsTrue, List, Option, Some, None, ◌⊎◌}
+use Rattle.std.specs.Prelude.{◌≡◌, ℕ, Bool, true, false, not, ◌||◌, IsTrue, List, Option, Some, None, ◌⊎◌}
 use Rattle.xq_ast.specs.declared.call.Call.{Call}
 use Rattle.xq_ast.specs.declared.call.Call.TheVariants.{Begin, BeginRead, Commit, Rollback, Checkpoint, ShowDocuments, Create, Drop, Load, Export}
 use Rattle.xq_ast.specs.declared.code.Code.{Code}
@@ -11,7 +11,6 @@ use Rattle.session_core.specs.declared.event.Says.{Says}
 use Rattle.session_core.specs.declared.event.Says.TheVariants as says
 use Rattle.session_core.specs.declared.event.Event.{Event}
 use Rattle.session_core.specs.declared.event.Event.TheVariants.{Began, Granted, Refused, Answered, Committed, Ended, RolledBack, Doubt, Settled, Left}
-use Rattle.session_core.specs.Transactions.{says_run}
 use Rattle.session_core.specs.States.{state, is_open, is_reading}
 
 -- What a call does: it begins a transaction, ends one, makes a checkpoint, reads documents, shows their names, or
@@ -68,14 +67,33 @@ is_apart (says.Error (codes.Spent kind number)) = true
 is_apart _ = false
 
 -- the refusals of a text that is no call
-abbrev pub is_of_text : Says → Bool
-is_of_text (says.Error codes.TooLong) = true
-is_of_text (says.Error codes.XPST0003) = true
-is_of_text (says.Error codes.NestedTooDeep) = true
-is_of_text (says.Error codes.BadName) = true
-is_of_text (says.Error codes.XPST0017) = true
-is_of_text (says.Error codes.XPST0008) = true
-is_of_text _ = false
+abbrev pub is_text_refusal : Code → Bool
+is_text_refusal codes.TooLong = true
+is_text_refusal codes.XPST0003 = true
+is_text_refusal codes.NestedTooDeep = true
+is_text_refusal codes.BadName = true
+is_text_refusal codes.XPST0017 = true
+is_text_refusal codes.XPST0008 = true
+is_text_refusal _ = false
+
+-- the refusals by a state
+abbrev pub is_state_refusal : Code → Bool
+is_state_refusal codes.NoTransaction = true
+is_state_refusal codes.InTransaction = true
+is_state_refusal codes.ReadOnly = true
+is_state_refusal codes.Updating = true
+is_state_refusal _ = false
+
+abbrev pub refuses_text : Says → Bool
+refuses_text (says.Error code) = is_text_refusal code
+refuses_text _ = false
+
+-- what a statement may say that neither its text nor the state refuses; which of these it says is told by the forest
+abbrev pub answers_statement : Says → Bool
+answers_statement says.Done = true
+answers_statement (says.Lines all) = true
+answers_statement (says.Error code) = not (is_text_refusal code || is_state_refusal code)
+answers_statement _ = false
 
 -- Done, or whether the checkpoint stands is not known
 abbrev pub is_checkpoint_answer : Says → Bool
@@ -88,14 +106,16 @@ abbrev pub passes_with : Work → Says → Bool
 passes_with begins answer = false
 passes_with ends answer = false
 passes_with checkpoints answer = is_checkpoint_answer answer
-passes_with _ answer = says_run answer
+passes_with reads answer = answers_statement answer
+passes_with shows answer = answers_statement answer
+passes_with changes answer = answers_statement answer
 
 abbrev pub IsByTable : Option Code → Work → Says → Type 0
 IsByTable (Some code) work answer = answer ≡ says.Error code
 IsByTable None work answer = IsTrue (passes_with work answer)
 
 abbrev pub IsInOrder : State → Option Call → Says → Type 0
-IsInOrder state' None answer = IsTrue (is_of_text answer)
+IsInOrder state' None answer = IsTrue (refuses_text answer)
 IsInOrder state' (Some call) answer = IsByTable (refused_in state' (work_of call)) (work_of call) answer
 
 -- a session in doubt is settled first, so its call gets no other answer before

@@ -1,7 +1,7 @@
 -- The clause `settling` of a legal history: commits in doubt, checkpoints, and numbers at their last value.
 use Rattle.std.specs.Prelude.{◌≡◌, ℕ, ◌+◌, ◌-◌, ◌^◌, ◌≤◌, ◌==◌, Bool, true, false, not, if◌then◌else◌, IsTrue, List, [], ◌∷◌, Option, Some, None, ◌⊎◌}
 use Rattle.xq_ast.specs.declared.call.Call.{Call}
-use Rattle.xq_ast.specs.declared.call.Call.TheVariants.{Commit, Checkpoint, Create, Load}
+use Rattle.xq_ast.specs.declared.call.Call.TheVariants.{Begin, BeginRead, Commit, Rollback, Checkpoint, ShowDocuments, Create, Drop, Load, Export}
 use Rattle.xq_ast.specs.declared.code.SpentKind.{SpentKind}
 use Rattle.xq_ast.specs.declared.code.SpentKind.TheVariants as spent
 use Rattle.xq_ast.specs.declared.code.Code.{Code}
@@ -30,7 +30,7 @@ last_of_kind spent.Log = 2 ^ 63 - 1
 
 -- no commit number is left
 abbrev pub HasNoCommitLeft : Base → List Event → Type 0
-HasNoCommitLeft B past = B.commit + commit_count past ≡ last_number
+HasNoCommitLeft B past = last_number ≤ B.commit + commit_count past
 
 abbrev pub counts_generation : Option Call → ℕ
 counts_generation (Some Commit) = 1
@@ -59,28 +59,71 @@ abbrev pub commits_in : State → Option Call → Bool
 commits_in Updating (Some Commit) = true
 commits_in _ _ = false
 
--- the call makes pages, in an updating transaction
-abbrev pub makes_pages : State → Option Call → Bool
-makes_pages Updating (Some (Create name)) = true
-makes_pages Updating (Some (Load name pyx)) = true
-makes_pages _ _ = false
+-- the call makes pages
+abbrev pub makes_pages : Call → Bool
+makes_pages (Create name) = true
+makes_pages (Load name pyx) = true
+makes_pages Begin = false
+makes_pages BeginRead = false
+makes_pages Commit = false
+makes_pages Rollback = false
+makes_pages Checkpoint = false
+makes_pages ShowDocuments = false
+makes_pages (Drop name) = false
+makes_pages (Export name) = false
 
--- a number at its last value stands only for the calls that would take the next, and a COMMIT tests the commit
--- number before the others
+abbrev pub makes_pages_in : State → Option Call → Bool
+makes_pages_in Updating (Some call) = makes_pages call
+makes_pages_in _ _ = false
+
+-- a COMMIT or a CHECKPOINT that has settled first; a COMMIT tests the commit number before the others
+pub record IsStoreSpent (B : Base) (state' : State) (call : Option Call) (past : List Event) : Type 0 where
+  pub writes : IsTrue (writes_store state' call)
+  pub settled : in_doubt past ≡ None
+  pub commit_left : IsTrue (commits_in state' call) → HasNoCommitLeft B past → ⊥
+
+-- a number at its last value stands only for the calls that would take the next
 abbrev pub IsSpent : Base → SpentKind → State → Option Call → List Event → Type 0
 IsSpent B spent.Commit state' call past = IsTrue (commits_in state' call) × HasNoCommitLeft B past
-IsSpent B spent.Generation state' call past = IsTrue (writes_store state' call) × (IsTrue (commits_in state' call) → HasNoCommitLeft B past → ⊥) × (last_number ≤ B.generation + generation_calls past)
-IsSpent B spent.Slot state' call past = IsTrue (writes_store state' call) × (IsTrue (commits_in state' call) → HasNoCommitLeft B past → ⊥)
-IsSpent B spent.Log state' call past = IsTrue (writes_store state' call) × (IsTrue (commits_in state' call) → HasNoCommitLeft B past → ⊥)
-IsSpent B spent.Page state' call past = IsTrue (makes_pages state' call)
+IsSpent B spent.Generation state' call past = IsStoreSpent B state' call past × (last_number ≤ B.generation + generation_calls past)
+IsSpent B spent.Slot state' call past = IsStoreSpent B state' call past
+IsSpent B spent.Log state' call past = IsStoreSpent B state' call past
+IsSpent B spent.Page state' call past = IsTrue (makes_pages_in state' call)
 
--- a checkpoint is done only where nothing is in doubt
+-- a checkpoint is done, or in doubt, only where no commit is in doubt
 abbrev pub IsSettledForCheckpoint : Option Call → List Event → Type 0
 IsSettledForCheckpoint (Some Checkpoint) past = in_doubt past ≡ None
 IsSettledForCheckpoint _ past = Unit {0}
 
+-- Whether the head of a log may be in doubt, which no event tells: a checkpoint left it so, one of its own or one
+-- that a COMMIT made first, and nothing has been settled since.
+abbrev pub head_behind_answer : State → Option Call → Says → Bool → Bool
+head_behind_answer Idle (Some Checkpoint) (says.Error (codes.InDoubt mark)) before = true
+head_behind_answer Idle (Some Checkpoint) says.Done before = false
+head_behind_answer Idle (Some Checkpoint) (says.Error (codes.Spent kind number)) before = false
+head_behind_answer Updating (Some Commit) (says.Error (codes.Failed mark)) before = true
+head_behind_answer Updating (Some Commit) (says.Error (codes.Spent kind number)) before = false
+head_behind_answer _ _ _ before = before
+
+abbrev pub head_behind : Event → List Event → Bool → Bool
+head_behind (Answered s reply) past before = head_behind_answer (state s past) reply.call reply.says before
+head_behind (Committed s n) past before = false
+head_behind (Doubt s n mark) past before = false
+head_behind (Settled by s stands) past before = false
+head_behind _ past before = before
+
+abbrev pub may_doubt_head : List Event → Bool
+may_doubt_head [] = false
+may_doubt_head (e ∷ past) = head_behind e past (may_doubt_head past)
+
+-- where no commit number is left, a COMMIT fails by settling alone, and then a head is in doubt
+abbrev pub FailsBySettling : Base → State → Option Call → List Event → Type 0
+FailsBySettling B state' call past = IsTrue (commits_in state' call) → HasNoCommitLeft B past → IsTrue (may_doubt_head past)
+
 abbrev pub SettlingOfAnswer : Base → State → Option Call → Says → List Event → Type 0
 SettlingOfAnswer B state' call (says.Error (codes.Spent kind number)) past = (number ≡ last_of_kind kind) × IsSpent B kind state' call past
+SettlingOfAnswer B state' call (says.Error (codes.Failed mark)) past = FailsBySettling B state' call past
+SettlingOfAnswer B state' call (says.Error (codes.InDoubt mark)) past = IsSettledForCheckpoint call past
 SettlingOfAnswer B state' call (says.Error (codes.Damaged commit ordinal page)) past = ⊥
 SettlingOfAnswer B state' call says.Done past = IsSettledForCheckpoint call past
 SettlingOfAnswer B state' call _ past = Unit {0}
