@@ -4,3 +4,5 @@ pub mod Law
 pub mod Numbers
 pub mod Tables
 pub mod Words
+pub mod Readings
+pub mod ParsedRows

@@ -8,7 +8,8 @@ use crate::refusal::PyxRefusal;
 use crate::text::Str;
 use std::alloc::Global;
 
-pub(crate) fn name_of_refusal(why: PyxRefusal) -> &'static str
+/// The name of a refusal of a PYX line.
+pub fn name_of_refusal(why: PyxRefusal) -> &'static str
     ensures { result.now ≡ refusal_name why }
 {
     match why {

@@ -16,6 +16,7 @@ mod code_text;
 mod copy;
 mod copy_tree;
 mod kind;
+mod limits;
 mod memory;
 mod need;
 mod refusal;
@@ -29,8 +30,12 @@ mod update;
 pub use call::{Call, CallText};
 pub use code::{Code, Mark, SpentKind};
 pub use code_reading::text_determines_code;
+pub use code_text::name_of_refusal;
 pub use copy::{copy_needs, copy_path, copy_texts, copy_tokens};
 pub use kind::Kind;
+pub use limits::{
+    BRACKETS_MAX, CALL_BYTES_MAX, DOCUMENT_NAME_BYTES_MAX, INTEGER_MAX, NESTING_WORDS_MAX,
+};
 pub use memory::NoMemory;
 pub use need::{LockMode, Need, NeedList};
 pub use refusal::PyxRefusal;

@@ -1,0 +1,70 @@
+-- What a call's text is: the call that it spells, or why it is refused. The refusals are tested in the order of the
+-- cases: too long, no tokens, nested too deep, no call, a bad name.
+use Rattle.std.specs.Prelude.{◌≡◌, ℕ, suc, ◌-◌, ◌<◌, ◌≤◌, Bool, true, false, ◌&&◌, ◌||◌, nat_le, bytes_eq, max, count_by, List, [], ◌∷◌, length, None, Some, Result, Ok, Err, codes}
+use Rattle.std.specs.List.{list_all}
+use Rattle.xq_ast.specs.declared.limits.TheConstants.{CALL_BYTES_MAX, BRACKETS_MAX, NESTING_WORDS_MAX, DOCUMENT_NAME_BYTES_MAX}
+use Rattle.xq_ast.specs.declared.token.Symbol.TheVariants.{OpenRound, CloseRound, OpenSquare, CloseSquare, OpenCurly, CloseCurly}
+use Rattle.xq_ast.specs.declared.token.Token.{Token}
+use Rattle.xq_ast.specs.declared.token.Token.TheVariants as token
+use Rattle.xq_ast.specs.declared.call.Call.{Call}
+use Rattle.xq_ast.specs.declared.call.Call.TheVariants.{Create, Drop, Load, Export}
+use Rattle.xq_ast.specs.declared.call.CallText.{CallText}
+use Rattle.xq_ast.specs.declared.code.Code.{Code}
+use Rattle.xq_ast.specs.declared.code.Code.TheVariants.{TooLong, XPST0003, NestedTooDeep, BadName}
+use Rattle.xq_ast.specs.Tokens.{tokens}
+use Rattle.xq_ast.specs.Grammar.{IsCall}
+
+-- ---- nesting
+
+-- the brackets that are open behind a token, of `n` before it: an opening one of any shape adds one, a closing one
+-- of any shape takes one away where one is open
+abbrev pub open_behind : ℕ → Token → ℕ
+open_behind n (token.Symbol OpenRound) = suc n
+open_behind n (token.Symbol OpenSquare) = suc n
+open_behind n (token.Symbol OpenCurly) = suc n
+open_behind n (token.Symbol CloseRound) = n - 1
+open_behind n (token.Symbol CloseSquare) = n - 1
+open_behind n (token.Symbol CloseCurly) = n - 1
+open_behind n _ = n
+
+-- the most brackets that are open at once, of `n` before these tokens
+abbrev pub most_open : ℕ → List Token → ℕ
+most_open n [] = n
+most_open n (t ∷ ts) = max n (most_open (open_behind n t) ts)
+
+-- the words `return` and `else`
+abbrev pub is_nesting_word : Token → Bool
+is_nesting_word (token.Name name) = bytes_eq name (codes "return") || bytes_eq name (codes "else")
+is_nesting_word _ = false
+
+abbrev pub is_nested_well : List Token → Bool
+is_nested_well ts = nat_le (most_open 0 ts) BRACKETS_MAX && nat_le (count_by is_nesting_word ts) NESTING_WORDS_MAX
+
+-- ---- names of documents
+
+-- 1 to 255 bytes, and no character below U+0020
+abbrev pub is_document_name : List ℕ → Bool
+is_document_name name = nat_le 1 (length name) && nat_le (length name) DOCUMENT_NAME_BYTES_MAX && list_all (nat_le 32) name
+
+-- the names in a call are names
+abbrev pub has_good_names : Call → Bool
+has_good_names (Create name) = is_document_name name
+has_good_names (Drop name) = is_document_name name
+has_good_names (Load name pyx) = is_document_name name
+has_good_names (Export name) = is_document_name name
+has_good_names _ = true
+
+-- ---- the answer
+
+-- what these tokens are, with these PYX lines
+pub data IsRead (ts : List Token) (pyx : List (List ℕ)) : Result Call Code → Type 0 where
+  nested_too_deep : is_nested_well ts ≡ false → IsRead ts pyx (Err NestedTooDeep)
+  no_call : is_nested_well ts ≡ true → ((call : Call) → IsCall ts pyx call → ⊥) → IsRead ts pyx (Err XPST0003)
+  bad_name : {call : Call} → is_nested_well ts ≡ true → IsCall ts pyx call → has_good_names call ≡ false → IsRead ts pyx (Err BadName)
+  a_call : {call : Call} → is_nested_well ts ≡ true → IsCall ts pyx call → has_good_names call ≡ true → IsRead ts pyx (Ok call)
+
+-- what a call's text is
+pub data Parsed (c : CallText) : Result Call Code → Type 0 where
+  too_long : CALL_BYTES_MAX < length c.text → Parsed c (Err TooLong)
+  no_tokens : length c.text ≤ CALL_BYTES_MAX → tokens c.text ≡ None → Parsed c (Err XPST0003)
+  read : {ts : List Token} {answer : Result Call Code} → length c.text ≤ CALL_BYTES_MAX → tokens c.text ≡ Some ts → IsRead ts c.pyx answer → Parsed c answer
