@@ -1,7 +1,7 @@
 -- Forests at one name, and calls that keep to their needs.
-use Rattle.std.proofs.Common.{◌≡◌, ℕ, Bool, true, false, cond, IsTrue, List, [], ◌∷◌, Option, None, Some, Result, Ok, Err, IfSome, refl, sym, ap, subst, ◌∙◌}
+use Rattle.std.proofs.Common.{◌≡◌, ℕ, Bool, true, false, ◌||◌, cond, IsTrue, List, [], ◌∷◌, Option, None, Some, Result, Ok, Err, IfSome, refl, sym, ap, subst, ◌∙◌}
 use Rattle.std.specs.FinMap as forests
-use Rattle.std.specs.Ordering.{nat_cmp, eq_by_cmp}
+use Rattle.std.specs.Ordering.{nat_cmp, eq_by_cmp, is_eq}
 use Rattle.std.specs.Cmp.{tied_itself}
 use Rattle.std.specs.Cmp.Lexicographic.{slice_cmp, nat_list_cmp_total}
 use Rattle.std.specs.Str.{bytes_eq}
@@ -20,10 +20,10 @@ use Rattle.xml_model.proofs.ReadIsValid.{read_is_valid}
 
 -- a name is tied with itself, and names of other bytes are not
 tied : (name : List ℕ) → eq_by_cmp (slice_cmp nat_cmp) name name ≡ true
-tied name = tied_itself nat_list_cmp_total name
+tied name = ap is_eq (tied_itself nat_list_cmp_total name)
 
 apart : (q name : List ℕ) → bytes_eq name q ≡ false → eq_by_cmp (slice_cmp nat_cmp) q name ≡ false
-apart q name other = is_eq-slice_cmp q name ∙ bytes_eq_sym q name ∙ other
+apart q name other = is_eq-slice_cmp q name ∙ bytes_eq_sym name q other
 
 pub get-put : (F : Forest) (name : List ℕ) (doc : Doc) → forests.get (forests.insert F name doc) name ≡ Some doc
 get-put F name doc = forests.get-insert nat_list_cmp_total F name doc name ∙ ap (λ b. cond b (Some doc) (forests.get F name)) (tied name)
