@@ -1,6 +1,16 @@
--- Facts of each session of a journal in which two sessions act.
-use Rattle.std.proofs.Common.{◌≡◌, ℕ, ◌==◌, Bool, true, false, refl, sym, subst}
+-- Facts of each place of a journal, and of each session of one in which two sessions act.
+use Rattle.std.proofs.Common.{◌≡◌, ℕ, ◌==◌, Option, None, Bool, true, false, List, [], ◌∷◌, refl, sym, ap, subst}
 use Rattle.std.proofs.lemmas.Bool.{eqb-true}
+use Rattle.xq_ast.specs.declared.need.Need.{Need}
+use Rattle.session_core.specs.declared.event.Event.{Event}
+use Rattle.session_core.specs.Transactions.{open_of}
+use Rattle.session_core.specs.States.{blocks, conflicts, held_with}
+use Rattle.session_core.specs.Locks.{IsFree}
+
+-- the fact of the newest event, and those of the events before it
+infixr 5 ◌⊳◌
+abbrev pub ◌⊳◌ : {A B : Type 0} → A → B → A × B
+x ⊳ y = (x, y)
 
 pub by_session : (Fact : ℕ → Type 0) → Fact 1 → Fact 2 → ((s : ℕ) → (1 == s) ≡ false → (2 == s) ≡ false → Fact s) → (s : ℕ) → Fact s
 by_session Fact one two others s =
@@ -11,3 +21,14 @@ by_session Fact one two others s =
           | false ↦ λ not_second. others s not_first not_second
         ] refl
     ] refl
+
+-- where no other session has a transaction that holds the name, the need is free
+pub free_from : (s : ℕ) (n : Need) (past : List Event) → ((t : ℕ) → (s == t) ≡ false → blocks t n past ≡ false) → IsFree s n past
+free_from s n past apart t other =
+    elim (s == t) as (λ b. (s == t) ≡ b → blocks t n past ≡ false) [
+      | true ↦ λ same. absurd (other (sym (eqb-true s t same)))
+      | false ↦ λ differ. apart t differ
+    ] refl
+
+pub free_where_none : (s : ℕ) (n : Need) (past : List Event) → ((t : ℕ) → (s == t) ≡ false → open_of t past ≡ None) → IsFree s n past
+free_where_none s n past none = free_from s n past (λ t apart. ap (λ o. conflicts (held_with n.name o) n.mode) (none t apart))

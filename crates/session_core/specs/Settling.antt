@@ -166,8 +166,12 @@ abbrev pub ClosesAny : Event → Type 0
 ClosesAny (Settled by s stands) = ⊥
 ClosesAny _ = Unit {0}
 
+abbrev pub ClosesBehind : Bool → Event → List Event → Type 0
+ClosesBehind true e past = ClosesAny e
+ClosesBehind false e past = ClosesForStore e past
+
 abbrev pub IsBehindSettled : Option Event → Event → List Event → Type 0
-IsBehindSettled (Some (Settled by s stands)) e past = if by == s then ClosesAny e else ClosesForStore e past
+IsBehindSettled (Some (Settled by s stands)) e past = ClosesBehind (by == s) e past
 IsBehindSettled _ e past = Unit {0}
 
 abbrev pub SettlingAt : Base → Event → List Event → Type 0

@@ -1,0 +1,136 @@
+-- Journals that differ from a legal one in just what a clause forbids. The scripts may be any: the clause alone
+-- refuses them.
+use Rattle.std.proofs.Common.{◌≡◌, ℕ, ◌≤◌, Bool, true, false, true≢false, List, [], ◌∷◌, Option, None, Some, is_some, refl, sym, ap, ◌∙◌, subst, arith}
+use Rattle.xq_ast.specs.declared.call.Call.{Call}
+use Rattle.xq_ast.specs.declared.call.Call.TheVariants.{Checkpoint, Load, Export}
+use Rattle.xq_ast.specs.declared.code.Code.TheVariants as codes_of
+use Rattle.xml_model.specs.Forest.{no_documents}
+use Rattle.session_core.specs.declared.event.BeginKind.TheVariants as kinds
+use Rattle.session_core.specs.declared.event.Reply.{Reply}
+use Rattle.session_core.specs.declared.event.State.{State}
+use Rattle.session_core.specs.declared.event.State.TheVariants.{Idle, Updating}
+use Rattle.session_core.specs.declared.event.Says.{Says}
+use Rattle.session_core.specs.declared.event.Says.TheVariants as says
+use Rattle.session_core.specs.declared.event.Event.{Event}
+use Rattle.session_core.specs.declared.event.Event.TheVariants.{Began, Granted, Refused, Answered, Committed, Ended, RolledBack, Doubt}
+use Rattle.session_core.specs.Transactions.{Base}
+use Rattle.session_core.specs.Closes.{Scripts}
+use Rattle.session_core.specs.Legal.{Legal}
+use Rattle.session_core.proofs.WorkedCalls.{d, element, begin, begin_read, commit, load, export, shared, exclusive}
+use Rattle.session_core.proofs.WorkedStatements.{export_before, export_behind, load_says}
+
+abbrev B : Base
+B = record { commit = 0; generation = 1; forest = no_documents }
+
+abbrev answer : Call → Says → Reply
+answer call what = record { call = Some call; says = what }
+
+abbrev is_lines : Says → Bool
+is_lines (says.Lines all) = true
+is_lines _ = false
+
+abbrev is_idle : State → Bool
+is_idle Idle = true
+is_idle _ = false
+
+-- `closes`: the last call is not closed
+open_call : Legal (
+    Began 1 (kinds.Reading 0)
+    ∷ []) B ((begin_read ∷ commit ∷ []) ∷ []) → ⊥
+open_call l = let closed = (l.closes.at_end 1).0 in omega (arith, closed)
+
+-- `serial`: a commit number is left out
+number_skipped : (P : Scripts) → Legal (
+    Began 1 kinds.Updating
+    ∷ Committed 1 2
+    ∷ []) B P → ⊥
+number_skipped P l = let number = l.serial.0.0 in omega (arith, number)
+
+-- `serial`: the committed transaction was answered from other documents
+other_reply : (P : Scripts) → Legal (
+    Began 1 kinds.Updating
+    ∷ Granted 1 shared
+    ∷ Answered 1 (answer (Export d) (says.Lines element))
+    ∷ Committed 1 1
+    ∷ []) B P → ⊥
+other_reply P l = true≢false (ap is_lines (l.serial.0.1.0.0 ∙ sym export_before))
+
+-- `unfinished`: and so was one that is rolled back
+other_reply_before_rollback : (P : Scripts) → Legal (
+    Began 1 kinds.Updating
+    ∷ Granted 1 shared
+    ∷ Answered 1 (answer (Export d) (says.Lines element))
+    ∷ RolledBack 1
+    ∷ []) B P → ⊥
+other_reply_before_rollback P l = true≢false (ap is_lines (l.unfinished.each.0.0.0 ∙ sym export_before))
+
+-- `snapshots`: a reader at commit 1 answers from commit 0
+older_answer : (P : Scripts) → Legal (
+    Began 1 kinds.Updating
+    ∷ Granted 1 exclusive
+    ∷ Answered 1 (answer (Load d element) says.Done)
+    ∷ Committed 1 1
+    ∷ Began 2 (kinds.Reading 1)
+    ∷ Answered 2 (answer (Export d) (says.Error codes_of.FODC0002))
+    ∷ []) B P → ⊥
+older_answer P l = true≢false (ap is_lines (export_behind ∙ sym l.snapshots.0.0))
+
+-- `snapshots`: a reader begins at an older commit
+older_snapshot : (P : Scripts) → Legal (
+    Began 1 kinds.Updating
+    ∷ Committed 1 1
+    ∷ Began 2 (kinds.Reading 0)
+    ∷ []) B P → ⊥
+older_snapshot P l = let number = l.snapshots.0 in omega (arith, number)
+
+-- `locks`: a lock is granted against a holder
+granted_against_holder : (P : Scripts) → Legal (
+    Began 1 kinds.Updating
+    ∷ Granted 1 exclusive
+    ∷ Began 2 kinds.Updating
+    ∷ Granted 2 shared
+    ∷ []) B P → ⊥
+granted_against_holder P l = true≢false (l.locks.0.0.free.0 1 (λ same. omega (arith, same)))
+
+-- `locks`: a refusal names the session itself
+refused_by_itself : (P : Scripts) → Legal (
+    Began 1 kinds.Updating
+    ∷ Granted 1 shared
+    ∷ Answered 1 (answer (Export d) (says.Error codes_of.FODC0002))
+    ∷ Refused 1 d 1 exclusive
+    ∷ []) B P → ⊥
+refused_by_itself P l = l.locks.0.0.other refl
+
+-- `locks`: a refusal names a holder that has ended
+refused_by_ended : (P : Scripts) → Legal (
+    Began 1 kinds.Updating
+    ∷ Granted 1 exclusive
+    ∷ Answered 1 (answer (Load d element) says.Done)
+    ∷ RolledBack 1
+    ∷ Began 2 kinds.Updating
+    ∷ Refused 2 d 1 exclusive
+    ∷ []) B P → ⊥
+refused_by_ended P l = true≢false (sym l.locks.0.0.holds)
+
+-- `refusals`: a transaction begins inside a transaction
+begun_twice : (P : Scripts) → Legal (
+    Began 1 kinds.Updating
+    ∷ Began 1 kinds.Updating
+    ∷ []) B P → ⊥
+begun_twice P l = true≢false (sym (ap is_idle l.refusals.by_state.0))
+
+-- `settling`: another commit comes while one is in doubt
+commit_beside_doubt : (P : Scripts) → Legal (
+    Began 1 kinds.Updating
+    ∷ Doubt 1 1 (record { before = 0; after = 1 })
+    ∷ Began 2 kinds.Updating
+    ∷ Committed 2 1
+    ∷ []) B P → ⊥
+commit_beside_doubt P l = true≢false (ap is_some l.settling.0.0.0)
+
+-- `marks`: the second failure begins before the first has ended
+marks_overlap : (P : Scripts) → Legal (
+    Answered 1 (answer Checkpoint (says.Error (codes_of.Failed (record { before = 0; after = 2 }))))
+    ∷ Answered 1 (answer Checkpoint (says.Error (codes_of.Failed (record { before = 1; after = 3 }))))
+    ∷ []) B P → ⊥
+marks_overlap P l = let in_order : 2 ≤ 1 = l.marks.0.0.1 in omega (arith, in_order)
