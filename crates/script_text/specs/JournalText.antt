@@ -1,11 +1,11 @@
 -- The text of a journal: one line an event, and behind an answer its lines.
-use Rattle.std.specs.Prelude.{ℕ, ◌==◌, Bool, true, false, if◌then◌else◌, List, [], ◌∷◌, ◌++◌, length, codes}
+use Rattle.std.specs.Prelude.{ℕ, ◌<◌, ◌^◌, ◌==◌, Option, None, Bool, true, false, if◌then◌else◌, List, [], ◌∷◌, ◌++◌, length, codes}
 use Rattle.std.specs.Fmt.{decimal}
-use Rattle.xq_ast.specs.CodeText.{code_text}
+use Rattle.xq_ast.specs.CodeText.{code_text, InRange, no_mark, without_mark}
 use Rattle.xq_ast.specs.declared.need.LockMode.{LockMode}
 use Rattle.xq_ast.specs.declared.need.LockMode.TheVariants.{S, X}
 use Rattle.xq_ast.specs.declared.need.Need.{Need}
-use Rattle.xml_model.specs.Pyx.{Line, text_of}
+use Rattle.xml_model.specs.Pyx.{Line, text_of, IsPlain}
 use Rattle.session_core.specs.declared.event.BeginKind.{BeginKind}
 use Rattle.session_core.specs.declared.event.BeginKind.TheVariants.{Updating, Reading}
 use Rattle.session_core.specs.declared.event.Says.{Says}
@@ -74,3 +74,58 @@ journal_lines (e ∷ more) = event_lines e ++ journal_lines more
 -- the text, each line with its newline
 abbrev pub text : List Event → List ℕ
 text journal = text_of (journal_lines journal)
+
+-- ---- what a text tells of a journal
+
+-- an answer without its mark
+abbrev pub told_answer : Says → Says
+told_answer (says.Error code) = says.Error (without_mark code)
+told_answer answer = answer
+
+-- what the text tells of an event: no call of an answer, no needs of a refusal, and marks from 0 to 0
+abbrev pub told : Event → Event
+told (Refused s name holder needs) = Refused s name holder []
+told (Answered s reply) = Answered s (record { call = None; says = told_answer reply.says })
+told (Doubt s n mark) = Doubt s n no_mark
+told e = e
+
+abbrev pub ArePlain : List Line → Type 0
+ArePlain [] = Unit {0}
+ArePlain (line ∷ more) = IsPlain line × ArePlain more
+
+abbrev pub HavePlainNames : List Need → Type 0
+HavePlainNames [] = Unit {0}
+HavePlainNames (n ∷ more) = IsPlain n.name × HavePlainNames more
+
+-- the answer has a line: Done, lines without newlines, or an error
+abbrev pub IsAnswer : Says → Type 0
+IsAnswer says.Done = Unit {0}
+IsAnswer (says.Lines all) = ArePlain all × (length all < 2 ^ 64)
+IsAnswer (says.Error code) = InRange code
+IsAnswer _ = ⊥
+
+abbrev pub IsKind : BeginKind → Type 0
+IsKind Updating = Unit {0}
+IsKind (Reading n) = n < 2 ^ 64
+
+abbrev pub IsSession : ℕ → Type 0
+IsSession s = s < 2 ^ 32
+
+-- an event as programs print them: numbers of sessions have 32 bits and others 64, no name and no line of an answer
+-- has a newline, and a grant has needs
+abbrev pub IsPrinted : Event → Type 0
+IsPrinted (Began s kind) = IsSession s × IsKind kind
+IsPrinted (Granted s needs) = IsSession s × (0 < length needs) × HavePlainNames needs
+IsPrinted (Refused s name holder needs) = IsSession s × IsPlain name × IsSession holder
+IsPrinted (Answered s reply) = IsSession s × IsAnswer reply.says
+IsPrinted (Committed s n) = IsSession s × (n < 2 ^ 64)
+IsPrinted (Ended s) = IsSession s
+IsPrinted (RolledBack s) = IsSession s
+IsPrinted (Doubt s n mark) = IsSession s × (n < 2 ^ 64)
+IsPrinted (Settled by s stands) = IsSession by × IsSession s
+IsPrinted (Left s) = IsSession s
+
+-- a journal as programs print them
+abbrev pub ArePrinted : List Event → Type 0
+ArePrinted [] = Unit {0}
+ArePrinted (e ∷ more) = IsPrinted e × ArePrinted more
