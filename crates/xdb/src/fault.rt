@@ -1,5 +1,5 @@
 use thiserror::Error;
-use xq_ast::PyxRefusal;
+use xq_ast::{PyxRefusal, name_of_refusal};
 
 /// The most bytes of an input.
 pub const INPUT_BYTES_MAX: usize = 67_108_864;
@@ -10,7 +10,7 @@ pub enum InputRefusal {
     /// The line has a byte that begins or continues no character.
     #[error("NotUtf8")]
     NotUtf8,
-    #[error("{0:?}")]
+    #[error("{}", name_of_refusal(*.0))]
     Pyx(PyxRefusal),
 }
 

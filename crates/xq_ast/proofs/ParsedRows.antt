@@ -69,39 +69,50 @@ abbrev text : List ℕ → CallText
 text bytes = record { text = bytes; pyx = [] }
 
 a_begin : parsed (text (codes " BEGIN (: reads :)READ-ONLY ")) ≡ Ok call.BeginRead
+unfolding parsed
 a_begin = refl
 
 a_load : parsed (record { text = codes "LOAD 'd'"; pyx = codes "(a" ∷ codes ")a" ∷ [] }) ≡ Ok (call.Load (codes "d") (codes "(a" ∷ codes ")a" ∷ []))
+unfolding parsed
 a_load = refl
 
 -- words in lower case are no call
 lower_case : parsed (text (codes "begin")) ≡ Err XPST0003
+unfolding parsed
 lower_case = refl
 
 trailing_token : parsed (text (codes "COMMIT COMMIT")) ≡ Err XPST0003
+unfolding parsed
 trailing_token = refl
 
 missing_string : parsed (text (codes "DROP DOCUMENT")) ≡ Err XPST0003
+unfolding parsed
 missing_string = refl
 
 empty_name : parsed (text (codes "DROP DOCUMENT ''")) ≡ Err BadName
+unfolding parsed
 empty_name = refl
 
 -- a character below U+0020
 low_character : parsed (text (codes "EXPORT 'a" ++ 9 ∷ codes "'")) ≡ Err BadName
+unfolding parsed
 low_character = refl
 
 name_of_255_bytes : parsed (text (codes "EXPORT '" ++ (replicate 255 97 ++ codes "'"))) ≡ Ok (call.Export (replicate 255 97))
+unfolding parsed
 name_of_255_bytes = refl
 
 name_of_256_bytes : parsed (text (codes "EXPORT '" ++ (replicate 256 97 ++ codes "'"))) ≡ Err BadName
+unfolding parsed
 name_of_256_bytes = refl
 
 -- 64 brackets open at once are no call, but nested well; 65 are too deep
 brackets_64 : parsed (text (replicate 64 40)) ≡ Err XPST0003
+unfolding parsed
 brackets_64 = refl
 
 brackets_65 : parsed (text (replicate 65 40)) ≡ Err NestedTooDeep
+unfolding parsed
 brackets_65 = refl
 
 -- a closing bracket takes one away only where one is open
@@ -110,4 +121,5 @@ closing_first = refl
 
 -- a fault of the tokens comes before the nesting
 tokens_first : parsed (text (replicate 65 40 ++ codes "'")) ≡ Err XPST0003
+unfolding parsed
 tokens_first = refl

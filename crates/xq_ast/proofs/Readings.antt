@@ -178,6 +178,7 @@ read_is ts pyx _ (answers.IsRead.a_call well is good) = rw (well, call_complete 
 
 -- what the relation says of a text is what is read
 pub parsed_is : (c : CallText) (r : Result Call Code) → Parsed c r → parsed c ≡ r
+unfolding parsed
 parsed_is c _ (answers.Parsed.too_long long) = rw (passes (length c.text) CALL_BYTES_MAX long) refl
 parsed_is c _ (answers.Parsed.no_tokens short none) = rw (fits (length c.text) CALL_BYTES_MAX short, none) refl
 parsed_is c r (answers.Parsed.read short split is) = rw (fits (length c.text) CALL_BYTES_MAX short, split) (read_is _ c.pyx r is)
@@ -204,6 +205,7 @@ length_holds c false long = answers.Parsed.too_long (passes_from (length c.text)
 
 -- what is read of a text is what the relation says of it; so each text is a call or is refused
 pub parsed_holds : (c : CallText) → Parsed c (parsed c)
+unfolding parsed
 parsed_holds c = length_holds c (nat_le (length c.text) CALL_BYTES_MAX) refl
 
 -- and in one way

@@ -60,5 +60,5 @@ read_tokens None pyx = Err XPST0003
 read_tokens (Some ts) pyx = if is_nested_well ts then named_well (call_of ts pyx) else Err NestedTooDeep
 
 -- what a call's text is
-abbrev pub parsed : CallText → Result Call Code
+unfoldable pub parsed : CallText → Result Call Code
 parsed c = if nat_le (length c.text) CALL_BYTES_MAX then read_tokens (tokens c.text) c.pyx else Err TooLong
