@@ -1,0 +1,3 @@
+pub mod Entries
+pub mod Leasts
+pub mod Grants

@@ -1,0 +1,5 @@
+pub mod Names
+pub mod Locks
+pub mod Refusal
+pub mod Lends
+pub mod Least
