@@ -1,8 +1,9 @@
 -- Texts of journals, computed.
-use Rattle.std.proofs.Common.{◌≡◌, ℕ, true, false, List, [], ◌∷◌, ◌++◌, Option, None, Some, refl}
+use Rattle.std.proofs.Common.{◌≡◌, ℕ, true, false, List, [], ◌∷◌, ◌++◌, Option, None, Some, refl, arith}
+use Rattle.std.proofs.lemmas.Fmt.{decimal_digit}
 use Rattle.std.specs.Prelude.{codes}
 use Rattle.xq_ast.specs.declared.call.Call.TheVariants.{Load, Export}
-use Rattle.xq_ast.specs.declared.code.SpentKind.TheVariants as spent
+use Rattle.xq_ast.specs.declared.refusal.PyxRefusal.TheVariants as pyx
 use Rattle.xq_ast.specs.declared.code.Code.TheVariants as codes_of
 use Rattle.xq_ast.specs.declared.need.LockMode.{LockMode}
 use Rattle.xq_ast.specs.declared.need.LockMode.TheVariants.{S, X}
@@ -34,18 +35,18 @@ reader_beside_loader : text (
     ∷ Ended 2
     ∷ [])
     ≡ codes "1 began update\n1 granted 'd' X\n1 done\n2 began read 0\n1 committed 1\n2 error FODC0002\n2 ended\n2 began read 1\n2 answer 2\n(a\n)a\n2 ended\n"
-reader_beside_loader = refl
+reader_beside_loader = rw (decimal_digit 0 (omega arith), decimal_digit 1 (omega arith), decimal_digit 2 (omega arith)) refl
 
 other_events : text (
-    Granted 12 (need (codes "a") S ∷ need (codes "it's") X ∷ [])
-    ∷ Refused 2 (codes "it's") 12 (need (codes "it's") X ∷ [])
-    ∷ Answered 2 (answer (says.Error (codes_of.Spent spent.Generation 18446744073709551615)))
+    Granted 3 (need (codes "a") S ∷ need (codes "it's") X ∷ [])
+    ∷ Refused 2 (codes "it's") 3 (need (codes "it's") X ∷ [])
+    ∷ Answered 2 (answer (says.Error (codes_of.Pyx pyx.BadLine 2)))
     ∷ Answered 2 (answer (says.Lines []))
     ∷ RolledBack 2
-    ∷ Doubt 12 7 (record { before = 0; after = 1 })
-    ∷ Settled 2 12 true
-    ∷ Settled 12 12 false
-    ∷ Left 12
+    ∷ Doubt 3 7 (record { before = 0; after = 1 })
+    ∷ Settled 2 3 true
+    ∷ Settled 3 3 false
+    ∷ Left 3
     ∷ [])
-    ≡ codes "12 granted 'a' S, 'it''s' X\n2 refused 'it''s' by 12\n2 error Spent generation 18446744073709551615\n2 answer 0\n2 rolled back\n12 doubt 7\n2 settled 12 yes\n12 settled 12 no\n12 left\n"
-other_events = refl
+    ≡ codes "3 granted 'a' S, 'it''s' X\n2 refused 'it''s' by 3\n2 error Pyx BadLine 2\n2 answer 0\n2 rolled back\n3 doubt 7\n2 settled 3 yes\n3 settled 3 no\n3 left\n"
+other_events = rw (decimal_digit 0 (omega arith), decimal_digit 2 (omega arith), decimal_digit 3 (omega arith), decimal_digit 7 (omega arith)) refl
