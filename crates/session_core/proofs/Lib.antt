@@ -1,4 +1,8 @@
 pub mod Sessions
+pub mod Holding
+pub mod Covering
+pub mod Turning
+pub mod Growing
 mod WorkedCalls
 mod WorkedStatements
 mod ReaderBesideLoader

@@ -25,7 +25,6 @@ use Rattle.session_core.proofs.Sessions.{◌⊳◌, by_session, free_where_none}
 use Rattle.session_core.proofs.WorkedStatements.{load_says, export_before, export_behind}
 use Rattle.session_core.proofs.WorkedCalls.{d, element, begin, begin_read, commit, load, export, begin_is, begin_read_is, commit_is, load_is, export_is, shared, exclusive}
 
-
 -- nothing is there, the commit number is 0
 abbrev pub B : Base
 B = record { commit = 0; generation = 1; forest = no_documents }
@@ -83,14 +82,16 @@ closed_at_end s first second = rw (first, second) refl
 
 unfinished : IsUnfinished B (past_of journal)
 unfinished = record {
-    each = tt ⊳ tt ⊳ tt ⊳ tt ⊳ tt ⊳ tt ⊳ tt ⊳ tt ⊳ tt ⊳ tt ⊳ tt;
-    at_end = by_session (λ s. RunsNext B s (past_of journal)) tt tt (λ s first second. subst (λ o. AllInTurn (newest B (past_of journal)) (updating o)) (sym (closed_at_end s first second)) tt) }
+  each = tt ⊳ tt ⊳ tt ⊳ tt ⊳ tt ⊳ tt ⊳ tt ⊳ tt ⊳ tt ⊳ tt ⊳ tt;
+  at_end = by_session (λ s. RunsNext B s (past_of journal)) tt tt (λ s first second. subst (λ o. AllInTurn (newest B (past_of journal)) (updating o)) (sym (closed_at_end s first second)) tt);
+}
 
 refusals : IsOrdered P (past_of journal)
 refusals = record {
-    by_state = refl ⊳ inr refl ⊳ refl ⊳ refl ⊳ inr refl ⊳ refl ⊳ refl ⊳ inr refl ⊳ tt ⊳ refl ⊳ tt;
-    by_text = tt ⊳ record { what = Ok (Export d); parsed = export_is; answers = tt } ⊳ tt ⊳ tt ⊳ record { what = Ok (Export d); parsed = export_is; answers = tt }
-        ⊳ tt ⊳ tt ⊳ record { what = Ok (Load d element); parsed = load_is; answers = tt } ⊳ tt ⊳ tt ⊳ tt }
+  by_state = refl ⊳ inr refl ⊳ refl ⊳ refl ⊳ inr refl ⊳ refl ⊳ refl ⊳ inr refl ⊳ tt ⊳ refl ⊳ tt;
+  by_text = tt ⊳ record { what = Ok (Export d); parsed = export_is; answers = tt } ⊳ tt ⊳ tt ⊳ record { what = Ok (Export d); parsed = export_is; answers = tt }
+      ⊳ tt ⊳ tt ⊳ record { what = Ok (Load d element); parsed = load_is; answers = tt } ⊳ tt ⊳ tt ⊳ tt;
+}
 
 settling : AtEach (SettlingAt B) (past_of journal)
 settling =
@@ -109,19 +110,20 @@ nothing_closed (suc (suc (suc s))) first second = rw (first, second) refl
 
 closes : IsClosed P (past_of journal)
 closes = record {
-    each =
-        (record { what = Ok Commit; parsed = commit_is; closes = refl }, refl)
-        ⊳ (record { what = Ok (Export d); parsed = export_is; closes = inl refl }, refl)
-        ⊳ (record { what = Ok BeginRead; parsed = begin_read_is; closes = refl }, refl)
-        ⊳ (record { what = Ok Commit; parsed = commit_is; closes = refl }, refl)
-        ⊳ (record { what = Ok (Export d); parsed = export_is; closes = inl refl }, refl)
-        ⊳ (record { what = Ok Commit; parsed = commit_is; closes = refl }, refl)
-        ⊳ (record { what = Ok BeginRead; parsed = begin_read_is; closes = refl }, refl)
-        ⊳ (record { what = Ok (Load d element); parsed = load_is; closes = inl refl }, refl)
-        ⊳ (record { call = Load d element; parsed = load_is; needs_are = refl }, refl)
-        ⊳ (record { what = Ok Begin; parsed = begin_is; closes = refl }, refl)
-        ⊳ tt;
-    at_end = by_session (λ s. (closed_of s (past_of journal) ≡ length (calls_of P s)) × (is_open (state s (past_of journal)) ≡ false)) (refl, refl) (refl, refl) (λ s first second. (nothing_closed s first second, ap (λ o. is_open (state_with o)) (closed_at_end s first second))) }
+  each =
+      (record { what = Ok Commit; parsed = commit_is; closes = refl }, refl)
+      ⊳ (record { what = Ok (Export d); parsed = export_is; closes = inl refl }, refl)
+      ⊳ (record { what = Ok BeginRead; parsed = begin_read_is; closes = refl }, refl)
+      ⊳ (record { what = Ok Commit; parsed = commit_is; closes = refl }, refl)
+      ⊳ (record { what = Ok (Export d); parsed = export_is; closes = inl refl }, refl)
+      ⊳ (record { what = Ok Commit; parsed = commit_is; closes = refl }, refl)
+      ⊳ (record { what = Ok BeginRead; parsed = begin_read_is; closes = refl }, refl)
+      ⊳ (record { what = Ok (Load d element); parsed = load_is; closes = inl refl }, refl)
+      ⊳ (record { call = Load d element; parsed = load_is; needs_are = refl }, refl)
+      ⊳ (record { what = Ok Begin; parsed = begin_is; closes = refl }, refl)
+      ⊳ tt;
+  at_end = by_session (λ s. (closed_of s (past_of journal) ≡ length (calls_of P s)) × (is_open (state s (past_of journal)) ≡ false)) (refl, refl) (refl, refl) (λ s first second. (nothing_closed s first second, ap (λ o. is_open (state_with o)) (closed_at_end s first second)));
+}
 
 pub is_legal : Legal journal B P
 is_legal = record { closes = closes; locks = locks; serial = serial; snapshots = snapshots; unfinished = unfinished; refusals = refusals; settling = settling; marks = marks }

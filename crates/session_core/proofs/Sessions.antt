@@ -17,9 +17,9 @@ by_session Fact one two others s =
     elim (1 == s) as (λ b. (1 == s) ≡ b → Fact s) [
       | true ↦ λ first. subst Fact (eqb-true 1 s first) one
       | false ↦ λ not_first. elim (2 == s) as (λ b. (2 == s) ≡ b → Fact s) [
-          | true ↦ λ second. subst Fact (eqb-true 2 s second) two
-          | false ↦ λ not_second. others s not_first not_second
-        ] refl
+        | true ↦ λ second. subst Fact (eqb-true 2 s second) two
+        | false ↦ λ not_second. others s not_first not_second
+      ] refl
     ] refl
 
 -- where no other session has a transaction that holds the name, the need is free

@@ -93,13 +93,15 @@ ends = by_session (λ s. (closed_of s (past_of journal) ≡ length (calls_of P s
 
 unfinished : IsUnfinished B (past_of journal)
 unfinished = record {
-    each = tt ⊳ ((create_says, tt), tt) ⊳ tt ⊳ tt ⊳ tt ⊳ tt ⊳ tt;
-    at_end = by_session (λ s. RunsNext B s (past_of journal)) tt tt none_runs }
+  each = tt ⊳ ((create_says, tt), tt) ⊳ tt ⊳ tt ⊳ tt ⊳ tt ⊳ tt;
+  at_end = by_session (λ s. RunsNext B s (past_of journal)) tt tt none_runs;
+}
 
 refusals : IsOrdered P (past_of journal)
 refusals = record {
-    by_state = inr refl ⊳ tt ⊳ refl ⊳ inr refl ⊳ tt ⊳ refl ⊳ tt;
-    by_text = record { what = Ok Commit; parsed = commit_is; answers = tt } ⊳ tt ⊳ tt ⊳ record { what = Ok (Create d); parsed = create_is; answers = tt } ⊳ tt ⊳ tt ⊳ tt }
+  by_state = inr refl ⊳ tt ⊳ refl ⊳ inr refl ⊳ tt ⊳ refl ⊳ tt;
+  by_text = record { what = Ok Commit; parsed = commit_is; answers = tt } ⊳ tt ⊳ tt ⊳ record { what = Ok (Create d); parsed = create_is; answers = tt } ⊳ tt ⊳ tt ⊳ tt;
+}
 
 settling : AtEach (SettlingAt B) (past_of journal)
 settling =
@@ -113,15 +115,16 @@ marks = (tt, tt) ⊳ (tt, tt) ⊳ ((inl (omega arith), tt), tt) ⊳ (tt, tt) ⊳
 
 closes : IsClosed P (past_of journal)
 closes = record {
-    each =
-        (record { what = Ok Commit; parsed = commit_is; closes = inl refl }, refl)
-        ⊳ (inl refl, refl)
-        ⊳ (record { what = Ok Commit; parsed = commit_is; closes = refl }, refl)
-        ⊳ (record { what = Ok (Create d); parsed = create_is; closes = inl refl }, refl)
-        ⊳ (record { call = Create d; parsed = create_is; needs_are = refl }, refl)
-        ⊳ (record { what = Ok Begin; parsed = begin_is; closes = refl }, refl)
-        ⊳ tt;
-    at_end = ends }
+  each =
+      (record { what = Ok Commit; parsed = commit_is; closes = inl refl }, refl)
+      ⊳ (inl refl, refl)
+      ⊳ (record { what = Ok Commit; parsed = commit_is; closes = refl }, refl)
+      ⊳ (record { what = Ok (Create d); parsed = create_is; closes = inl refl }, refl)
+      ⊳ (record { call = Create d; parsed = create_is; needs_are = refl }, refl)
+      ⊳ (record { what = Ok Begin; parsed = begin_is; closes = refl }, refl)
+      ⊳ tt;
+  at_end = ends;
+}
 
 pub is_legal : Legal journal B P
 is_legal = record { closes = closes; locks = locks; serial = serial; snapshots = snapshots; unfinished = unfinished; refusals = refusals; settling = settling; marks = marks }

@@ -94,13 +94,15 @@ ends = by_session (λ s. (closed_of s (past_of journal) ≡ length (calls_of P s
 
 unfinished : IsUnfinished B (past_of journal)
 unfinished = record {
-    each = tt ⊳ tt ⊳ tt ⊳ tt ⊳ tt ⊳ tt ⊳ tt ⊳ tt;
-    at_end = by_session (λ s. RunsNext B s (past_of journal)) tt tt none_runs }
+  each = tt ⊳ tt ⊳ tt ⊳ tt ⊳ tt ⊳ tt ⊳ tt ⊳ tt;
+  at_end = by_session (λ s. RunsNext B s (past_of journal)) tt tt none_runs;
+}
 
 refusals : IsOrdered P (past_of journal)
 refusals = record {
-    by_state = refl ⊳ tt ⊳ refl ⊳ refl ⊳ inr refl ⊳ tt ⊳ refl ⊳ tt;
-    by_text = tt ⊳ tt ⊳ tt ⊳ tt ⊳ record { what = Ok (Create d); parsed = create_is; answers = tt } ⊳ tt ⊳ tt ⊳ tt }
+  by_state = refl ⊳ tt ⊳ refl ⊳ refl ⊳ inr refl ⊳ tt ⊳ refl ⊳ tt;
+  by_text = tt ⊳ tt ⊳ tt ⊳ tt ⊳ record { what = Ok (Create d); parsed = create_is; answers = tt } ⊳ tt ⊳ tt ⊳ tt;
+}
 
 settling : AtEach (SettlingAt B) (past_of journal)
 settling =
@@ -115,16 +117,17 @@ marks = (tt, tt) ⊳ (tt, tt) ⊳ (tt, tt) ⊳ ((inl (omega arith), tt), tt) ⊳
 
 closes : IsClosed P (past_of journal)
 closes = record {
-    each =
-        (record { what = Ok Commit; parsed = commit_is; closes = refl }, refl)
-        ⊳ (inr (record { call = Commit; parsed = commit_is; writes = refl }), refl)
-        ⊳ (record { what = Ok Begin; parsed = begin_is; closes = refl }, refl)
-        ⊳ (record { what = Ok Commit; parsed = commit_is; closes = refl }, refl)
-        ⊳ (record { what = Ok (Create d); parsed = create_is; closes = inl refl }, refl)
-        ⊳ (record { call = Create d; parsed = create_is; needs_are = refl }, refl)
-        ⊳ (record { what = Ok Begin; parsed = begin_is; closes = refl }, refl)
-        ⊳ tt;
-    at_end = ends }
+  each =
+      (record { what = Ok Commit; parsed = commit_is; closes = refl }, refl)
+      ⊳ (inr (record { call = Commit; parsed = commit_is; writes = refl }), refl)
+      ⊳ (record { what = Ok Begin; parsed = begin_is; closes = refl }, refl)
+      ⊳ (record { what = Ok Commit; parsed = commit_is; closes = refl }, refl)
+      ⊳ (record { what = Ok (Create d); parsed = create_is; closes = inl refl }, refl)
+      ⊳ (record { call = Create d; parsed = create_is; needs_are = refl }, refl)
+      ⊳ (record { what = Ok Begin; parsed = begin_is; closes = refl }, refl)
+      ⊳ tt;
+  at_end = ends;
+}
 
 pub is_legal : Legal journal B P
 is_legal = record { closes = closes; locks = locks; serial = serial; snapshots = snapshots; unfinished = unfinished; refusals = refusals; settling = settling; marks = marks }

@@ -39,6 +39,5 @@ written = rw (fold-Element (List Line) pyx_step (codes "a") [] []) refl
 pub export_behind : says.Lines element ≡ says_of (exported (forests.get (stmt no_documents (Load d element)).forest d))
 export_behind = sym (ap (λ o. says_of (exported o)) present ∙ ap (λ all. says_of (answer_of all)) written)
 
-
 pub create_says : says.Done ≡ says_of (stmt no_documents (Create d)).says
 create_says = sym (ap (λ o. says_of (added_where_free o d (Ok (record { kids = [] })) no_documents).says) absent)

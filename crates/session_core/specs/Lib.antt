@@ -8,3 +8,4 @@ pub mod Settling
 pub mod Marks
 pub mod Closes
 pub mod Legal
+pub mod Steps

@@ -95,18 +95,22 @@ keeps Rollback other = record { says = λ F G same. refl; after = λ F G same. t
 keeps Checkpoint other = record { says = λ F G same. refl; after = λ F G same. tt; elsewhere = λ F q e. refl }
 keeps ShowDocuments other = absurd (other refl)
 keeps (Create name) other = record {
-    says = λ F G same. adding name (Ok (record { kids = [] })) F G same.0;
-    after = λ F G same. (adding_after name (Ok (record { kids = [] })) F G same.0, tt);
-    elsewhere = λ F q e. added_elsewhere name q (forests.get F name) (Ok (record { kids = [] })) F (first_false _ e) }
+  says = λ F G same. adding name (Ok (record { kids = [] })) F G same.0;
+  after = λ F G same. (adding_after name (Ok (record { kids = [] })) F G same.0, tt);
+  elsewhere = λ F q e. added_elsewhere name q (forests.get F name) (Ok (record { kids = [] })) F (first_false _ e);
+}
 keeps (Load name lines) other = record {
-    says = λ F G same. adding name (read lines) F G same.0;
-    after = λ F G same. (adding_after name (read lines) F G same.0, tt);
-    elsewhere = λ F q e. added_elsewhere name q (forests.get F name) (read lines) F (first_false _ e) }
+  says = λ F G same. adding name (read lines) F G same.0;
+  after = λ F G same. (adding_after name (read lines) F G same.0, tt);
+  elsewhere = λ F q e. added_elsewhere name q (forests.get F name) (read lines) F (first_false _ e);
+}
 keeps (Drop name) other = record {
-    says = λ F G same. ap (λ o. (dropped o name F).says) same.0 ∙ dropped_says name (forests.get G name) F G;
-    after = λ F G same. (ap (λ o. forests.get (dropped o name F).forest name) same.0 ∙ dropped_after name (forests.get G name) F G same.0, tt);
-    elsewhere = λ F q e. dropped_elsewhere name q (forests.get F name) F (first_false _ e) }
+  says = λ F G same. ap (λ o. (dropped o name F).says) same.0 ∙ dropped_says name (forests.get G name) F G;
+  after = λ F G same. (ap (λ o. forests.get (dropped o name F).forest name) same.0 ∙ dropped_after name (forests.get G name) F G same.0, tt);
+  elsewhere = λ F q e. dropped_elsewhere name q (forests.get F name) F (first_false _ e);
+}
 keeps (Export name) other = record {
-    says = λ F G same. ap exported same.0;
-    after = λ F G same. same;
-    elsewhere = λ F q e. refl }
+  says = λ F G same. ap exported same.0;
+  after = λ F G same. same;
+  elsewhere = λ F q e. refl;
+}

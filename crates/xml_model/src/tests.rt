@@ -1,11 +1,11 @@
 use crate::{
-    Attr, AttrList, Doc, Measure, Node, NodeList, Place, PlaceStep, first_line, is_name,
+    Attr, AttrList, Doc, Measure, Node, NodeList, Place, PlaceStep, first_line, is_name, needs,
     place_order,
 };
 use std::alloc::Global;
 use std::cmp::Ordering;
 use std::test::Fail;
-use xq_ast::{Items, NoMemory, Sequence, Str};
+use xq_ast::{Call, Items, LockMode, NoMemory, Sequence, Str};
 
 #[test]
 fn a_name_is_told_by_its_bytes(rt: HostRuntime) -> Result<(), Fail> {
@@ -186,4 +186,34 @@ fn a_text_is_cut_at_its_first_newline(rt: HostRuntime) {
         let first = first_line(text).map(|f| (f.line, f.is_ended, f.rest));
         assert_eq!(rt; first, Some((line, is_ended, rest)), "of {text:?}");
     }
+}
+
+#[test]
+fn calls_need_locks_on_their_names(rt: HostRuntime) -> Result<(), Fail> {
+    let alloc = rt.alloc();
+    let name = Str::of(alloc, "d")?;
+    let load = Call::Load {
+        name: name.copy()?,
+        pyx: Sequence::new(alloc),
+    };
+    let create = Call::Create { name: name.copy()? };
+    let drop = Call::Drop { name: name.copy()? };
+    let export = Call::Export { name };
+    for (call, want) in [
+        (load, Some(LockMode::X)),
+        (create, Some(LockMode::X)),
+        (drop, Some(LockMode::X)),
+        (export, Some(LockMode::S)),
+        (Call::ShowDocuments, None),
+        (Call::Commit, None),
+    ] {
+        let all = needs(alloc, &call)?;
+        let mode = all.as_slice().first().map(|need| need.mode);
+        assert_eq!(rt; mode, want, "of {call:?}");
+        assert_eq!(rt;
+            all.as_slice().iter().all(|need| need.name.as_str() == "d"),
+            true
+        );
+    }
+    Ok(())
 }

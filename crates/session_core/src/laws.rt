@@ -1,0 +1,20 @@
+// These functions do nothing. The contract of each is a law, proved over the definitions alone.
+
+ghost use Rattle.std.specs.Prelude.{List, [], ◌∷◌, ◌++◌};
+ghost use Rattle.session_core.specs.declared.event.Event.{Event};
+ghost use Rattle.session_core.specs.History.{past_of};
+ghost use Rattle.session_core.specs.Legal.{SoFar};
+ghost use Rattle.session_core.specs.Steps.{IsStep};
+ghost use Rattle.session_core.specs.Transactions.{Base};
+
+/// A journal without events is legal so far.
+pub fn an_empty_journal_is_legal()
+    ensures { (B : Base) → SoFar B [] }
+{}
+
+/// A journal that is legal so far is legal with one event more that meets its own clauses. So locks
+/// that are kept to a transaction's end, and calls that keep to their needs, make one serial order
+/// of all transactions.
+pub fn a_legal_journal_grows()
+    ensures { (B : Base) (journal : List Event) (e : Event) → SoFar B journal → IsStep B e (past_of journal) → SoFar B (journal ++ e ∷ []) }
+{}
