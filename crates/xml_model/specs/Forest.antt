@@ -1,10 +1,13 @@
 -- Forests: finite maps from document names to valid documents.
-use Rattle.std.specs.Prelude.{ℕ, List, IsTrue, IfSome}
+use Rattle.std.specs.Prelude.{ℕ, List, map as list_map, string_bytes, IsTrue, IfSome}
+use Rattle.std.specs.Coded.{Coded, coded_ℕ, coded_list}
 use Rattle.std.specs.FinMap as map
 use Rattle.std.specs.Ordering.{nat_cmp}
 use Rattle.std.specs.Cmp.Lexicographic.{slice_cmp}
+use Rattle.std.specs.declared.string.String.{String}
 use Rattle.xq_ast.specs.Parsed.{is_document_name}
 use Rattle.xml_model.specs.declared.node.Doc.{Doc}
+use Rattle.xml_model.specs.contracts.node.Doc as the_doc
 use Rattle.xml_model.specs.Document.{IsValid}
 
 -- names are ordered by their bytes
@@ -17,3 +20,11 @@ no_documents = map.empty
 -- each document is valid, and its name is a name of a document
 abbrev pub IsForest : Forest → Type 0
 IsForest F = (name : List ℕ) → IfSome (map.get F name) (λ doc. IsTrue (is_document_name name) × IsValid doc)
+
+-- ---- how a forest is kept: entries of texts and documents
+
+abbrev pub forest_code : Coded Forest
+forest_code = map.code (coded_list coded_ℕ) the_doc.the_row.coded
+
+abbrev pub forest_of_entries : {A : Type 0} → List (String A × Doc) → Forest
+forest_of_entries es = map.from_entries (list_map (λ e. (string_bytes e.0, e.1)) es)

@@ -11,6 +11,7 @@
 
 mod call_needs;
 mod copy;
+mod forest;
 mod laws;
 mod limits;
 mod measure;
@@ -22,6 +23,7 @@ mod tests;
 mod text_lines;
 
 pub use call_needs::needs;
+pub use forest::DocMap;
 pub use laws::{
     calls_keep_to_their_needs, canonical_text_is_read_again, pyx_is_read_again,
     statements_keep_forests, what_is_counted, what_is_read_is_valid,

@@ -1,6 +1,6 @@
 use crate::{
-    Attr, AttrList, Doc, Measure, Node, NodeList, Place, PlaceStep, first_line, is_name, needs,
-    place_order,
+    Attr, AttrList, Doc, DocMap, Measure, Node, NodeList, Place, PlaceStep, first_line, is_name,
+    needs, place_order,
 };
 use std::alloc::Global;
 use std::cmp::Ordering;
@@ -215,5 +215,26 @@ fn calls_need_locks_on_their_names(rt: HostRuntime) -> Result<(), Fail> {
             true
         );
     }
+    Ok(())
+}
+
+#[test]
+fn documents_are_kept_by_name(rt: HostRuntime) -> Result<(), Fail> {
+    let alloc = rt.alloc();
+    let name = Str::of(alloc, "d")?;
+    let other = Str::of(alloc, "e")?;
+    let mut docs = DocMap::new(alloc);
+    docs.insert(name.copy()?, every_kind(alloc)?)?;
+    docs.insert(
+        other.copy()?,
+        Doc {
+            kids: Items::new(alloc),
+        },
+    )?;
+    let count = docs.get(&name).map(|doc| doc.kids.as_slice().len());
+    assert_eq!(rt; count, Some(every_kind(alloc)?.kids.as_slice().len()));
+    docs.remove(&name);
+    assert_eq!(rt; docs.get(&name).is_none(), true);
+    assert_eq!(rt; docs.get(&other).is_some(), true);
     Ok(())
 }
