@@ -1,19 +1,23 @@
-ghost use Rattle.std.specs.Prelude.{◌≡◌, option_map};
+ghost use Rattle.std.specs.Prelude.{◌≡◌, ◌≤◌, length, option_map};
 ghost use Rattle.std.specs.List.{prefix_len};
 ghost use Rattle.xq_ast.specs.Tokens as spec;
 
 use crate::characters::{begins_part, continues_part, is_digit};
 
 /// How many bytes from the first on continue a part of a name.
+#[tactic(auto, using(crate::proofs::Fronts::prefix_len_le))]
 pub(crate) fn part_len(bytes: &[u8]) -> usize
-    ensures { result ≡ prefix_len spec.continues_part bytes.now }
+    ensures count { result ≡ prefix_len spec.continues_part bytes.now }
+    ensures within { result ≤ length bytes.now }
 {
     bytes.iter().take_while(|b| continues_part(**b)).count()
 }
 
 /// How many bytes from the first on are digits.
+#[tactic(auto, using(crate::proofs::Fronts::prefix_len_le))]
 pub(crate) fn digits_len(bytes: &[u8]) -> usize
-    ensures { result ≡ prefix_len spec.is_digit bytes.now }
+    ensures count { result ≡ prefix_len spec.is_digit bytes.now }
+    ensures within { result ≤ length bytes.now }
 {
     bytes.iter().take_while(|b| is_digit(**b)).count()
 }

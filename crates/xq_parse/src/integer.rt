@@ -1,10 +1,8 @@
-ghost use Rattle.std.specs.Prelude.{◌≡◌, ◌<◌, ◌≤◌, fold, pos, MatchOption, option_map};
+ghost use Rattle.std.specs.Prelude.{◌≡◌, ◌<◌, ◌≤◌, fold, MatchOption};
 ghost use Rattle.xq_ast.specs.Tokens as spec;
-ghost use Rattle.xq_ast.specs.Tokens.{◌>>=◌};
 ghost use Rattle.xq_ast.specs.declared.limits.TheConstants.{INTEGER_MAX};
-ghost use Rattle.xq_ast.specs.declared.token.Token.TheVariants as token;
 ghost use Rattle.xq_parse.specs.Reads.{Reads};
-ghost use Rattle.xq_parse.specs.Pieces.{piece_of};
+ghost use Rattle.xq_parse.specs.Pieces.{piece_of, integer_token};
 
 use crate::answer::ParseEnd;
 use crate::front::{digits_len, part_continues};
@@ -28,7 +26,7 @@ fn value_of(digits: &[u8]) -> Option<u64>
 
 /// The integer that begins here.
 pub(crate) fn integer_piece(bytes: &[u8]) -> Result<Piece<'_>, ParseEnd>
-    ensures { Reads piece_of result (spec.integer bytes.now >>= spec.a_token (λ n. token.Int (pos n))) }
+    ensures { Reads piece_of result (integer_token bytes.now) }
 {
     let (digits, rest) = bytes.split_at(digits_len(bytes));
     match value_of(digits) {

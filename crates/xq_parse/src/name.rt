@@ -1,4 +1,4 @@
-ghost use Rattle.std.specs.Prelude.{◌≡◌, ◌≤◌, ◌++◌, ℕ, List, take, drop, length, IfOk, IsUtf8};
+ghost use Rattle.std.specs.Prelude.{◌≡◌, ◌≤◌, ◌++◌, ℕ, List, take, drop, length, IfOk, IsUtf8, true};
 ghost use Rattle.xq_ast.specs.Tokens as spec;
 ghost use Rattle.xq_ast.specs.declared.token.Token.TheVariants as token;
 ghost use Rattle.xq_parse.specs.Reads.{Reads};
@@ -50,7 +50,8 @@ fn name_len(bytes: &[u8]) -> usize
 
 /// The name that begins here.
 pub(crate) fn name_piece(alloc: Global, bytes: &[u8]) -> Result<Piece<'_>, ParseEnd>
-    requires { IsUtf8 bytes.now }
+    requires utf8 { IsUtf8 bytes.now }
+    requires begins { spec.begins spec.begins_part bytes.now ≡ true }
     ensures { Reads piece_of result (spec.a_token token.Name (spec.name bytes.now)) }
 {
     let (name, rest) = bytes.split_at(name_len(bytes));

@@ -5,16 +5,16 @@ ghost use Rattle.xq_ast.specs.declared.limits.TheConstants.{BRACKETS_MAX};
 use xq_ast::{BRACKETS_MAX, NESTING_WORDS_MAX, Symbol, Token};
 
 /// The brackets that are open behind a token, of `open` before it.
-fn open_behind(open: usize, token: &Token) -> usize
-    requires { open ≤ BRACKETS_MAX }
-    ensures { result ≡ spec.open_behind open token.now }
+fn open_behind(opened: usize, token: &Token) -> usize
+    requires { opened ≤ BRACKETS_MAX }
+    ensures { result ≡ spec.open_behind opened token.now }
 {
     match token {
-        Token::Symbol(Symbol::OpenRound | Symbol::OpenSquare | Symbol::OpenCurly) => open + 1,
+        Token::Symbol(Symbol::OpenRound | Symbol::OpenSquare | Symbol::OpenCurly) => opened + 1,
         Token::Symbol(Symbol::CloseRound | Symbol::CloseSquare | Symbol::CloseCurly) => {
-            open.saturating_sub(1)
+            opened.saturating_sub(1)
         }
-        _ => open,
+        _ => opened,
     }
 }
 
@@ -22,10 +22,10 @@ fn open_behind(open: usize, token: &Token) -> usize
 fn are_brackets_few(tokens: &[Token]) -> bool
     ensures { result ≡ nat_le (spec.most_open 0 tokens.now) BRACKETS_MAX }
 {
-    let mut open = 0;
+    let mut opened = 0;
     for token in tokens {
-        open = open_behind(open, token);
-        if open > BRACKETS_MAX {
+        opened = open_behind(opened, token);
+        if opened > BRACKETS_MAX {
             return false;
         }
     }

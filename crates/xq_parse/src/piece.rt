@@ -1,4 +1,4 @@
-ghost use Rattle.std.specs.Prelude.{◌≡◌, length, IsUtf8};
+ghost use Rattle.std.specs.Prelude.{◌≡◌, ◌++◌, [], OnOk, IsUtf8};
 ghost use Rattle.xq_ast.specs.Tokens as spec;
 ghost use Rattle.xq_parse.specs.Reads.{Reads};
 ghost use Rattle.xq_parse.specs.Pieces.{piece_of};
@@ -10,7 +10,7 @@ use crate::name::name_piece;
 use crate::string::string_piece;
 use crate::symbol::mark_piece;
 use std::alloc::Global;
-use xq_ast::{Token, TokenList};
+use xq_ast::{NoMemory, Token, TokenList};
 
 /// A token, or none where a space or a comment parts tokens, and the bytes behind it.
 #[derive(Drop)]
@@ -42,6 +42,16 @@ fn first_piece(alloc: Global, bytes: &[u8]) -> Result<Piece<'_>, ParseEnd>
     mark_piece(bytes)
 }
 
+/// Adds the token, where there is one.
+fn add(all: &mut TokenList, token: Option<Token>) -> Result<(), NoMemory>
+    ensures { OnOk result (all.new ≡ all.old ++ spec.with_piece token []) }
+{
+    match token {
+        Some(token) => all.push(token),
+        None => Ok(()),
+    }
+}
+
 /// The tokens of a text.
 pub(crate) fn tokens(alloc: Global, text: &str) -> Result<TokenList, ParseEnd>
     ensures { Reads (λ ts. ts) result (spec.tokens text.now) }
@@ -50,10 +60,8 @@ pub(crate) fn tokens(alloc: Global, text: &str) -> Result<TokenList, ParseEnd>
     let mut rest = text.as_bytes();
     'pieces: while !rest.is_empty() {
         let piece = first_piece(alloc, rest)?;
-        if let Some(token) = piece.token {
-            all.push(token)?;
-        }
         rest = piece.rest;
+        add(&mut all, piece.token)?;
     }
     Ok(all)
 }

@@ -1,4 +1,5 @@
-ghost use Rattle.std.specs.Prelude.{◌≡◌, ℕ, List};
+ghost use Rattle.std.specs.Prelude.{◌≡◌, ℕ, List, nat_le};
+ghost use Rattle.std.specs.List.{list_all};
 ghost use Rattle.xq_ast.specs.Readings as spec;
 ghost use Rattle.xq_ast.specs.Parsed.{is_document_name, has_good_names};
 ghost use Rattle.xq_ast.specs.declared.call.Call.{Call};
@@ -83,10 +84,17 @@ pub(crate) fn call_of(alloc: Global, tokens: &[Token], pyx: &StrList) -> Result<
     }
 }
 
+/// Whether no character is below U+0020.
+fn is_printed(bytes: &[u8]) -> bool
+    ensures { result ≡ list_all (nat_le 32) bytes.now }
+{
+    bytes.iter().all(|b| 32 <= *b)
+}
+
 fn is_document_name(name: &[u8]) -> bool
     ensures { result ≡ is_document_name name.now }
 {
-    !name.is_empty() && name.len() <= DOCUMENT_NAME_BYTES_MAX && name.iter().all(|b| *b >= b' ')
+    1 <= name.len() && (name.len() <= DOCUMENT_NAME_BYTES_MAX && is_printed(name))
 }
 
 /// Whether the names in a call are names.

@@ -1,9 +1,7 @@
-ghost use Rattle.std.specs.Prelude.{◌≡◌, ◌∷◌, [], length, option_map, IsUtf8};
+ghost use Rattle.std.specs.Prelude.{◌≡◌, ◌<◌, ◌∷◌, [], length, IsUtf8};
 ghost use Rattle.xq_ast.specs.Tokens as spec;
-ghost use Rattle.xq_ast.specs.Tokens.{◌>>=◌};
-ghost use Rattle.xq_ast.specs.declared.token.Token.TheVariants as token;
 ghost use Rattle.xq_parse.specs.Reads.{Reads};
-ghost use Rattle.xq_parse.specs.Pieces.{piece_of, part_of};
+ghost use Rattle.xq_parse.specs.Pieces.{piece_of, part_of, string_token};
 
 use crate::answer::ParseEnd;
 use crate::front::behind;
@@ -75,6 +73,7 @@ struct StringText<'a> {
 }
 
 fn string(alloc: Global, quote: u8, bytes: &[u8]) -> Result<StringText<'_>, ParseEnd>
+    requires { quote < 128 }
     ensures { Reads (λ s. (s.bytes, s.rest.now)) result (spec.string (length bytes.now) quote bytes.now) }
 {
     let mut text = Sequence::new(alloc);
@@ -93,8 +92,9 @@ fn string(alloc: Global, quote: u8, bytes: &[u8]) -> Result<StringText<'_>, Pars
 
 /// The string whose opening quote stands before these bytes.
 pub(crate) fn string_piece(alloc: Global, quote: u8, bytes: &[u8]) -> Result<Piece<'_>, ParseEnd>
-    requires { IsUtf8 bytes.now }
-    ensures { Reads piece_of result (spec.string (length bytes.now) quote bytes.now >>= spec.a_token token.Text) }
+    requires ascii { quote < 128 }
+    requires utf8 { IsUtf8 bytes.now }
+    ensures { Reads piece_of result (string_token quote bytes.now) }
 {
     let text = string(alloc, quote, bytes)?;
     Ok(Piece {
