@@ -314,7 +314,7 @@ choose false x y z e then_ else_ = else_ refl e
 space_ascii : (b : ℕ) → is_space b ≡ true → b < 128
 space_ascii b is = grind (arith, nat_tests)
 
-quote_ascii : (b : ℕ) → is_quote b ≡ true → b < 128
+pub quote_ascii : (b : ℕ) → is_quote b ≡ true → b < 128
 quote_ascii b is = grind (arith, nat_tests)
 
 mark_behind : (bytes : List ℕ) (r : spec.Piece × List ℕ) (o : Option (List ℕ)) → behind (codes "(:") bytes ≡ o → comment_or_symbol o bytes ≡ Some r → IsBehind bytes r.1

@@ -1,3 +1,5 @@
-pub mod Fronts
+pub mod Answered
 pub mod Behind
+pub mod Fronts
 pub mod Fuel
+pub mod Steps

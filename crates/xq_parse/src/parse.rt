@@ -11,6 +11,7 @@ use crate::rows::{call_of, has_good_names};
 use std::alloc::Global;
 use xq_ast::{CALL_BYTES_MAX, Call, CallText};
 
+#[tactic(auto, unfolding(xq_ast::specs::Readings::parsed))]
 fn read(alloc: Global, call: &CallText) -> Result<Call, ParseEnd>
     ensures { Gives result (parsed call.now) }
 {
