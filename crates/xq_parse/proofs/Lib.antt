@@ -1,0 +1,5 @@
+pub mod Answered
+pub mod Behind
+pub mod Fronts
+pub mod Fuel
+pub mod Steps

@@ -1,0 +1,170 @@
+-- The turns of the loops.
+use Rattle.std.proofs.Common.{◌≡◌, ◌≢◌, ℕ, zero, suc, ◌+◌, ◌-◌, ◌*◌, ◌<◌, ◌≤◌, Bool, true, false, List, [], ◌∷◌, ◌++◌, length, take, drop, get_or, fold, Option, None, Some, max, nat_le, IsUtf8, refl, ap, sym, ◌∙◌, subst, arith, append_assoc, append-nil, drop-cons, length-drop}
+use Rattle.std.specs.Prelude.{codes}
+use Rattle.std.specs.List.{prefix_len}
+use Rattle.std.proofs.lemmas.Bool.Decides.{nat_tests}
+use Rattle.xq_ast.specs.declared.limits.TheConstants.{INTEGER_MAX, BRACKETS_MAX}
+use Rattle.xq_ast.specs.declared.token.Token.{Token}
+use Rattle.xq_ast.specs.Tokens as spec
+use Rattle.xq_ast.specs.Tokens.{◌>>=◌, behind, behind_front, continues_part, second_part, with_second, name, digit_more, string, string_from, string_part, comment_turn, behind_comments, piece, pieces, tokens, with_piece}
+use Rattle.xq_ast.specs.Parsed.{most_open, open_behind}
+use Rattle.xq_parse.specs.declared.comment.CommentTurn.{CommentTurn}
+use Rattle.xq_parse.specs.declared.piece.Piece.{Piece}
+use Rattle.xq_parse.specs.Pieces.{piece_of, turned}
+use Rattle.xq_parse.proofs.Behind.{IsPartOf, part_is, piece_behind, string_is, utf8_after, quote_ascii}
+use Rattle.xq_parse.proofs.Fuel.{comment_step, string_step, pieces_step}
+
+-- ---- comments
+
+pub comment_kept : (opened : ℕ) (bytes : List ℕ) (whole : Option (List ℕ)) (t : Option CommentTurn) → 0 < opened
+    → ((more : ℕ → List ℕ → Option (List ℕ)) → comment_turn (behind (codes "(:") bytes) (behind (codes ":)") bytes) bytes (opened - 1) more ≡ turned t more)
+    → behind_comments (length bytes) opened bytes ≡ whole → turned t (λ k after. behind_comments (length after) k after) ≡ whole
+comment_kept zero bytes whole t some turn so_far = absurd (omega arith)
+comment_kept (suc opened) bytes whole t some turn so_far =
+    let e : suc opened - 1 ≡ opened = omega arith in
+    let f : ℕ → List ℕ → Option (List ℕ) = λ k after. behind_comments (length after) k after in
+    sym (turn f) ∙ (ap (λ k. comment_turn (behind (codes "(:") bytes) (behind (codes ":)") bytes) bytes k f) e ∙ (sym (comment_step opened bytes) ∙ so_far))
+
+-- ---- integers
+
+grows : (value : ℕ) (digits : List ℕ) → value ≤ fold digit_more value digits
+grows value [] = omega arith
+grows value (d ∷ digits) = let more = grows (10 * value + (d - 48)) digits in omega arith
+
+-- a number that is past the limit stays so
+pub past_limit : (digits : List ℕ) (i value : ℕ) → i < length digits → fold digit_more value (drop i digits) ≡ fold digit_more 0 digits → INTEGER_MAX < 10 * value + (get_or digits i 0 - 48) → INTEGER_MAX < fold digit_more 0 digits
+past_limit digits i value less so_far past =
+    let more = grows (10 * value + (get_or digits i 0 - 48)) (drop (suc i) digits) in
+    let e : fold digit_more value (drop i digits) ≡ fold digit_more (10 * value + (get_or digits i 0 - 48)) (drop (suc i) digits) = ap (fold digit_more value) (drop-cons digits i 0 less) in
+    omega arith
+
+-- ---- names
+
+abbrev none : List ℕ
+none = []
+
+take_none : (k n : ℕ) → take k (drop n none) ≡ none
+take_none zero n = refl
+take_none (suc k) zero = refl
+take_none (suc k) (suc n) = refl
+
+drop_none : (k n : ℕ) → drop k (drop n none) ≡ none
+drop_none zero zero = refl
+drop_none zero (suc n) = refl
+drop_none (suc k) zero = refl
+drop_none (suc k) (suc n) = refl
+
+take_both : (n m : ℕ) (xs : List ℕ) → take n xs ++ take m (drop n xs) ≡ take (n + m) xs
+take_both zero m xs = let e : 0 + m ≡ m = omega arith in rw e refl
+take_both (suc n) m [] = let e : suc n + m ≡ suc (n + m) = omega arith in rw e (take_none m (suc n))
+take_both (suc n) m (x ∷ xs) = let e : suc n + m ≡ suc (n + m) = omega arith in rw e (ap (λ r. x ∷ r) (take_both n m xs))
+
+drop_both : (n m : ℕ) (xs : List ℕ) → drop m (drop n xs) ≡ drop (n + m) xs
+drop_both zero m xs = let e : 0 + m ≡ m = omega arith in rw e refl
+drop_both (suc n) m [] = let e : suc n + m ≡ suc (n + m) = omega arith in rw e (drop_none m (suc n))
+drop_both (suc n) m (x ∷ xs) = let e : suc n + m ≡ suc (n + m) = omega arith in rw e (drop_both n m xs)
+
+take_whole : (k : ℕ) (xs : List ℕ) → length xs ≤ k → take k xs ≡ xs
+take_whole zero [] h = refl
+take_whole zero (x ∷ xs) h = absurd (omega arith)
+take_whole (suc k) [] h = refl
+take_whole (suc k) (x ∷ xs) h = ap (λ r. x ∷ r) (take_whole k xs (omega arith))
+
+-- all that stands behind the first n
+pub take_rest : (n : ℕ) (xs : List ℕ) → take (length xs - n) (drop n xs) ≡ drop n xs
+take_rest n xs = take_whole (length xs - n) (drop n xs) (omega (arith, length-drop n xs))
+
+-- a name of one part and of a second one
+pub name_of_both : (bytes rest : List ℕ) (n m : ℕ) → n ≡ prefix_len continues_part bytes → rest ≡ drop n bytes → ((first : List ℕ) → with_second first rest (second_part rest) ≡ (first ++ take m rest, drop m rest))
+    → name bytes ≡ (take (n + m) bytes, drop (n + m) bytes)
+name_of_both bytes rest n m count is second =
+    let all : List ℕ × List ℕ = (take n bytes ++ take m (drop n bytes), drop m (drop n bytes)) in
+    let named : name bytes ≡ all = subst (λ k. with_second (take k bytes) (drop k bytes) (second_part (drop k bytes)) ≡ all) count (subst (λ r. with_second (take n bytes) r (second_part r) ≡ (take n bytes ++ take m r, drop m r)) is (second (take n bytes))) in
+    named ∙ (ap (λ x. let y : List ℕ × List ℕ = (x, drop m (drop n bytes)) in y) (take_both n m bytes) ∙ ap (λ x. let y : List ℕ × List ℕ = (take (n + m) bytes, x) in y) (drop_both n m bytes))
+
+-- ---- brackets
+
+pub too_many : (tokens_ : List Token) (i opened most : ℕ) (t : Token) → i < length tokens_ → t ≡ get_or tokens_ i t → opened ≤ most → most < open_behind opened t
+    → nat_le (most_open opened (drop i tokens_)) most ≡ nat_le (most_open 0 tokens_) most → false ≡ nat_le (most_open 0 tokens_) most
+too_many tokens_ i opened most t less is few many so_far =
+    let e : drop i tokens_ ≡ t ∷ drop (suc i) tokens_ = drop-cons tokens_ i t less ∙ ap (λ x. x ∷ drop (suc i) tokens_) (sym is) in
+    let step : most_open opened (drop i tokens_) ≡ max opened (most_open (open_behind opened t) (drop (suc i) tokens_)) = ap (most_open opened) e in
+    let past : most < most_open (open_behind opened t) (drop (suc i) tokens_) = at_least (open_behind opened t) (drop (suc i) tokens_) many in
+    let more : nat_le (most_open opened (drop i tokens_)) most ≡ false = not_within _ most (omega (arith, step)) in
+    sym more ∙ so_far
+  where
+    at_least : (n : ℕ) (ts : List Token) → most < n → most < most_open n ts
+    at_least n [] h = h
+    at_least n (x ∷ ts) h = omega arith
+    not_within : (n m : ℕ) → m < n → nat_le n m ≡ false
+    not_within n m h = grind (arith, nat_tests)
+
+-- ---- strings
+
+pub string_goes_on : (quote byte : ℕ) (rest after text new : List ℕ) (whole : Option (List ℕ × List ℕ)) → quote < 128 → string_part quote rest ≡ spec.StringPart.holds (byte ∷ []) after → new ≡ text ++ byte ∷ []
+    → (string (length rest) quote rest >>= (λ r. Some (text ++ r.0, r.1))) ≡ whole → (string (length after) quote after >>= (λ r. Some (new ++ r.0, r.1))) ≡ whole
+string_goes_on quote byte rest after text new whole small part pushed so_far =
+    by_rest (string (length after) quote after) (string_step quote rest small ∙ ap (λ p. string_from p (λ us. string (length us) quote us)) part)
+  where
+    by_rest : (o : Option (List ℕ × List ℕ)) → string (length rest) quote rest ≡ (o >>= (λ r. Some ((byte ∷ []) ++ r.0, r.1))) → (o >>= (λ r. Some (new ++ r.0, r.1))) ≡ whole
+    by_rest None e = sym (ap (λ o. o >>= (λ r. let x : Option (List ℕ × List ℕ) = Some (text ++ r.0, r.1) in x)) e) ∙ so_far
+    by_rest (Some r) e =
+        ap (λ t. let x : Option (List ℕ × List ℕ) = Some (t ++ r.0, r.1) in x) pushed
+        ∙ (ap (λ t. let x : Option (List ℕ × List ℕ) = Some (t, r.1) in x) (append_assoc text (byte ∷ []) r.0) ∙ (sym (ap (λ o. o >>= (λ r. let x : Option (List ℕ × List ℕ) = Some (text ++ r.0, r.1) in x)) e) ∙ so_far))
+
+pub string_gets_shorter : (quote byte : ℕ) (rest after : List ℕ) → quote < 128 → string_part quote rest ≡ spec.StringPart.holds (byte ∷ []) after → length after < length rest
+string_gets_shorter quote byte rest after small part = (subst (IsPartOf rest) part (part_is quote rest small)).less
+
+pub string_ends : (quote : ℕ) (rest after text : List ℕ) (whole : Option (List ℕ × List ℕ)) → quote < 128 → string_part quote rest ≡ spec.StringPart.ends after
+    → (string (length rest) quote rest >>= (λ r. Some (text ++ r.0, r.1))) ≡ whole → whole ≡ Some (text, after)
+string_ends quote rest after text whole small part so_far =
+    let e : string (length rest) quote rest ≡ Some ([], after) = string_step quote rest small ∙ ap (λ p. string_from p (λ us. string (length us) quote us)) part in
+    sym so_far ∙ (ap (λ o. o >>= (λ r. let x : Option (List ℕ × List ℕ) = Some (text ++ r.0, r.1) in x)) e ∙ ap (λ t. let x : Option (List ℕ × List ℕ) = Some (t, after) in x) (append-nil text))
+
+pub string_fails : (quote : ℕ) (rest text : List ℕ) (whole : Option (List ℕ × List ℕ)) → quote < 128 → string_part quote rest ≡ spec.StringPart.fault
+    → (string (length rest) quote rest >>= (λ r. Some (text ++ r.0, r.1))) ≡ whole → whole ≡ None
+string_fails quote rest text whole small part so_far =
+    let e : string (length rest) quote rest ≡ None = string_step quote rest small ∙ ap (λ p. string_from p (λ us. string (length us) quote us)) part in
+    sym so_far ∙ ap (λ o. o >>= (λ r. let x : Option (List ℕ × List ℕ) = Some (text ++ r.0, r.1) in x)) e
+
+-- the text of a string is UTF-8
+pub string_utf8 : (quote : ℕ) (bytes text rest : List ℕ) → quote < 128 → IsUtf8 bytes → string (length bytes) quote bytes ≡ Some (text, rest) → IsUtf8 text
+string_utf8 quote bytes text rest small u e = (string_is (length bytes) quote bytes (text, rest) small e).utf8 [] u
+
+-- ---- tokens
+
+pub some_bytes : (rest : List ℕ) (p : spec.Piece × List ℕ) → piece rest ≡ Some p → pieces (length rest) rest ≡ (pieces (length p.1) p.1 >>= (λ more. Some (with_piece p.0 more)))
+some_bytes [] p e = cc
+some_bytes (b ∷ rest) p e = pieces_step b rest ∙ ap (λ o. o >>= (λ r. pieces (length r.1) r.1 >>= (λ more. let x : Option (List Token) = Some (with_piece r.0 more) in x))) e
+
+with_piece-append : (p : spec.Piece) (more : List Token) → with_piece p [] ++ more ≡ with_piece p more
+with_piece-append None more = refl
+with_piece-append (Some t) more = refl
+
+pub pieces_go_on : (rest after : List ℕ) (token : spec.Piece) (all new : List Token) (whole : Option (List Token)) → piece rest ≡ Some (token, after) → new ≡ all ++ with_piece token []
+    → (pieces (length rest) rest >>= (λ more. Some (all ++ more))) ≡ whole → (pieces (length after) after >>= (λ more. Some (new ++ more))) ≡ whole
+pieces_go_on rest after token all new whole read added so_far = by_rest (pieces (length after) after) (some_bytes rest (token, after) read)
+  where
+    by_rest : (o : Option (List Token)) → pieces (length rest) rest ≡ (o >>= (λ more. Some (with_piece token more))) → (o >>= (λ more. Some (new ++ more))) ≡ whole
+    by_rest None e = sym (ap (λ o. o >>= (λ more. let x : Option (List Token) = Some (all ++ more) in x)) e) ∙ so_far
+    by_rest (Some more) e =
+        ap (λ t. let x : Option (List Token) = Some (t ++ more) in x) added
+        ∙ (ap (λ t. let x : Option (List Token) = Some t in x) (append_assoc all (with_piece token []) more ∙ ap (λ t. all ++ t) (with_piece-append token more))
+        ∙ (sym (ap (λ o. o >>= (λ more. let x : Option (List Token) = Some (all ++ more) in x)) e) ∙ so_far))
+
+pub pieces_fail : (rest : List ℕ) (all : List Token) (whole : Option (List Token)) → rest ≢ [] → piece rest ≡ None → (pieces (length rest) rest >>= (λ more. Some (all ++ more))) ≡ whole → whole ≡ None
+pieces_fail [] all whole some read so_far = absurd (some refl)
+pieces_fail (b ∷ rest) all whole some read so_far =
+    let e : pieces (length (b ∷ rest)) (b ∷ rest) ≡ None = pieces_step b rest ∙ ap (λ o. o >>= (λ r. pieces (length r.1) r.1 >>= (λ more. let x : Option (List Token) = Some (with_piece r.0 more) in x))) read in
+    sym so_far ∙ ap (λ o. o >>= (λ more. let x : Option (List Token) = Some (all ++ more) in x)) e
+
+pub piece_utf8 : (rest : List ℕ) (p : spec.Piece × List ℕ) → piece rest ≡ Some p → IsUtf8 rest → IsUtf8 p.1
+piece_utf8 rest p e u = (piece_behind rest p e).utf8 [] u
+
+pub piece_shrinks : (rest : List ℕ) (p : spec.Piece × List ℕ) → piece rest ≡ Some p → length p.1 < length rest
+piece_shrinks rest p e = (piece_behind rest p e).less
+
+-- behind a quote
+pub behind_quote_utf8 : (bytes : List ℕ) → 1 ≤ length bytes → spec.is_quote (get_or bytes 0 0) ≡ true → IsUtf8 bytes → IsUtf8 (take (length bytes - 1) (drop 1 bytes))
+behind_quote_utf8 [] some is u = absurd (omega arith)
+behind_quote_utf8 (b ∷ bytes) some is u = subst IsUtf8 (sym (take_rest 1 (b ∷ bytes))) (utf8_after [] bytes b (quote_ascii b is) u)

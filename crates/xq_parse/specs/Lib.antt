@@ -1,0 +1,4 @@
+pub mod Answers
+pub mod Reads
+pub mod Spellings
+pub mod Pieces

@@ -1,0 +1,26 @@
+//! The parser of calls: from the text of a call to the call that it spells, or to why it is refused.
+//!
+//! Contracts see a text as its bytes and a call as plain data. `parse_call` gives what `Parsed` of
+//! `xq_ast` says of the text: the call whose tokens the grammar has, or the first of the refusals
+//! `TooLong`, `XPST0003`, `NestedTooDeep`, `XPST0003` and `BadName`. The text is split into tokens
+//! whole; then one function for each row reads the tokens from the left. Want of memory may come
+//! in place of any answer and leaves the text as it was.
+#![tactic(auto)]
+
+mod answer;
+mod characters;
+mod comment;
+mod front;
+mod integer;
+mod name;
+mod nesting;
+mod parse;
+mod piece;
+mod rows;
+mod string;
+mod symbol;
+#[cfg(test)]
+mod tests;
+
+pub use answer::ParseEnd;
+pub use parse::parse_call;

@@ -1,0 +1,38 @@
+ghost use Rattle.std.specs.Prelude.{◌≡◌, ◌≢◌, Result, Ok, Err, IfOk, IfErr};
+ghost use Rattle.xq_ast.specs.Parsed.{Parsed};
+ghost use Rattle.xq_ast.specs.Readings.{parsed};
+ghost use Rattle.xq_parse.specs.Answers.{code_of};
+ghost use Rattle.xq_parse.specs.Reads.{Gives};
+
+use crate::answer::ParseEnd;
+use crate::nesting::is_nested_well;
+use crate::piece::tokens;
+use crate::rows::{call_of, has_good_names};
+use std::alloc::Global;
+use xq_ast::{CALL_BYTES_MAX, Call, CallText};
+
+#[tactic(auto, unfolding(xq_ast::specs::Readings::parsed))]
+fn read(alloc: Global, call: &CallText) -> Result<Call, ParseEnd>
+    ensures { Gives result (parsed call.now) }
+{
+    if call.text.len() > CALL_BYTES_MAX {
+        return Err(ParseEnd::TooLong);
+    }
+    let tokens = tokens(alloc, call.text.as_str())?;
+    if !is_nested_well(tokens.as_slice()) {
+        return Err(ParseEnd::NestedTooDeep);
+    }
+    let read = call_of(alloc, tokens.as_slice(), &call.pyx)?;
+    if !has_good_names(&read) {
+        return Err(ParseEnd::BadName);
+    }
+    Ok(read)
+}
+
+/// The call that a text spells.
+pub fn parse_call(alloc: Global, call: &CallText) -> Result<Call, ParseEnd>
+    ensures found { IfOk result (λ read. Parsed call.now (Ok read)) }
+    ensures refused { IfErr result (λ end. end ≢ ParseEnd.NoMemory → Parsed call.now (Err (code_of end))) }
+{
+    read(alloc, call)
+}
