@@ -2,6 +2,7 @@
 use Rattle.std.proofs.Common.{◌≡◌, ◌≢◌, refl, subst, Result, Ok, Err, IfOk, IfErr}
 use Rattle.xq_ast.specs.declared.call.Call.{Call}
 use Rattle.xq_ast.specs.declared.call.CallText.{CallText}
+use Rattle.xq_ast.specs.declared.code.Code.{Code}
 use Rattle.xq_ast.specs.Parsed.{Parsed}
 use Rattle.xq_ast.specs.Readings.{parsed}
 use Rattle.xq_ast.proofs.Readings.{parsed_holds}
@@ -21,3 +22,6 @@ is_refused c (Err XPST0003) e = λ other. subst (Parsed c) e (parsed_holds c)
 is_refused c (Err NestedTooDeep) e = λ other. subst (Parsed c) e (parsed_holds c)
 is_refused c (Err BadName) e = λ other. subst (Parsed c) e (parsed_holds c)
 is_refused c (Err NoMemory) e = λ other. absurd (other refl)
+
+pub is_parsed : (c : CallText) (answer : Result Call Code) → parsed c ≡ answer → Parsed c answer
+is_parsed c answer e = subst (Parsed c) e (parsed_holds c)

@@ -330,11 +330,11 @@ piece_behind [] r e = cc
 piece_behind (b ∷ bytes) r e =
     choose (is_space b) _ _ r e (λ is x. subst (λ y. IsBehind (b ∷ bytes) y.1) (some_is x) (behind_ascii b bytes (space_ascii b is))) (λ no_space e.
     choose (is_quote b) _ _ r e (λ is x.
-        let a = bind_some (string (length bytes) b bytes) (spec.a_token token.Text) r x in
-        subst (λ y. IsBehind (b ∷ bytes) y.1) (some_is a.2) (behind_any b bytes a.0.1 (string_is (length bytes) b bytes a.0 (quote_ascii b is) a.1).behind)) (λ no_quote e.
+    let a = bind_some (string (length bytes) b bytes) (spec.a_token token.Text) r x in
+    subst (λ y. IsBehind (b ∷ bytes) y.1) (some_is a.2) (behind_any b bytes a.0.1 (string_is (length bytes) b bytes a.0 (quote_ascii b is) a.1).behind)) (λ no_quote e.
     choose (is_digit b) _ _ r e (λ is x.
-        let a = bind_some (integer (b ∷ bytes)) (spec.a_token (λ n. token.Int (pos n))) r x in
-        subst (λ y. IsBehind (b ∷ bytes) y.1) (some_is a.2) (integer_behind b bytes a.0 is a.1)) (λ no_digit e.
+    let a = bind_some (integer (b ∷ bytes)) (spec.a_token (λ n. token.Int (pos n))) r x in
+    subst (λ y. IsBehind (b ∷ bytes) y.1) (some_is a.2) (integer_behind b bytes a.0 is a.1)) (λ no_digit e.
     choose (begins_part b) _ _ r e (λ is x. subst (λ y. IsBehind (b ∷ bytes) y.1) (some_is x) (front_behind (b ∷ bytes) (name (b ∷ bytes)).0 (name (b ∷ bytes)).1 (name_is b bytes is))) (λ no_name e.
     mark_behind (b ∷ bytes) r (behind (codes "(:") (b ∷ bytes)) refl e))))
 

@@ -96,6 +96,7 @@ too_many tokens_ i opened most t less is few many so_far =
     at_least : (n : ℕ) (ts : List Token) → most < n → most < most_open n ts
     at_least n [] h = h
     at_least n (x ∷ ts) h = omega arith
+
     not_within : (n m : ℕ) → m < n → nat_le n m ≡ false
     not_within n m h = grind (arith, nat_tests)
 
