@@ -1,1 +1,3 @@
 mod Rows
+pub mod Sent
+pub mod EventText

@@ -1,1 +1,3 @@
 pub mod JournalText
+pub mod Pieces
+pub mod Sending
