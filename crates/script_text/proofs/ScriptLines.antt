@@ -1,8 +1,8 @@
 -- The first line of some bytes.
-use Rattle.std.proofs.Common.{◌≡◌, ◌≢◌, ℕ, suc, ◌+◌, ◌<◌, ◌≤◌, List, [], ◌∷◌, ◌++◌, length, get_or, take, drop, refl, ap, sym, ◌∙◌, arith, add-one, ◌-◌, true, IsUtf8, eq-eqb, length-drop, take-append-drop, drop-cons}
+use Rattle.std.proofs.Common.{◌≡◌, ◌≢◌, ℕ, ◌+◌, ◌<◌, List, [], ◌∷◌, ◌++◌, length, get_or, take, drop, refl, ap, sym, ◌∙◌, arith, add-one, ◌-◌, true, IsUtf8, eq-eqb, length-drop, take-append-drop, drop-cons}
 use Rattle.std.proofs.lemmas.List.{get_or-take, length-take, take_all}
 use Rattle.std.proofs.lemmas.Str.{utf8_valid_len-IsUtf8}
-use Rattle.xml_model.specs.Pyx.{IsPlain, IsCutLine, IsFirstLine}
+use Rattle.xml_model.specs.Pyx.{IsPlain}
 use Rattle.xml_model.proofs.TextLines.{plain_by_index, first_at_newline, first_of_one}
 use Rattle.script_text.specs.ScriptEnds.{IsFirst}
 use Rattle.script_text.specs.Scripts.{is_text}

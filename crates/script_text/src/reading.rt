@@ -115,12 +115,7 @@ fn push_call(alloc: Global, reading: &mut Reading, line: &str) -> Result<(), NoM
     Ok(())
 }
 
-fn take_call(
-    alloc: Global,
-    reading: &mut Reading,
-    line: &str,
-    behind: &[u8],
-) -> Result<(), Stop>
+fn take_call(alloc: Global, reading: &mut Reading, line: &str, behind: &[u8]) -> Result<(), Stop>
     ensures { Stops result reading.new (spec.read_kind 0 LineKind.Call line.now (split_lines behind.now) reading.old) }
 {
     if reading.begun == 0 {
@@ -202,10 +197,7 @@ pub(crate) fn take_line(
     reading.lines = number;
     match take_text(alloc, reading, sessions, line, behind) {
         Ok(()) => Ok(()),
-        Err(Stop::Refused(why)) => Err(ScriptFault::Refused(RefusedScript {
-            line: number,
-            why,
-        })),
+        Err(Stop::Refused(why)) => Err(ScriptFault::Refused(RefusedScript { line: number, why })),
         Err(Stop::NoMemory) => Err(ScriptFault::NoMemory),
     }
 }

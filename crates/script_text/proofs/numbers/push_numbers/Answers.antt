@@ -1,4 +1,4 @@
-use Rattle.std.proofs.Common.{◌≡◌, ◌∷◌, [], Err, rules, ap, sym, ◌∙◌}
+use Rattle.std.proofs.Common.{◌∷◌, [], Err, rules, ap, sym, ◌∙◌}
 use Rattle.script_text.specs.Scripts.{numbers, split_words}
 use Rattle.script_text.specs.ScriptEnds.{with_more}
 use Rattle.script_text.proofs.OrderNumbers.{split_words-cut, split_words-one, with_more-next, lists_as, lists_stop}

@@ -1,4 +1,4 @@
-use Rattle.std.proofs.Common.{refl, rules, ◌∷◌, []}
+use Rattle.std.proofs.Common.{refl}
 use Rattle.script_text.specs.Pieces.{piece_text, pieces_text}
 use Rattle.script_text.proofs.EventText.{pieces_text-append, pieces_text-one}
 use Rattle.script_text.proofs.Sent.{failed, sent_none, sent_next, broke_next}
