@@ -1,1 +1,5 @@
 mod Rows
+pub mod Sent
+pub mod EventText
+pub mod ScriptLines
+pub mod OrderNumbers

@@ -1,8 +1,7 @@
 -- Texts of journals, computed.
-use Rattle.std.proofs.Common.{◌≡◌, ℕ, true, false, List, [], ◌∷◌, ◌++◌, Option, None, Some, refl, arith}
+use Rattle.std.proofs.Common.{◌≡◌, ℕ, true, false, List, [], ◌∷◌, None, refl, arith}
 use Rattle.std.proofs.lemmas.Fmt.{decimal_digit}
 use Rattle.std.specs.Prelude.{codes}
-use Rattle.xq_ast.specs.declared.call.Call.TheVariants.{Load, Export}
 use Rattle.xq_ast.specs.declared.refusal.PyxRefusal.TheVariants as pyx
 use Rattle.xq_ast.specs.declared.code.Code.TheVariants as codes_of
 use Rattle.xq_ast.specs.declared.need.LockMode.{LockMode}
@@ -12,7 +11,6 @@ use Rattle.session_core.specs.declared.event.BeginKind.TheVariants as kinds
 use Rattle.session_core.specs.declared.event.Reply.{Reply}
 use Rattle.session_core.specs.declared.event.Says.{Says}
 use Rattle.session_core.specs.declared.event.Says.TheVariants as says
-use Rattle.session_core.specs.declared.event.Event.{Event}
 use Rattle.session_core.specs.declared.event.Event.TheVariants.{Began, Granted, Refused, Answered, Committed, Ended, RolledBack, Doubt, Settled, Left}
 use Rattle.script_text.specs.JournalText.{text}
 

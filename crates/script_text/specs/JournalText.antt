@@ -1,5 +1,5 @@
 -- The text of a journal: one line an event, and behind an answer its lines.
-use Rattle.std.specs.Prelude.{ℕ, ◌<◌, ◌^◌, ◌==◌, Option, None, Bool, true, false, if◌then◌else◌, List, [], ◌∷◌, ◌++◌, length, codes}
+use Rattle.std.specs.Prelude.{ℕ, ◌<◌, ◌^◌, ◌==◌, None, Bool, true, false, if◌then◌else◌, List, [], ◌∷◌, ◌++◌, length, codes}
 use Rattle.std.specs.Fmt.{decimal}
 use Rattle.xq_ast.specs.CodeText.{code_text, InRange, no_mark, without_mark}
 use Rattle.xq_ast.specs.declared.need.LockMode.{LockMode}

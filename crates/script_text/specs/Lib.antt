@@ -1,1 +1,5 @@
 pub mod JournalText
+pub mod Pieces
+pub mod ScriptEnds
+pub mod Scripts
+pub mod Sending

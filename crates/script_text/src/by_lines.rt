@@ -1,0 +1,35 @@
+// Scripts, read from their bytes.
+ghost use Rattle.std.specs.Prelude.{◌≡◌, Result};
+ghost use Rattle.xml_model.specs.Pyx.{split_lines};
+ghost use Rattle.script_text.specs.Scripts as spec;
+ghost use Rattle.script_text.specs.ScriptEnds.{Gives};
+
+use crate::fault::ScriptFault;
+use crate::kinds::{count_sessions, first_line};
+use crate::reading::{Reading, end_session, nothing_read, take_line};
+use crate::session_calls::Script;
+use std::alloc::Global;
+
+fn read_lines(alloc: Global, sessions: u64, bytes: &[u8]) -> Result<Reading, ScriptFault>
+    ensures { Gives result (spec.after sessions (split_lines bytes.now) spec.start) }
+{
+    let mut reading = nothing_read(alloc);
+    let mut rest = bytes;
+    while let Some(first) = first_line(rest) {
+        take_line(alloc, &mut reading, sessions, first.line, first.rest)?;
+        rest = first.rest;
+    }
+    Ok(reading)
+}
+
+/// The script that the bytes spell, or the first refusal.
+pub fn read_script(alloc: Global, bytes: &[u8]) -> Result<Script, ScriptFault>
+    ensures { Gives result (spec.script (split_lines bytes.now)) }
+{
+    let mut reading = read_lines(alloc, count_sessions(bytes), bytes)?;
+    end_session(alloc, &mut reading)?;
+    Ok(Script {
+        sessions: reading.ended,
+        order: reading.order,
+    })
+}
