@@ -1,5 +1,5 @@
 -- What a reading leaves is shorter, and is UTF-8 where the whole is: an ASCII byte parts the two.
-use Rattle.std.proofs.Common.{◌≡◌, ◌≢◌, ℕ, zero, suc, ◌+◌, ◌<◌, ◌≤◌, Bool, true, false, ◌&&◌, List, [], ◌∷◌, ◌++◌, length, take, drop, get_or, Option, None, Some, refl, ap, sym, ◌∙◌, subst, arith, lit<, append_assoc, append-nil, length-append}
+use Rattle.std.proofs.Common.{◌≡◌, ℕ, zero, suc, ◌+◌, ◌<◌, Bool, true, false, ◌&&◌, List, [], ◌∷◌, ◌++◌, length, take, drop, get_or, Option, None, Some, refl, ap, sym, ◌∙◌, subst, arith, lit<, append_assoc, append-nil, length-append}
 use Rattle.std.specs.Prelude.{IsUtf8, nat_lt, nat_le, nat_eq, not, take_while, if◌then◌else◌, codes, pos}
 use Rattle.std.specs.List.{list_all, prefix_len}
 use Rattle.std.proofs.lemmas.Bool.{ltb-true}
@@ -9,7 +9,7 @@ use Rattle.xq_ast.specs.declared.limits.TheConstants.{INTEGER_MAX}
 use Rattle.xq_ast.specs.Tokens as spec
 use Rattle.xq_ast.specs.Tokens.{◌>>=◌, behind, behind_front, begins, is_digit, is_space, is_quote, begins_part, continues_part, first_row, row_or, references, symbols, string_part, string_from, string, behind_quote, behind_ampersand, comment_turn, behind_comments, name, second_part, with_second, integer, piece, comment_or_symbol}
 use Rattle.xq_ast.specs.declared.token.Token.TheVariants as token
-use Rattle.xq_parse.proofs.Fronts.{nat_eq-true, behind-whole, front_whole, front_ends, take_drop}
+use Rattle.xq_parse.proofs.Fronts.{nat_eq-true, behind-whole, front_whole, front_ends}
 
 -- the rest stands behind an ASCII byte, or at one or at the end
 pub record IsBehind (bytes rest : List ℕ) : Type 0 where

@@ -1,6 +1,6 @@
 -- The bound on the turns of a reading never tells, since each turn leaves fewer bytes: so a reading is one turn, and
 -- then the reading of what the turn leaves.
-use Rattle.std.proofs.Common.{◌≡◌, ℕ, zero, suc, ◌+◌, ◌<◌, ◌≤◌, List, [], ◌∷◌, ◌++◌, length, Option, None, Some, refl, ap, sym, ◌∙◌, subst, arith, append_assoc}
+use Rattle.std.proofs.Common.{◌≡◌, ℕ, zero, suc, ◌<◌, ◌≤◌, List, [], ◌∷◌, ◌++◌, length, Option, None, Some, refl, ap, arith}
 use Rattle.std.specs.Prelude.{codes}
 use Rattle.xq_ast.specs.declared.token.Token.{Token}
 use Rattle.xq_ast.specs.Tokens as spec

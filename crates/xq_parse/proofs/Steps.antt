@@ -1,16 +1,15 @@
 -- The turns of the loops.
-use Rattle.std.proofs.Common.{◌≡◌, ◌≢◌, ℕ, zero, suc, ◌+◌, ◌-◌, ◌*◌, ◌<◌, ◌≤◌, Bool, true, false, List, [], ◌∷◌, ◌++◌, length, take, drop, get_or, fold, Option, None, Some, max, nat_le, IsUtf8, refl, ap, sym, ◌∙◌, subst, arith, append_assoc, append-nil, drop-cons, length-drop}
+use Rattle.std.proofs.Common.{◌≡◌, ◌≢◌, ℕ, zero, suc, ◌+◌, ◌-◌, ◌*◌, ◌<◌, ◌≤◌, true, false, List, [], ◌∷◌, ◌++◌, length, take, drop, get_or, fold, Option, None, Some, max, nat_le, IsUtf8, refl, ap, sym, ◌∙◌, subst, arith, append_assoc, append-nil, drop-cons, length-drop}
 use Rattle.std.specs.Prelude.{codes}
 use Rattle.std.specs.List.{prefix_len}
 use Rattle.std.proofs.lemmas.Bool.Decides.{nat_tests}
-use Rattle.xq_ast.specs.declared.limits.TheConstants.{INTEGER_MAX, BRACKETS_MAX}
+use Rattle.xq_ast.specs.declared.limits.TheConstants.{INTEGER_MAX}
 use Rattle.xq_ast.specs.declared.token.Token.{Token}
 use Rattle.xq_ast.specs.Tokens as spec
 use Rattle.xq_ast.specs.Tokens.{◌>>=◌, behind, behind_front, continues_part, second_part, with_second, name, digit_more, string, string_from, string_part, comment_turn, behind_comments, piece, pieces, tokens, with_piece}
 use Rattle.xq_ast.specs.Parsed.{most_open, open_behind}
 use Rattle.xq_parse.specs.declared.comment.CommentTurn.{CommentTurn}
-use Rattle.xq_parse.specs.declared.piece.Piece.{Piece}
-use Rattle.xq_parse.specs.Pieces.{piece_of, turned}
+use Rattle.xq_parse.specs.Pieces.{turned}
 use Rattle.xq_parse.proofs.Behind.{IsPartOf, part_is, piece_behind, string_is, utf8_after, quote_ascii}
 use Rattle.xq_parse.proofs.Fuel.{comment_step, string_step, pieces_step}
 

@@ -1,6 +1,5 @@
 -- What a function of the parser answers, beside what its definition reads. Nothing is said where memory ran out.
-use Rattle.std.specs.Prelude.{◌≡◌, ℕ, List, Option, None, Some, Result, Ok, Err}
-use Rattle.xq_ast.specs.declared.token.Token.{Token}
+use Rattle.std.specs.Prelude.{◌≡◌, Option, None, Some, Result, Ok, Err}
 use Rattle.xq_ast.specs.declared.call.Call.{Call}
 use Rattle.xq_ast.specs.declared.code.Code.{Code}
 use Rattle.xq_parse.specs.declared.answer.ParseEnd.{ParseEnd}
