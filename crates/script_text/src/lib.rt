@@ -1,7 +1,9 @@
 //! Scripts of sessions and journals as texts.
 //!
-//! The text of a journal is defined here (`JournalText`): one line an event, and behind an answer
-//! its lines.
+//! `read_script` gives the script that bytes spell, or the first refusal with its line (`Scripts`).
+//! A script is the calls of each session, and an order of sessions; a call is its text and, of a
+//! LOAD, its PYX lines. `write_journal` writes the text of a journal (`JournalText`): one line an
+//! event, and behind an answer its lines. It takes no memory and goes to the sink in large pieces.
 #![tactic(auto)]
 
 mod by_lines;
