@@ -9,6 +9,7 @@
 mod by_lines;
 mod fault;
 mod kinds;
+mod laws;
 mod limits;
 mod numbers;
 mod pending;
@@ -19,6 +20,7 @@ mod write;
 
 pub use by_lines::read_script;
 pub use fault::{RefusedScript, ScriptFault, ScriptRefusal};
+pub use laws::scripts_are_read_again;
 pub use limits::{CALLS_MAX, SESSIONS_MAX};
 pub use session_calls::{CallTextList, CallTextListList, NumberList, Script};
 pub use write::write_journal;
