@@ -3,3 +3,5 @@ pub mod Sent
 pub mod EventText
 pub mod ScriptLines
 pub mod OrderNumbers
+pub mod Spelled
+pub mod SpelledOrder

@@ -3,3 +3,4 @@ pub mod Pieces
 pub mod ScriptEnds
 pub mod Scripts
 pub mod Sending
+pub mod Spelling

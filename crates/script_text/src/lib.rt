@@ -1,12 +1,15 @@
 //! Scripts of sessions and journals as texts.
 //!
-//! The text of a journal is defined here (`JournalText`): one line an event, and behind an answer
-//! its lines.
+//! `read_script` gives the script that bytes spell, or the first refusal with its line (`Scripts`).
+//! A script is the calls of each session, and an order of sessions; a call is its text and, of a
+//! LOAD, its PYX lines. `write_journal` writes the text of a journal (`JournalText`): one line an
+//! event, and behind an answer its lines. It takes no memory and goes to the sink in large pieces.
 #![tactic(auto)]
 
 mod by_lines;
 mod fault;
 mod kinds;
+mod laws;
 mod limits;
 mod numbers;
 mod pending;
@@ -17,6 +20,7 @@ mod write;
 
 pub use by_lines::read_script;
 pub use fault::{RefusedScript, ScriptFault, ScriptRefusal};
+pub use laws::scripts_are_read_again;
 pub use limits::{CALLS_MAX, SESSIONS_MAX};
 pub use session_calls::{CallTextList, CallTextListList, NumberList, Script};
 pub use write::write_journal;
