@@ -1,0 +1,3 @@
+pub mod Parts
+pub mod Gates
+pub mod Bodies
