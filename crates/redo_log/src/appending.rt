@@ -34,11 +34,7 @@ fn write_and_sync<D: Device>(
 
 /// Appends a record behind the closed gate that ends the log: its body with its length and the next gate as 0, a sync,
 /// the gate as 1, a sync.
-pub fn append<D: Device>(
-    device: &mut D,
-    end: &mut LogEnd,
-    body: &LogBody,
-) -> Result<(), AppendEnd>
+pub fn append<D: Device>(device: &mut D, end: &mut LogEnd, body: &LogBody) -> Result<(), AppendEnd>
     requires rest { IfSome (D.contents device.old) (λ c. IsAtRest end.old c (D.may_leave device.old)) }
     ensures told { is_some (D.contents device.new) ≡ is_some (D.contents device.old) }
 
@@ -88,11 +84,7 @@ pub fn append<D: Device>(
 }
 
 /// Settles a record that is in doubt: syncs, and reads its gate. The record stands exactly where the gate is 1.
-pub fn settle<D: Device>(
-    device: &mut D,
-    end: &mut LogEnd,
-    body: &LogBody,
-) -> Result<bool, Failed>
+pub fn settle<D: Device>(device: &mut D, end: &mut LogEnd, body: &LogBody) -> Result<bool, Failed>
     requires doubt { IfSome (D.contents device.old) (λ _. IsInDoubt end.old body.now (D.may_leave device.old)) }
     ensures told { is_some (D.contents device.new) ≡ is_some (D.contents device.old) }
     ensures answer { IfOk result (λ yes. IfSome (D.contents device.old) (λ c. Settles end.old end.new body.now c (D.may_leave device.new) yes)) }

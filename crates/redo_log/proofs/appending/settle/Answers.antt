@@ -35,4 +35,3 @@ returns-else-yes-clause-answer g c = let d = c.args.device.now in let o = g.D.De
 pub returns-else-yes-clause-others : goal.returns-else-yes-clause-others
 returns-else-yes-clause-others g c = keeps_others-twice c.args.end.now.file (g.D.Device.may_leave c.args.device.now) (g.D.Device.may_leave c.sync.new.self) (g.D.Device.may_leave c.is_open.new.device)
     c.sync.ensures.others (λ k was. (k, c.is_open.ensures.crash.1 k was, with_own k c.args.end.now.file))
-
