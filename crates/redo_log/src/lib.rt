@@ -9,13 +9,23 @@
 
 mod appending;
 mod body;
+mod catalogue;
 mod change;
 mod end;
+mod fault;
+mod fields;
+mod page_table;
+mod store;
+mod names;
+mod pages;
+mod record;
+mod scanning;
 
 pub use appending::{append, settle};
 pub use body::{LogBody, build};
 pub use change::{Change, LogChangeList, LogName, LogNameList};
 pub use end::{AppendEnd, LogEnd};
+pub use scanning::{LogBase, ScanEnd, Scanned, scan};
 
 #[cfg(test)]
 mod tests;
