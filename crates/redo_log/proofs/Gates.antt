@@ -1,5 +1,5 @@
 -- What an append and a settling make of the bytes round a gate.
-use Rattle.std.proofs.Common.{◌≡◌, inl, inr, ℕ, ◌+◌, ◌<◌, List, [], ◌∷◌, ◌++◌, length, take, drop, get_or, Bool, true, false, sym, ap, ◌∙◌, subst, arith, append_assoc, length-append, length-take}
+use Rattle.std.proofs.Common.{◌≡◌, inl, inr, ℕ, ◌+◌, List, [], ◌∷◌, ◌++◌, length, take, drop, get_or, Bool, true, false, sym, ap, ◌∙◌, subst, arith, append_assoc, length-append, length-take}
 use Rattle.std.specs.Prelude.{◌↔◌, IsTrue, if◌then◌else◌, slice_index}
 use Rattle.std.proofs.lemmas.List.{take_at, drop_at, get_or_at}
 use Rattle.page_device.specs.declared.device.Which.{Which}
@@ -7,7 +7,7 @@ use Rattle.page_device.specs.Image.{Image, bytes_of, with_bytes}
 use Rattle.page_device.specs.Write.{overlay, Torn}
 use Rattle.page_device.specs.Device.{FileIs}
 use Rattle.page_device.specs.Run.{Each}
-use Rattle.page_device.specs.Gate.{Before, Whole, behind}
+use Rattle.page_device.specs.Gate.{Before, behind}
 use Rattle.page_device.proofs.Runs.{bytes_of-with_bytes}
 use Rattle.page_device.proofs.Gate.{torn_behind, written_behind, torn_gate, written_gate}
 use Rattle.redo_log.specs.declared.end.LogEnd.{LogEnd}

@@ -1,5 +1,5 @@
 -- How long the changes of a record are.
-use Rattle.std.proofs.Common.{◌≡◌, ℕ, ◌+◌, List, ◌++◌, ◌∷◌, length, Bool, Option, Some, None, sym, ap, ◌∙◌, arith, length-append}
+use Rattle.std.proofs.Common.{◌≡◌, ℕ, ◌+◌, List, ◌++◌, length, Some, None, arith, length-append}
 use Rattle.page_bytes.specs.declared.ids.PageId.{PageId}
 use Rattle.page_bytes.specs.declared.ids.DocEntry.{DocEntry}
 use Rattle.redo_log.specs.Record.{number, space_bytes, named_bytes, image_bytes}

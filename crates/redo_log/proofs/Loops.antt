@@ -1,5 +1,5 @@
 -- Reading names, and pages, one after the other, as a loop does.
-use Rattle.std.proofs.Common.{◌≡◌, ℕ, suc, ◌-◌, ◌+◌, ◌≤◌, ◌<◌, List, [], ◌∷◌, ◌++◌, Result, Ok, Err, refl, sym, ap, ◌∙◌, append_assoc, arith}
+use Rattle.std.proofs.Common.{◌≡◌, ℕ, suc, ◌-◌, ◌+◌, ◌≤◌, ◌<◌, List, [], ◌∷◌, ◌++◌, Ok, refl, arith}
 use Rattle.page_bytes.specs.declared.lists.PageChange.{PageChange}
 use Rattle.redo_log.specs.declared.change.LogName.{LogName}
 use Rattle.redo_log.specs.declared.store.Store.{Store}
@@ -7,7 +7,7 @@ use Rattle.redo_log.specs.declared.fault.ReadEnd.{ReadEnd}
 use Rattle.redo_log.specs.declared.fault.ReadEnd.TheVariants as ends
 use Rattle.redo_log.specs.Gives.{Fails}
 use Rattle.redo_log.specs.Store.{after_name, after_names}
-use Rattle.redo_log.specs.Reading.{◌>>=◌, name_at, names_at, page_at, pages_at}
+use Rattle.redo_log.specs.Reading.{name_at, names_at, page_at, pages_at}
 
 module _ (commit count i : ℕ) (done : List LogName) (s : Store) (bytes : List ℕ) where
   pub name_more : (n : LogName) (rest : List ℕ) → i < count → name_at commit done s.names bytes ≡ Ok (n, rest)

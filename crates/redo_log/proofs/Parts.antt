@@ -1,5 +1,5 @@
 -- A write and a sync of a file that may differ from image to image.
-use Rattle.std.proofs.Common.{◌≡◌, ℕ, Option, Some, List, sym, ap, ◌∙◌, subst}
+use Rattle.std.proofs.Common.{ℕ, Option, ap, ◌∙◌}
 use Rattle.page_device.specs.declared.device.Which.{Which}
 use Rattle.page_device.specs.Image.{Image, bytes_of, with_bytes, SameOthers}
 use Rattle.page_device.specs.Device.{TornImage, Follows, Shrinks, KeepsOthers, Elapses}

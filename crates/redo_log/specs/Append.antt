@@ -1,5 +1,5 @@
 -- What an append and a settling leave of a log.
-use Rattle.std.specs.Prelude.{◌≡◌, ◌⊎◌, ℕ, ◌+◌, ◌<◌, ◌≤◌, ◌↔◌, Bool, IsTrue, if◌then◌else◌, List, ◌∷◌, ◌++◌, length, take, drop, slice_index}
+use Rattle.std.specs.Prelude.{◌≡◌, ◌⊎◌, ℕ, ◌+◌, ◌<◌, ◌↔◌, Bool, IsTrue, if◌then◌else◌, List, ◌∷◌, ◌++◌, length, take, slice_index}
 use Rattle.page_device.specs.declared.device.Which.{Which}
 use Rattle.page_device.specs.Image.{Image, bytes_of}
 use Rattle.page_device.specs.Device.{TornIn, FileIs}

@@ -5,6 +5,9 @@
 //! moment each image of the device has the log as before or with the record. Its answers are Failed, where no image has
 //! the record; Doubt, where each has all of it but for the gate; Spent, where the file would grow past its last length.
 //! `settle` ends a doubt: it syncs and reads the gate. Neither takes memory.
+//! `scan` gives the change of each record whose gate is open, and the closed gate that ends them; it refuses with the
+//! first field that runs past the end or is wrong. What the bytes of a record are, and how bytes are read, are
+//! definitions over lists.
 #![tactic(auto)]
 
 mod appending;
@@ -14,12 +17,12 @@ mod change;
 mod end;
 mod fault;
 mod fields;
-mod page_table;
-mod store;
 mod names;
+mod page_table;
 mod pages;
 mod record;
 mod scanning;
+mod store;
 
 pub use appending::{append, settle};
 pub use body::{LogBody, build};

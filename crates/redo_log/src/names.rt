@@ -172,7 +172,13 @@ pub fn names_at<'a>(
     let mut names = Vec::new(alloc);
     let mut rest = bytes;
     for _ in 0..count {
-        let (name, behind) = name_at(alloc, commit, names.as_slice(), store.names.as_slice(), rest)?;
+        let (name, behind) = name_at(
+            alloc,
+            commit,
+            names.as_slice(),
+            store.names.as_slice(),
+            rest,
+        )?;
         store.take_name(&name)?;
         names.push(name)?;
         rest = behind;

@@ -59,10 +59,16 @@ fn id_at<'a>(
 {
     let names = store.names.as_slice();
     let (commit, rest) = number_at(bytes)?;
-    check(is_next_commit(done, commit) && has_commit(names, commit), bytes.len())?;
+    check(
+        is_next_commit(done, commit) && has_commit(names, commit),
+        bytes.len(),
+    )?;
     let (ordinal, rest) = number_at(rest)?;
     let space = Space { commit, ordinal };
-    check(is_next_space(done, space) && has_space(names, space), bytes.len())?;
+    check(
+        is_next_space(done, space) && has_space(names, space),
+        bytes.len(),
+    )?;
     let (number, rest) = number_at(rest)?;
     let id = PageId { space, number };
     check(is_next_page(done, id), bytes.len())?;
@@ -78,11 +84,7 @@ fn page_of(alloc: Global, bytes: &[u8]) -> Result<Page, NoMemory>
     Page::of(alloc, draft)
 }
 
-fn image_if(
-    alloc: Global,
-    is_there: bool,
-    bytes: &[u8],
-) -> Result<(Option<Page>, &[u8]), ReadEnd>
+fn image_if(alloc: Global, is_there: bool, bytes: &[u8]) -> Result<(Option<Page>, &[u8]), ReadEnd>
     ensures gives { Gives (λ x. (x.0, x.1.now)) result (image_if is_there bytes.now) }
     ensures shorter { IfOk result (λ x. length x.1.now ≤ length bytes.now) }
 {

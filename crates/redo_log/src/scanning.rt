@@ -83,11 +83,7 @@ fn read_from<D: Device>(
 }
 
 // The records at the front of bytes, which begin with a gate, and the closed gate behind them.
-fn records_at(
-    alloc: Global,
-    store: Store,
-    bytes: &[u8],
-) -> Result<(Vec<Change>, &[u8]), ReadEnd>
+fn records_at(alloc: Global, store: Store, bytes: &[u8]) -> Result<(Vec<Change>, &[u8]), ReadEnd>
     ensures found { IfOk result (λ x. AreRecords store x.0.items bytes.now x.1.now) }
     ensures wrong { IfErr result (λ e. Refuses store bytes.now e) }
 {
@@ -126,7 +122,12 @@ pub fn scan<D: Device>(
     ensures faults { D.failures device.old ≤ D.failures device.new }
 {
     let bytes = read_from(alloc, device, file, at)?;
-    let base = Store::of(alloc, base.commit, base.entries.as_slice(), base.pages.as_slice());
+    let base = Store::of(
+        alloc,
+        base.commit,
+        base.entries.as_slice(),
+        base.pages.as_slice(),
+    );
     let Ok(store) = base else {
         return Err(ScanEnd::NoMemory);
     };

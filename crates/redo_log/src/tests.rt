@@ -2,6 +2,8 @@ ghost use Rattle.std.specs.Prelude.{◌≡◌, ◌≤◌, [], IfOk, IfSome, All,
 ghost use Rattle.page_device.specs.MemDevice.{contents_of, MayLeave};
 ghost use Rattle.redo_log.specs.Append.{IsAtRest};
 
+mod reading;
+
 use crate::{AppendEnd, Change, LogEnd, LogName, LogNameList, append, build, settle};
 use page_bytes::{ChangeList, DocEntry, Draft, Page, PageChange, PageId, Space};
 use page_device::{
@@ -18,8 +20,8 @@ const HEAD: [u8; 41] = [
     0, 0, 0, 0, 0, 0, 0, 0, 0, 0, 0, 0,
 ];
 
-// A log with this head on a device whose sync of this number fails.
-fn new_log(alloc: Global, sync: u64) -> Result<MemDevice, AllocError>
+// A log with this head and a closed gate, on a device whose sync of this number fails, and that stops after so many calls.
+fn new_log(alloc: Global, sync: u64, stop: Option<u64>) -> Result<MemDevice, AllocError>
     ensures { IfOk result (λ m. IfSome (contents_of m) (λ c. IsAtRest (record { file = Which.LogA; at = 41 }) c (MayLeave m))) }
 {
     let mut log = Vec::from_slice(alloc, &HEAD)?;
@@ -36,7 +38,7 @@ fn new_log(alloc: Global, sync: u64) -> Result<MemDevice, AllocError>
         log,
         Vec::new(alloc),
         FailList::of(fails),
-        None,
+        stop,
     ))
 }
 
@@ -77,7 +79,7 @@ fn is_first_record(bytes: &[u8; 36]) -> bool {
 #[test]
 fn forty_two_bytes_of_a_new_log_become_seventy_five(rt: HostRuntime) -> Result<(), Fail> {
     let alloc = rt.alloc();
-    let mut device = new_log(alloc, 0)?;
+    let mut device = new_log(alloc, 0, None)?;
     let mut end = first_end();
     let body = build(alloc, &no_changes(alloc, 1))?;
     assert_eq!(rt; append(&mut device, &mut end, &body), Ok(()));
@@ -97,7 +99,7 @@ fn forty_two_bytes_of_a_new_log_become_seventy_five(rt: HostRuntime) -> Result<(
 #[test]
 fn a_second_sync_that_fails_is_a_doubt_that_settles_with_yes(rt: HostRuntime) -> Result<(), Fail> {
     let alloc = rt.alloc();
-    let mut device = new_log(alloc, 2)?;
+    let mut device = new_log(alloc, 2, None)?;
     let mut end = first_end();
     let body = build(alloc, &no_changes(alloc, 1))?;
     let Err(AppendEnd::Doubt) = append(&mut device, &mut end, &body) else {
@@ -115,7 +117,7 @@ fn a_second_sync_that_fails_is_a_doubt_that_settles_with_yes(rt: HostRuntime) ->
 #[test]
 fn a_first_sync_that_fails_leaves_the_gate(rt: HostRuntime) -> Result<(), Fail> {
     let alloc = rt.alloc();
-    let mut device = new_log(alloc, 1)?;
+    let mut device = new_log(alloc, 1, None)?;
     let mut end = first_end();
     let body = build(alloc, &no_changes(alloc, 1))?;
     assert_eq!(rt;
@@ -132,7 +134,7 @@ fn a_first_sync_that_fails_leaves_the_gate(rt: HostRuntime) -> Result<(), Fail> 
 #[test]
 fn an_append_that_failed_may_be_tried_again(rt: HostRuntime) -> Result<(), Fail> {
     let alloc = rt.alloc();
-    let mut device = new_log(alloc, 1)?;
+    let mut device = new_log(alloc, 1, None)?;
     let mut end = first_end();
     let body = build(alloc, &no_changes(alloc, 1))?;
     let Err(AppendEnd::Failed) = append(&mut device, &mut end, &body) else {

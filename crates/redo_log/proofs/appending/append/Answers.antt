@@ -1,5 +1,5 @@
-use Rattle.std.proofs.Common.{◌≡◌, ◌+◌, Option, Some, List, [], ◌∷◌, ℕ, length, sym, ap, ◌∙◌, subst, refl, rules}
-use Rattle.page_device.specs.Image.{Image, bytes_of, with_bytes}
+use Rattle.std.proofs.Common.{◌+◌, Some, List, [], ◌∷◌, ℕ, length, ap, ◌∙◌, subst, refl}
+use Rattle.page_device.specs.Image.{bytes_of, with_bytes}
 use Rattle.page_device.specs.Write.{overlay}
 use Rattle.page_device.specs.Device.{FileIs}
 use Rattle.page_device.specs.Run.{Each, LeavesOnly}

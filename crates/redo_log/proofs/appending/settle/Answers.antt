@@ -1,5 +1,4 @@
-use Rattle.std.proofs.Common.{◌≡◌, ◌+◌, Option, Some, ℕ, List, length, sym, ap, ◌∙◌, subst, refl, rules}
-use Rattle.page_device.specs.Image.{bytes_of}
+use Rattle.std.proofs.Common.{◌+◌, ℕ, List, length, sym, ap, ◌∙◌}
 use Rattle.page_device.proofs.Told.{if_told, told}
 use Rattle.redo_log.specs.declared.end.LogEnd.{LogEnd}
 use Rattle.redo_log.proofs.Parts.{keeps_others-twice}

@@ -1,4 +1,4 @@
-use Rattle.std.proofs.Common.{rules, ◌≡◌, ◌≤◌, ◌-◌, ◌++◌, ◌∷◌, [], ℕ, List, length, drop, arith, sym, ap, ◌∙◌, length-append}
+use Rattle.std.proofs.Common.{rules, ◌≡◌, ◌-◌, ◌++◌, ◌∷◌, [], ℕ, List, length, drop, arith, ap, ◌∙◌, length-append}
 use Rattle.redo_log.specs.Record.{number, body_of, tail_of}
 use Rattle.redo_log.proofs.Bodies.{length-number, made, is_tail, body_is}
 use Rattle.redo_log.proofs.body.build.Goals as goal

@@ -1,4 +1,4 @@
-use Rattle.std.proofs.Common.{◌≡◌, ◌-◌, ◌+◌, ◌++◌, ◌∷◌, [], sym, ap, ◌∙◌, subst, arith, rules, List, Ok}
+use Rattle.std.proofs.Common.{◌≡◌, ◌-◌, ◌+◌, sym, ap, ◌∙◌, subst, arith, List, Ok}
 use Rattle.std.proofs.lemmas.Result.{err_from_is_err_and}
 use Rattle.redo_log.specs.Gives.{Fails}
 use Rattle.redo_log.specs.Reading.{page_at, pages_at}
@@ -15,7 +15,7 @@ returns-in_err-page-clause-gives c =
 pub loop-preserved : goal.loop-preserved
 loop-preserved c = record {
   so_far = ap (λ done. pages_at (c.args.count - (c.loop.counter + 1)) done c.args.store.now c.in_ok-page.behind.now) c.in_ok-push.ensures.items ∙ (sym (page_more c.args.count c.loop.counter c.loop.pages.items c.args.store.now c.loop.rest.now c.in_ok-page.page c.in_ok-page.behind.now c.loop-test.true
-    (subst (λ (done : List PageChange). page_at done c.args.store.now c.loop.rest.now ≡ Ok (c.in_ok-page.page, c.in_ok-page.behind.now)) c.as_slice.ensures.value c.in_ok-page.ensures.gives)) ∙ c.loop.invariant.so_far);
+      (subst (λ (done : List PageChange). page_at done c.args.store.now c.loop.rest.now ≡ Ok (c.in_ok-page.page, c.in_ok-page.behind.now)) c.as_slice.ensures.value c.in_ok-page.ensures.gives)) ∙ c.loop.invariant.so_far);
   shorter = omega (arith, c.loop.invariant.shorter, c.in_ok-page.ensures.shorter);
 }
 

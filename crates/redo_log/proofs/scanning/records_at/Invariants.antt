@@ -1,5 +1,5 @@
 -- Whatever records, or whatever refusal, come from here, they come behind those so far.
-use Rattle.std.proofs.Common.{◌≡◌, ℕ, List, ◌++◌, length}
+use Rattle.std.proofs.Common.{ℕ, List, ◌++◌, length}
 use Rattle.redo_log.specs.declared.change.Change.{Change}
 use Rattle.redo_log.specs.Reading.{AreRecords, IsRefused}
 use Rattle.redo_log.proofs.scanning.records_at.Given as goal

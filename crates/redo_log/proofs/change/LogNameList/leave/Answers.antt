@@ -1,4 +1,4 @@
-use Rattle.std.proofs.Common.{◌≡◌, not, filter, refl, ap, ◌∙◌, rules}
+use Rattle.std.proofs.Common.{◌≡◌, not, refl, ap, ◌∙◌, rules}
 use Rattle.std.specs.Str.{bytes_eq}
 use Rattle.redo_log.specs.Store.{others_of}
 use Rattle.redo_log.specs.declared.change.LogName.{LogName}
