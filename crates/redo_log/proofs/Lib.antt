@@ -6,3 +6,5 @@ pub mod Lengths
 pub mod Loops
 pub mod Kept
 pub mod Scans
+pub mod Takes
+pub mod Found

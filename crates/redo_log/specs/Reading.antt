@@ -1,6 +1,6 @@
 -- How a record is read, field by field, with the first wrong field. A field is read from the front of bytes and gives
 -- what stands behind it. A wrong field is named by how many bytes of the file stand from it on.
-use Rattle.std.specs.Prelude.{◌≡◌, ◌⊎◌, ℕ, zero, suc, ◌+◌, ◌-◌, Bool, true, false, not, ◌==◌, ◌&&◌, ◌||◌, nat_lt, nat_le, slice_get, if◌then◌else◌, List, [], ◌∷◌, ◌++◌, length, take, drop, Option, Some, None, is_some, is_none, Result, Ok, Err}
+use Rattle.std.specs.Prelude.{◌≡◌, ◌⊎◌, ℕ, zero, suc, ◌+◌, ◌-◌, Bool, true, false, not, ◌==◌, ◌&&◌, ◌||◌, nat_lt, nat_le, slice_get, slice_index, ◌<◌, if◌then◌else◌, List, [], ◌∷◌, ◌++◌, length, take, drop, Option, Some, None, is_some, is_none, Result, Ok, Err}
 use Rattle.std.specs.List.{list_all}
 use Rattle.std.specs.Int.{w64, from_be_bytes}
 use Rattle.std.specs.Str.{is_utf8}
@@ -31,6 +31,10 @@ abbrev pub ◌>>=◌ : {A B : Type 0} → Result A ℕ → (A → Result B ℕ) 
 abbrev pub check : Bool → ℕ → Result (Unit {0}) ℕ
 check true n = Ok tt
 check false n = Err n
+
+-- bytes are numbers below 256
+abbrev pub IsBytes : List ℕ → Type 0
+IsBytes bytes = (i : ℕ) → slice_index bytes i < 256
 
 -- A number of eight bytes, or of one.
 unfoldable pub number_in : List ℕ → ℕ

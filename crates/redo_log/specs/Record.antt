@@ -45,3 +45,7 @@ body_of c = number c.commit ++ number (length c.names) ++ flat_map name_change c
 -- what stands behind a record's gate: the body's length, the body, and the next gate, which is closed
 abbrev pub tail_of : List ℕ → List ℕ
 tail_of body = number (length body) ++ body ++ 0 ∷ []
+
+-- a record whose gate is open, up to the next gate
+abbrev pub record_of : Change → List ℕ
+record_of c = 1 ∷ (number (length (body_of c)) ++ body_of c)

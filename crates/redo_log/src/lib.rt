@@ -17,6 +17,7 @@ mod change;
 mod end;
 mod fault;
 mod fields;
+mod laws;
 mod names;
 mod page_table;
 mod pages;
@@ -28,6 +29,7 @@ pub use appending::{append, settle};
 pub use body::{LogBody, build};
 pub use change::{Change, LogChangeList, LogName, LogNameList};
 pub use end::{AppendEnd, LogEnd};
+pub use laws::record_laws;
 pub use scanning::{LogBase, ScanEnd, Scanned, scan};
 
 #[cfg(test)]

@@ -1,9 +1,11 @@
 //! The records of a log, read from a gate on.
-ghost use Rattle.std.specs.Prelude.{◌≡◌, ◌≤◌, ◌<◌, ◌+◌, ◌-◌, ℕ, length, drop, IfOk, IfErr, IsErrOf, IfSome, OnOk, OnErr};
+ghost use Rattle.std.specs.Prelude.{◌≡◌, ◌≤◌, ◌<◌, ◌+◌, ◌-◌, ◌++◌, ℕ, length, drop, IfOk, IfErr, IsErrOf, IfSome, OnOk, OnErr};
 ghost use Rattle.page_device.specs.declared.device.Which.{Which as AnyFile};
 ghost use Rattle.page_device.specs.Image.{bytes_of};
 ghost use Rattle.page_device.specs.Device.{Rose, Same, Elapses, HasCause};
 ghost use Rattle.page_device.specs.Run.{LeavesOnly};
+ghost use Rattle.std.specs.List.{flat_map};
+ghost use Rattle.redo_log.specs.Record.{record_of};
 ghost use Rattle.redo_log.specs.Reading.{AreRecords};
 ghost use Rattle.redo_log.specs.Scan.{Scans, IsNoStore, Refuses};
 
@@ -85,6 +87,7 @@ fn read_from<D: Device>(
 // The records at the front of bytes, which begin with a gate, and the closed gate behind them.
 fn records_at(alloc: Global, store: Store, bytes: &[u8]) -> Result<(Vec<Change>, &[u8]), ReadEnd>
     ensures found { IfOk result (λ x. AreRecords store x.0.items bytes.now x.1.now) }
+    ensures spelled { IfOk result (λ x. bytes.now ≡ flat_map record_of x.0.items ++ x.1.now) }
     ensures wrong { IfErr result (λ e. Refuses store bytes.now e) }
 {
     let mut store = store;
@@ -98,6 +101,21 @@ fn records_at(alloc: Global, store: Store, bytes: &[u8]) -> Result<(Vec<Change>,
         let (change, next) = record_at(alloc, &mut store, behind)?;
         changes.push(change)?;
         rest = next;
+    }
+}
+
+// What was found from a place on, of whose bytes these are the rest.
+fn found_from(file: Which, at: u64, bytes: &[u8], changes: Vec<Change>, rest: &[u8]) -> Scanned
+    requires { 0 < length bytes.now → at + length bytes.now ≤ LONGEST }
+    ensures changes { result.changes ≡ changes.items }
+    ensures end { result.end ≡ record { file = file; at = at + (length bytes.now - length rest.now) } }
+{
+    Scanned {
+        changes: LogChangeList::of(changes),
+        end: LogEnd {
+            file,
+            at: at + (bytes.len().saturating_sub(rest.len())) as u64,
+        },
     }
 }
 
@@ -132,13 +150,7 @@ pub fn scan<D: Device>(
         return Err(ScanEnd::NoMemory);
     };
     match records_at(alloc, store, bytes.as_slice()) {
-        Ok((changes, rest)) => Ok(Scanned {
-            changes: LogChangeList::of(changes),
-            end: LogEnd {
-                file,
-                at: at + (bytes.len().saturating_sub(rest.len())) as u64,
-            },
-        }),
+        Ok((changes, rest)) => Ok(found_from(file, at, bytes.as_slice(), changes, rest)),
         Err(ReadEnd::Wrong(left)) => Err(ScanEnd::NotAStore {
             file,
             at: at + (bytes.len().saturating_sub(left)) as u64,
