@@ -77,9 +77,10 @@ bytes_take n bytes text rest fits e =
     let g = guard_ok (ltb (length bytes) n) (length bytes) (take n bytes, drop n bytes) (text, rest) e in
     let long : n ≤ length bytes = ltb-false _ _ g.0 in
     let text-is : take n bytes ≡ text = ap (λ (p : List ℕ × List ℕ). p.0) g.1 in
-    let rest-is : drop n bytes ≡ rest = ap (λ (p : List ℕ × List ℕ). p.1) g.1 in
-    (record { parts = sym (take-append-drop n bytes) ∙ (ap (λ (l : List ℕ). l ++ drop n bytes) text-is ∙ ap (λ (l : List ℕ). text ++ l) rest-is); rest_fits = subst IsBytes rest-is (IsBytes-drop n bytes fits) },
-    ap length (sym text-is) ∙ omega (arith, length-take n bytes))
+    let rest-is : drop n bytes ≡ rest = ap (λ (p : List ℕ × List ℕ). p.1) g.1 in (
+      record { parts = sym (take-append-drop n bytes) ∙ (ap (λ (l : List ℕ). l ++ drop n bytes) text-is ∙ ap (λ (l : List ℕ). text ++ l) rest-is); rest_fits = subst IsBytes rest-is (IsBytes-drop n bytes fits) },
+      ap length (sym text-is) ∙ omega (arith, length-take n bytes),
+    )
 
 -- ---- names
 

@@ -9,5 +9,4 @@ ghost use Rattle.redo_log.specs.Reading.{IsBytes, record_at};
 #[tactic(auto, using(crate::proofs::Takes::record_spelled))]
 pub fn record_laws()
     ensures spelled { (s : Store) (bytes : List ℕ) (c : Change) (rest : List ℕ) → IsBytes bytes → record_at s bytes ≡ Ok (c, rest) → 1 ∷ bytes ≡ record_of c ++ rest }
-{
-}
+{}
