@@ -1,0 +1,10 @@
+pub mod Parts
+pub mod Gates
+pub mod Bodies
+pub mod Texts
+pub mod Lengths
+pub mod Loops
+pub mod Kept
+pub mod Scans
+pub mod Takes
+pub mod Found

@@ -1,0 +1,36 @@
+//! The log of a store: records behind gates, appended one at a time.
+//!
+//! A record is a commit: the names that it changes and the pages that it changes. `build` spells it as bytes, and takes
+//! all the memory. `append` writes the bytes behind a closed gate, syncs, opens the gate, and syncs again, so at every
+//! moment each image of the device has the log as before or with the record. Its answers are Failed, where no image has
+//! the record; Doubt, where each has all of it but for the gate; Spent, where the file would grow past its last length.
+//! `settle` ends a doubt: it syncs and reads the gate. Neither takes memory.
+//! `scan` gives the change of each record whose gate is open, and the closed gate that ends them; it refuses with the
+//! first field that runs past the end or is wrong. What the bytes of a record are, and how bytes are read, are
+//! definitions over lists.
+#![tactic(auto)]
+
+mod appending;
+mod body;
+mod catalogue;
+mod change;
+mod end;
+mod fault;
+mod fields;
+mod laws;
+mod names;
+mod page_table;
+mod pages;
+mod record;
+mod scanning;
+mod store;
+
+pub use appending::{append, settle};
+pub use body::{LogBody, build};
+pub use change::{Change, LogChangeList, LogName, LogNameList};
+pub use end::{AppendEnd, LogEnd};
+pub use laws::record_laws;
+pub use scanning::{LogBase, ScanEnd, Scanned, scan};
+
+#[cfg(test)]
+mod tests;
