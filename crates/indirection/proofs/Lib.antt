@@ -1,2 +1,10 @@
 pub mod Pages
 pub mod Answering
+pub mod Steps
+pub mod Seen
+pub mod Fields
+pub mod Meanings
+pub mod Findings
+pub mod Writings
+pub mod Changing
+pub mod Ending

@@ -4,3 +4,4 @@ pub mod Finding
 pub mod Writing
 pub mod Adding
 pub mod Answers
+pub mod Meaning

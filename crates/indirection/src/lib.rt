@@ -3,11 +3,12 @@
 
 mod forms;
 mod growing;
+mod map;
 mod numbers;
 mod reading;
 mod writing;
 
-pub use numbers::{add, change, find, remove};
+pub use map::{add, change, find, remove};
 
 #[cfg(test)]
 mod tests;

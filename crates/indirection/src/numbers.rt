@@ -1,4 +1,4 @@
-//! The calls on node numbers.
+//! What the calls on node numbers do, page by page.
 ghost use Rattle.std.specs.Prelude.{◌≡◌, ◌<◌, ◌≤◌, OnOk, IfOk, IfErr, IsTrue};
 ghost use Rattle.page_bytes.specs.Known.{is_there};
 ghost use Rattle.page_bytes.specs.PageNumber.{page_number};
@@ -14,7 +14,7 @@ use crate::writing::{write_entry, write_short};
 use page_bytes::{Addr, NodeNo, PageEnd, PageId, Pages, Space, Workspace};
 
 /// The address of a node by its number, if the number is there.
-pub fn find<P: Pages>(pages: &P, space: Space, no: NodeNo) -> Result<Option<Addr>, PageEnd>
+pub fn find_address<P: Pages>(pages: &P, space: Space, no: NodeNo) -> Result<Option<Addr>, PageEnd>
     ensures { result ≡ address_in (P.known pages.now) space no.0 }
 {
     let numbers = read_numbers(pages, space)?;
@@ -51,10 +51,11 @@ fn taken_leaf<P: Pages>(
 }
 
 /// Gives a number that is there another address.
-pub fn change(work: &mut Workspace, space: Space, no: NodeNo, to: Addr) -> Result<(), PageEnd>
+pub fn set_address(work: &mut Workspace, space: Space, no: NodeNo, to: Addr) -> Result<(), PageEnd>
     requires layer { to.layer ≤ 72057594037927935 }
     requires page { 0 < page_number to }
-    ensures { Answers (changed_in work.old space no.0 to) result work.new }
+    ensures pages { Answers (changed_in work.old space no.0 to) result work.new }
+    ensures fits { (to.page < 256) × (to.at < 65536) }
 {
     let numbers = read_numbers(work, space)?;
     let leaf = taken_leaf(work, space, &numbers, no.0)?;
@@ -69,7 +70,7 @@ pub fn change(work: &mut Workspace, space: Space, no: NodeNo, to: Addr) -> Resul
 }
 
 /// Takes a number away. It is the next that `add` gives.
-pub fn remove(work: &mut Workspace, space: Space, no: NodeNo) -> Result<(), PageEnd>
+pub fn take_number(work: &mut Workspace, space: Space, no: NodeNo) -> Result<(), PageEnd>
     ensures { Answers (removed_in work.old space no.0) result work.new }
 {
     let numbers = read_numbers(work, space)?;
@@ -155,10 +156,11 @@ fn append(
 }
 
 /// Gives a node a number: the first free one, or else the one after the highest.
-pub fn add(work: &mut Workspace, space: Space, to: Addr) -> Result<NodeNo, PageEnd>
+pub fn give_number(work: &mut Workspace, space: Space, to: Addr) -> Result<NodeNo, PageEnd>
     requires layer { to.layer ≤ 72057594037927935 }
     requires page { 0 < page_number to }
-    ensures { Answers (added_in work.old space to) result work.new }
+    ensures pages { Answers (added_in work.old space to) result work.new }
+    ensures fits { (to.page < 256) × (to.at < 65536) }
 {
     let numbers = read_numbers(work, space)?;
     if numbers.first_free == 0 {

@@ -105,8 +105,8 @@ fn numbers_stand_in_two_directory_pages(rt: HostRuntime) -> Result<(), Fail> {
     assert_eq!(rt; add_up_to(&mut work, count), Ok(true));
     assert_eq!(rt; first_wrong(&work, count), None);
     assert_eq!(rt; find(&work, SPACE, NodeNo(count)), Ok(None));
-    let pages = work.page(id(0)).map(|head| read_u64(head, 2));
-    assert_eq!(rt; pages, Some(1 + 1 + 2 + 513));
+    let head = work.page(id(0)).ok_or("no head")?;
+    assert_eq!(rt; read_u64(head, 2), 1 + 1 + 2 + 513);
     Ok(())
 }
 
@@ -171,19 +171,13 @@ fn ten_thousand_changes_agree_with_a_map(rt: HostRuntime) -> Result<(), Fail> {
     Ok(())
 }
 
-// What `find` of number 1 and `add` answer over a head and a page 1 and 2.
-fn over(alloc: Global, head: Page, first: Page, second: Page) -> Result<Workspace, NoMemory> {
-    let mut set = PageSet::new(alloc);
-    set.put(id(0), head)?;
-    set.put(id(1), first)?;
-    set.put(id(2), second)?;
-    Ok(Workspace::over(alloc, set))
+fn needed(number: u64) -> Result<Option<Addr>, PageEnd> {
+    Err(PageEnd::Need { page: id(number) })
 }
 
 #[test]
 fn pages_that_are_not_there_are_needed_or_damaged(rt: HostRuntime) -> Result<(), Fail> {
     let alloc = rt.alloc();
-    let needed = |number| Err(PageEnd::Need { page: id(number) });
     let mut work = Workspace::over(alloc, PageSet::new(alloc));
     assert_eq!(rt; find(&work, SPACE, NodeNo(1)), needed(0));
     work.open_space(SPACE)?;
@@ -201,88 +195,133 @@ fn pages_that_are_not_there_are_needed_or_damaged(rt: HostRuntime) -> Result<(),
     Ok(())
 }
 
+// Fields of the head, the root, a directory page and a leaf, in pages 0, 1, 2 and 3.
+#[derive(Clone, Copy)]
+struct Fields {
+    next: u64,
+    root: u64,
+    free: u32,
+    highest: u32,
+    root_kind: u8,
+    directory: u64,
+    directory_kind: u8,
+    leaf: u64,
+    leaf_kind: u8,
+    entry: u64,
+}
+
+const SOUND: Fields = Fields {
+    next: 4,
+    root: 1,
+    free: 0,
+    highest: 1,
+    root_kind: 7,
+    directory: 2,
+    directory_kind: 7,
+    leaf: 3,
+    leaf_kind: 6,
+    entry: 5,
+};
+
+fn pages_of(alloc: Global, fields: &Fields) -> Result<PageSet, NoMemory> {
+    let mut set = PageSet::new(alloc);
+    let first = head(alloc, fields.next, fields.root, fields.free, fields.highest)?;
+    set.put(id(0), first)?;
+    set.put(id(1), page(alloc, fields.root_kind, 8, fields.directory)?)?;
+    set.put(id(2), page(alloc, fields.directory_kind, 8, fields.leaf)?)?;
+    set.put(id(3), page(alloc, fields.leaf_kind, 16, fields.entry)?)?;
+    Ok(set)
+}
+
+fn found_over(alloc: Global, fields: &Fields) -> Result<Option<Addr>, PageEnd> {
+    let set = pages_of(alloc, fields)?;
+    find(&set, SPACE, NodeNo(1))
+}
+
+fn added_over(alloc: Global, fields: &Fields) -> Result<NodeNo, PageEnd> {
+    let mut work = Workspace::over(alloc, pages_of(alloc, fields)?);
+    added(&mut work, Addr::of(9, 32))
+}
+
 #[test]
-fn broken_pages_are_damaged(rt: HostRuntime) -> Result<(), Fail> {
-    let alloc = rt.alloc();
-    let most = 88781140;
+fn broken_pages_are_damaged(rt: HostRuntime) {
+    let cases = [
+        (Fields { next: 0, ..SOUND }, 0),
+        (
+            Fields {
+                highest: 88781141,
+                ..SOUND
+            },
+            0,
+        ),
+        (Fields { root: 0, ..SOUND }, 0),
+        (
+            Fields {
+                root_kind: 5,
+                ..SOUND
+            },
+            1,
+        ),
+        (
+            Fields {
+                directory: 0,
+                ..SOUND
+            },
+            1,
+        ),
+        (
+            Fields {
+                directory_kind: 6,
+                ..SOUND
+            },
+            2,
+        ),
+        (Fields { leaf: 0, ..SOUND }, 2),
+        (Fields { leaf: 2, ..SOUND }, 2),
+    ];
+    for (fields, number) in &cases {
+        let damaged = Err(PageEnd::Damaged { page: id(*number) });
+        assert_eq!(rt; found_over(rt.alloc(), fields), damaged);
+    }
+}
+
+#[test]
+fn broken_free_lists_are_damaged(rt: HostRuntime) {
     let cases = [
         (
-            over(
-                alloc,
-                head(alloc, 0, 1, 0, 1)?,
-                page(alloc, 7, 8, 2)?,
-                page(alloc, 7, 8, 2)?,
-            )?,
-            0,
-            "no next page",
+            Fields { free: 2, ..SOUND },
+            Err(PageEnd::Damaged { page: id(0) }),
         ),
         (
-            over(
-                alloc,
-                head(alloc, 9, 1, 0, most + 1)?,
-                page(alloc, 7, 8, 2)?,
-                page(alloc, 7, 8, 2)?,
-            )?,
-            0,
-            "too many numbers",
+            Fields { free: 1, ..SOUND },
+            Err(PageEnd::Damaged { page: id(0) }),
         ),
         (
-            over(
-                alloc,
-                head(alloc, 9, 0, 0, 1)?,
-                page(alloc, 7, 8, 2)?,
-                page(alloc, 7, 8, 2)?,
-            )?,
-            0,
-            "no root",
+            Fields {
+                highest: 88781140,
+                ..SOUND
+            },
+            Err(PageEnd::Damaged { page: id(0) }),
         ),
         (
-            over(
-                alloc,
-                head(alloc, 9, 1, 0, 1)?,
-                page(alloc, 5, 8, 2)?,
-                page(alloc, 7, 8, 2)?,
-            )?,
-            1,
-            "the root's kind",
+            Fields {
+                next: u64::MAX,
+                highest: 340,
+                ..SOUND
+            },
+            Err(PageEnd::Spent { number: u64::MAX }),
         ),
         (
-            over(
-                alloc,
-                head(alloc, 9, 1, 0, 1)?,
-                page(alloc, 7, 8, 0)?,
-                page(alloc, 7, 8, 2)?,
-            )?,
-            1,
-            "no directory page",
+            Fields {
+                free: 1,
+                entry: 0,
+                ..SOUND
+            },
+            Ok(NodeNo(1)),
         ),
-        (
-            over(
-                alloc,
-                head(alloc, 9, 1, 0, 1)?,
-                page(alloc, 7, 8, 2)?,
-                page(alloc, 6, 8, 2)?,
-            )?,
-            2,
-            "the directory page's kind",
-        ),
-        (
-            over(
-                alloc,
-                head(alloc, 9, 1, 0, 1)?,
-                page(alloc, 7, 8, 2)?,
-                page(alloc, 7, 8, 2)?,
-            )?,
-            2,
-            "a directory page as a leaf",
-        ),
+        (SOUND, Ok(NodeNo(2))),
     ];
-    for (work, page, why) in &cases {
-        assert_eq!(rt;
-            find(work, SPACE, NodeNo(1)),
-            Err(PageEnd::Damaged { page: id(*page) }),
-            "{why}"
-        );
+    for (fields, wanted) in &cases {
+        assert_eq!(rt; added_over(rt.alloc(), fields), *wanted);
     }
-    Ok(())
 }
