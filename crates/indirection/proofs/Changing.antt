@@ -34,7 +34,7 @@ get-without_same m h = get-without m h h ∙ ap (λ b. cond b None (map.get m h)
 get-without_other : (m : map.FinMap nat_cmp Addr) (h x : ℕ) → x ≢ h → map.get (map.remove m h) x ≡ map.get m x
 get-without_other m h x differ = get-without m h x ∙ ap (λ b. cond b None (map.get m x)) (apart x h differ)
 
-listed_other : (hs : List ℕ) (h x : ℕ) → x ≢ h → is_listed (h ∷ hs) x ≡ is_listed hs x
+pub listed_other : (hs : List ℕ) (h x : ℕ) → x ≢ h → is_listed (h ∷ hs) x ≡ is_listed hs x
 listed_other hs h x differ = ap (λ b. b || is_listed hs x) (apart x h differ)
 
 listed_itself : (hs : List ℕ) (h : ℕ) → is_listed (h ∷ hs) h ≡ true

@@ -99,7 +99,7 @@ module _ (w : Work) (all : PageId → Option (List ℕ)) (space : Space) (m : No
       is_free leaf listed page place is = ap (λ b. taken_leaf space leaf (if b then Free place else Taken (record { layer = page / 256; page = page % 256; at = place }))) (eq-eqb page 0 is.0)
 
   -- the first free number is no more than the highest
-  free_small : (hs : List ℕ) (first : ℕ) → ((x : ℕ) → is_listed hs x ≡ true → is_listed m.free x ≡ true) → IsFreeList (seen w.now all space) first hs → first ≤ m.highest
+  pub free_small : (hs : List ℕ) (first : ℕ) → ((x : ℕ) → is_listed hs x ≡ true → is_listed m.free x ≡ true) → IsFreeList (seen w.now all space) first hs → first ≤ m.highest
   free_small [] first part is = omega (arith, is)
   free_small (y ∷ hs) first part is =
       let inside : y ≤ m.highest = at (nat_le y m.highest) refl in let same = is.0 in omega (arith, same, inside)

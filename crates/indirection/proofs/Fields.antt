@@ -32,7 +32,7 @@ kind_kept m page to x past within =
     first h = inl h
 
 -- two entries lie apart
-order : (j i : ℕ) → j ≢ i → (j < i) ⊎ (i < j)
+pub order : (j i : ℕ) → j ≢ i → (j < i) ⊎ (i < j)
 order j i differ = at (nat_lt j i) refl
   where
     at : (b : Bool) → nat_lt j i ≡ b → (j < i) ⊎ (i < j)

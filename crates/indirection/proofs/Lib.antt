@@ -8,3 +8,7 @@ pub mod Findings
 pub mod Writings
 pub mod Changing
 pub mod Ending
+pub mod NewPages
+pub mod Children
+pub mod Reaching
+pub mod Giving

@@ -1,7 +1,7 @@
 -- What one written page leaves of the root, the directory pages and the leaves.
 use Rattle.std.proofs.Common.{◌≡◌, ◌≢◌, ℕ, ◌+◌, ◌*◌, ◌/◌, ◌%◌, ◌<◌, ◌≤◌, Bool, true, false, nat_eq, nat_lt, List, length, slice_index, Option, refl, sym, ap, ◌∙◌, subst, true≢false, eq-eqb, arith}
 use Rattle.std.proofs.lemmas.Bool.{eqb-true, ltb-true, ltb-false}
-use Rattle.page_bytes.specs.Head.{next_page}
+use Rattle.page_bytes.specs.Head.{next_page, LAST_PAGE}
 use Rattle.indirection.specs.Forms.{LEAF_KIND, DIRECTORY_KIND, root, link}
 use Rattle.indirection.specs.Meaning.{bytes, IsPage, IsNumbered, root_number, directory_number, leaf_number, IsTable}
 
@@ -17,6 +17,7 @@ pub record Keeping (pages new : Pages) (roots directories leaves : ℕ) : Type 0
   pub head : IsPage new 2 0
   pub root : root_number new ≡ root_number pages
   pub next : next_page (bytes pages 0) ≤ next_page (bytes new 0)
+  pub last : next_page (bytes new 0) ≤ LAST_PAGE
   pub root_bytes : 0 < roots → bytes new (root_number pages) ≡ bytes pages (root_number pages)
   pub directory_bytes : (d : ℕ) → d < directories → bytes new (directory_number pages d) ≡ bytes pages (directory_number pages d)
   pub leaf_page : (l : ℕ) → l < leaves → IsPage new LEAF_KIND (leaf_number pages l)
@@ -44,6 +45,7 @@ module _ (pages new : Pages) (roots directories leaves : ℕ) (t : IsTable pages
   IsTable-kept = record {
     head = k.head;
     next = let before = t.next in let after = k.next in omega arith;
+    last = k.last;
     root = λ some. (of_kind DIRECTORY_KIND (root_number pages) (root_number new) k.root (k.root_bytes some) (t.root some).0, numbered (root_number pages) (root_number new) k.root (t.root some).1);
     directory = λ d below. (
       of_kind DIRECTORY_KIND (directory_number pages d) (directory_number new d) (directory_stays d below) (k.directory_bytes d below) (t.directory d below).0,
@@ -72,6 +74,7 @@ module _ (pages new : Pages) (roots directories leaves : ℕ) (t : IsTable pages
         head = subst (λ (b : List ℕ). (slice_index b 0 ≡ 2) × (length b ≡ 4096)) (sym head) t.head;
         root = ap root head;
         next = let same = ap next_page head in omega (arith, same);
+        last = let same = ap next_page head in let before = t.last in omega (arith, same, before);
         root_bytes = λ some. only (root_number pages) (kinds_apart pages DIRECTORY_KIND LEAF_KIND (root_number pages) leaf (λ is. absurd (omega (arith, is))) (t.root some).0 is_leaf);
         directory_bytes = λ d below'. only (directory_number pages d) (kinds_apart pages DIRECTORY_KIND LEAF_KIND (directory_number pages d) leaf (λ is. absurd (omega (arith, is))) (t.directory d below').0 is_leaf);
         leaf_page = λ m below'. either m below' (nat_eq (leaf_number pages m) leaf) refl;
@@ -82,12 +85,13 @@ module _ (pages new : Pages) (roots directories leaves : ℕ) (t : IsTable pages
       either m below' false is = subst (λ (b : List ℕ). (slice_index b 0 ≡ LEAF_KIND) × (length b ≡ 4096)) (sym (only (leaf_number pages m) (λ same. true≢false (sym (eq-eqb (leaf_number pages m) (leaf_number pages l) same) ∙ is)))) (t.leaf m below').0
 
   -- the head is written, and its root stays
-  pub head_written : Only pages new 0 → IsPage new 2 0 → root (bytes new 0) ≡ root (bytes pages 0) → next_page (bytes pages 0) ≤ next_page (bytes new 0) → Keeping pages new roots directories leaves
+  pub head_written : Only pages new 0 → IsPage new 2 0 → root (bytes new 0) ≡ root (bytes pages 0) → next_page (bytes pages 0) ≤ next_page (bytes new 0) → next_page (bytes new 0) ≤ LAST_PAGE → Keeping pages new roots directories leaves
   unfolding root_number
-  head_written only written same next = record {
+  head_written only written same next last = record {
     head = written;
     root = same;
     next = next;
+    last = last;
     root_bytes = λ some. only (root_number pages) (kinds_apart pages DIRECTORY_KIND 2 (root_number pages) 0 (λ is. absurd (omega (arith, is))) (t.root some).0 t.head);
     directory_bytes = λ d below. only (directory_number pages d) (kinds_apart pages DIRECTORY_KIND 2 (directory_number pages d) 0 (λ is. absurd (omega (arith, is))) (t.directory d below).0 t.head);
     leaf_page = λ l below. subst (λ (b : List ℕ). (slice_index b 0 ≡ LEAF_KIND) × (length b ≡ 4096)) (sym (only (leaf_number pages l) (kinds_apart pages LEAF_KIND 2 (leaf_number pages l) 0 (λ is. absurd (omega (arith, is))) (t.leaf l below).0 t.head))) (t.leaf l below).0;
@@ -107,6 +111,7 @@ pub record MakesPage (pages new : Pages) (kind n : ℕ) : Type 0 where
   pub head : IsPage new 2 0
   pub root : root (bytes new 0) ≡ root (bytes pages 0)
   pub next : next_page (bytes new 0) ≡ next_page (bytes pages 0) + 1
+  pub last : next_page (bytes new 0) ≤ LAST_PAGE
   pub page : IsPage new kind n
 
 module _ (pages new : Pages) (roots directories leaves : ℕ) (t : IsTable pages roots directories leaves) where
@@ -119,6 +124,10 @@ module _ (pages new : Pages) (roots directories leaves : ℕ) (t : IsTable pages
         leaf = λ l below is. let numbered = (t.leaf l below).1 in absurd (omega (arith, is, numbered));
       }
 
+  -- and no leaf changes
+  pub leaves_beside : (kind n l : ℕ) → MakesPage pages new kind n → l < leaves → bytes new (leaf_number pages l) ≡ bytes pages (leaf_number pages l)
+  leaves_beside kind n l made below = made.others (leaf_number pages l) (kinds_apart pages LEAF_KIND 2 (leaf_number pages l) 0 (λ is. absurd (omega (arith, is))) (t.leaf l below).0 t.head) (λ is. (new_beside kind n made).leaf l below (sym is))
+
   pub page_made : (kind n : ℕ) → MakesPage pages new kind n → Keeping pages new roots directories leaves
   unfolding root_number
   page_made kind n made =
@@ -126,6 +135,7 @@ module _ (pages new : Pages) (roots directories leaves : ℕ) (t : IsTable pages
         head = made.head;
         root = made.root;
         next = let next = made.next in omega (arith, next);
+        last = made.last;
         root_bytes = λ some. made.others (root_number pages) (kinds_apart pages DIRECTORY_KIND 2 (root_number pages) 0 (λ is. absurd (omega (arith, is))) (t.root some).0 t.head) (λ is. apart.root some (sym is));
         directory_bytes = λ d below. made.others (directory_number pages d) (kinds_apart pages DIRECTORY_KIND 2 (directory_number pages d) 0 (λ is. absurd (omega (arith, is))) (t.directory d below).0 t.head) (λ is. apart.directory d below (sym is));
         leaf_page = λ l below. subst (λ (b : List ℕ). (slice_index b 0 ≡ LEAF_KIND) × (length b ≡ 4096))
@@ -147,6 +157,7 @@ unfolding root_number
 root_linked pages new n t apart numbered page others head link next = record {
   head = head;
   next = let positive = t.next in omega (arith, next);
+  last = let before = t.last in omega (arith, next, before);
   root = λ some. (
     subst (IsPage new DIRECTORY_KIND) (sym link) (subst (λ (b : List ℕ). (slice_index b 0 ≡ DIRECTORY_KIND) × (length b ≡ 4096)) (sym (others n apart)) page),
     omega (arith, numbered, link, next),
@@ -167,10 +178,10 @@ pub record LinksDirectory (pages new : Pages) (directories n : ℕ) : Type 0 whe
 
 module _ (pages new : Pages) (directories leaves n : ℕ) (t : IsTable pages 1 directories leaves) (placed : (l : ℕ) → l < leaves → l / 511 < directories)
   (apart : IsBeside pages 1 directories leaves n) (numbered : IsNumbered pages n) (page : IsPage pages DIRECTORY_KIND n) (linked : LinksDirectory pages new directories n) where
-  head_same : bytes new 0 ≡ bytes pages 0
+  pub head_same : bytes new 0 ≡ bytes pages 0
   head_same = linked.others 0 (kinds_apart pages 2 DIRECTORY_KIND 0 (root_number pages) (λ is. absurd (omega (arith, is))) t.head (t.root (omega arith)).0)
 
-  root_same : root_number new ≡ root_number pages
+  pub root_same : root_number new ≡ root_number pages
   unfolding root_number
   root_same = ap root head_same
 
@@ -178,7 +189,7 @@ module _ (pages new : Pages) (directories leaves n : ℕ) (t : IsTable pages 1 d
   unfolding directory_number
   old_directory d below = ap (λ r. link d (bytes new r)) root_same ∙ linked.old_links d below
 
-  new_directory : directory_number new directories ≡ n
+  pub new_directory : directory_number new directories ≡ n
   unfolding directory_number
   new_directory = ap (λ r. link directories (bytes new r)) root_same ∙ linked.new_link
 
@@ -190,6 +201,10 @@ module _ (pages new : Pages) (directories leaves n : ℕ) (t : IsTable pages 1 d
   old_leaf l below =
       ap (λ d. link (l % 511) (bytes new d)) (old_directory (l / 511) (placed l below)) ∙ ap (link (l % 511)) (directory_bytes_same (l / 511) (placed l below))
 
+  pub leaf_bytes_same : (l : ℕ) → l < leaves → bytes new (leaf_number new l) ≡ bytes pages (leaf_number pages l)
+  leaf_bytes_same l below = ap (bytes new) (old_leaf l below)
+      ∙ linked.others (leaf_number pages l) (kinds_apart pages LEAF_KIND DIRECTORY_KIND (leaf_number pages l) (root_number pages) (λ is. absurd (omega (arith, is))) (t.leaf l below).0 (t.root (omega arith)).0)
+
   as_before : (kind m q : ℕ) → m ≡ q → q ≢ root_number pages → IsPage pages kind q × IsNumbered pages q → IsPage new kind m × IsNumbered new m
   as_before kind m q is differ h =
       subst (λ m. IsPage new kind m × IsNumbered new m) (sym is)
@@ -199,6 +214,7 @@ module _ (pages new : Pages) (directories leaves n : ℕ) (t : IsTable pages 1 d
   directory_linked = record {
     head = subst (λ (b : List ℕ). (slice_index b 0 ≡ 2) × (length b ≡ 4096)) (sym head_same) t.head;
     next = subst (λ (b : List ℕ). 0 < next_page b) (sym head_same) t.next;
+    last = subst (λ (b : List ℕ). next_page b ≤ LAST_PAGE) (sym head_same) t.last;
     root = λ some. subst (λ r. IsPage new DIRECTORY_KIND r × IsNumbered new r) (sym root_same) (linked.root, subst (λ (b : List ℕ). root_number pages < next_page b) (sym head_same) (t.root some).1);
     directory = λ d below. last_or_before directories d below
     (λ before. as_before DIRECTORY_KIND (directory_number new d) (directory_number pages d) (old_directory d before) (t.root_apart d before) (t.directory d before))
@@ -229,10 +245,10 @@ module _ (pages new : Pages) (directories leaves n : ℕ) (t : IsTable pages 1 d
   above_is : IsPage pages DIRECTORY_KIND (directory_number pages (leaves / 511)) × IsNumbered pages (directory_number pages (leaves / 511))
   above_is = t.directory (leaves / 511) (placed leaves (omega arith))
 
-  head_as_before : bytes new 0 ≡ bytes pages 0
+  pub head_as_before : bytes new 0 ≡ bytes pages 0
   head_as_before = linked.others 0 (kinds_apart pages 2 DIRECTORY_KIND 0 (directory_number pages (leaves / 511)) (λ is. absurd (omega (arith, is))) t.head above_is.0)
 
-  root_as_before : root_number new ≡ root_number pages
+  pub root_as_before : root_number new ≡ root_number pages
   unfolding root_number
   root_as_before = ap root head_as_before
 
@@ -283,6 +299,7 @@ module _ (pages new : Pages) (directories leaves n : ℕ) (t : IsTable pages 1 d
   leaf_linked = record {
     head = subst (λ (b : List ℕ). (slice_index b 0 ≡ 2) × (length b ≡ 4096)) (sym head_as_before) t.head;
     next = subst (λ (b : List ℕ). 0 < next_page b) (sym head_as_before) t.next;
+    last = subst (λ (b : List ℕ). next_page b ≤ LAST_PAGE) (sym head_as_before) t.last;
     root = λ some. stays_page DIRECTORY_KIND (root_number new) (root_number pages) root_as_before (λ is. t.root_apart (leaves / 511) (placed leaves (omega arith)) (sym is)) (t.root (omega arith));
     directory = λ d below. subst (λ m. IsPage new DIRECTORY_KIND m × IsNumbered new m) (sym (same_directory d)) (directory_there d below, subst (λ (b : List ℕ). directory_number pages d < next_page b) (sym head_as_before) (t.directory d below).1);
     leaf = λ l below. last_or_before leaves l below

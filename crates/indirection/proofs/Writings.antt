@@ -83,6 +83,7 @@ module _ (w : Work) (all : PageId → Option (List ℕ)) (space : Space) (at x r
       (ap (λ l. slice_index l 0) headed_bytes ∙ kind_kept 4 (bytes (seen w.now all space) 0) at x (omega (arith, behind)) fits ∙ t.head.0,
       ap length headed_bytes ∙ length-with_field 4 (bytes (seen w.now all space) 0) at x fits ∙ t.head.1)
       (headed_field 8 18 (inl (omega (arith, behind)))) (let same = headed_field 8 2 (inl (omega (arith, behind))) in omega (arith, same))
+      (let same = headed_field 8 2 (inl (omega (arith, behind))) in let before = t.last in omega (arith, same, before))
 
   pub headed_table : IsTable (seen headed.now all space) roots directories leaves
   headed_table = IsTable-kept (seen w.now all space) (seen headed.now all space) roots directories leaves t headed_keeps rooted placed

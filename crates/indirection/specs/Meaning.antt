@@ -7,8 +7,8 @@ use Rattle.page_bytes.specs.declared.ids.Space.{Space}
 use Rattle.page_bytes.specs.declared.ids.PageId.{PageId}
 use Rattle.page_bytes.specs.declared.ids.Addr.{Addr}
 use Rattle.page_bytes.specs.declared.end.PageEnd.{PageEnd}
-use Rattle.page_bytes.specs.declared.end.PageEnd.TheVariants.{Damaged}
-use Rattle.page_bytes.specs.Head.{head_of, next_page}
+use Rattle.page_bytes.specs.declared.end.PageEnd.TheVariants.{Damaged, Spent}
+use Rattle.page_bytes.specs.Head.{head_of, next_page, LAST_PAGE}
 use Rattle.page_bytes.specs.Known.{Known, is_unknown}
 use Rattle.indirection.specs.Forms.{MOST_NUMBERS, LEAF_KIND, DIRECTORY_KIND, leaf_index, entry_index, root, first_free, highest, link, entry_page, entry_place}
 use Rattle.indirection.specs.Reading.{page_of}
@@ -45,6 +45,7 @@ IsNumbered pages n = n < next_page (bytes pages 0)
 pub record IsTable (pages : ℕ → Option (List ℕ)) (roots directories leaves : ℕ) : Type 0 where
   pub head : IsPage pages 2 0
   pub next : 0 < next_page (bytes pages 0)
+  pub last : next_page (bytes pages 0) ≤ LAST_PAGE
   pub root : 0 < roots → IsPage pages DIRECTORY_KIND (root_number pages) × IsNumbered pages (root_number pages)
   pub directory : (d : ℕ) → d < directories → IsPage pages DIRECTORY_KIND (directory_number pages d) × IsNumbered pages (directory_number pages d)
   pub leaf : (l : ℕ) → l < leaves → IsPage pages LEAF_KIND (leaf_number pages l) × IsNumbered pages (leaf_number pages l)
@@ -129,3 +130,9 @@ with_number_given numbers to = record {
 -- there, which damages the head
 abbrev pub IsRefused : Known → Space → Option Addr → PageEnd → Type 0
 IsRefused k space there end = IsStop k end ⊎ ((there ≡ None) × (end ≡ Damaged (head_of space)))
+
+-- why no number is given: a need, want of memory, the end of the page numbers, or that there are as many numbers as there
+-- can be, which damages the head
+abbrev pub IsNotGiven : Known → Space → NodeNumbers → PageEnd → Type 0
+IsNotGiven k space numbers end =
+    IsStop k end ⊎ ((end ≡ Spent LAST_PAGE) ⊎ ((numbers.highest ≡ MOST_NUMBERS) × (numbers.free ≡ []) × (end ≡ Damaged (head_of space))))
