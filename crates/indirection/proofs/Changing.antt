@@ -54,7 +54,7 @@ means_address to there listed page place some free number at page_small at_small
     subst (λ (e : Option Addr × ℕ × ℕ). EntryMeans e.0 listed e.1 e.2) (λ i. (sym some i, sym number i, sym at i)) fields
 
 module _ (w : Work) (all : PageId → Option (List ℕ)) (space : Space) (m : NodeNumbers) (means : MeansNumbers (seen w.now all space) m)
-  (h : ℕ) (positive : 0 < h) (inside : h ≤ m.highest) (there : IsTrue (is_there w.now (page_of space (leaf_number (seen w.now all space) (leaf_index h))))) where
+    (h : ℕ) (positive : 0 < h) (inside : h ≤ m.highest) (there : IsTrue (is_there w.now (page_of space (leaf_number (seen w.now all space) (leaf_index h))))) where
   abbrev leaves : ℕ
   leaves = leaf_count m.highest
 
@@ -124,20 +124,20 @@ module _ (w : Work) (all : PageId → Option (List ℕ)) (space : Space) (m : No
         → MeansNumbers (seen (with_entry_in w space (leaf_number (seen w.now all space) (leaf_index h)) (entry_index h) (page_number to) to.at).now all space) (with_address m h to)
     means_changed to page_small at_small layer_small some =
         means_after (seen w.now all space) (seen (entry_written (page_number to) to.at).now all space) m (with_address m h to) h means
-            (record {
-              taken = λ x differ. get-with_other m.taken h x to differ;
-              listed = λ x differ. refl;
-              page = written_page_kept (page_number to) to.at;
-              place = written_place_kept (page_number to) to.at;
-              entry = means_address to (map.get (map.insert m.taken h to) h) (is_listed m.free h) _ _ (get-with_same m.taken h to) entry_was.3 (written_page (page_number to) to.at (omega (arith, layer_small, page_small)))
+        (record {
+          taken = λ x differ. get-with_other m.taken h x to differ;
+          listed = λ x differ. refl;
+          page = written_page_kept (page_number to) to.at;
+          place = written_place_kept (page_number to) to.at;
+          entry = means_address to (map.get (map.insert m.taken h to) h) (is_listed m.free h) _ _ (get-with_same m.taken h to) entry_was.3 (written_page (page_number to) to.at (omega (arith, layer_small, page_small)))
               (written_place (page_number to) to.at (omega (arith, at_small))) page_small at_small some;
-              given = (positive, inside);
-              raised = λ x differ up. up;
-              kept = omega arith;
-            })
-            (written_table (page_number to) to.at) (ap highest (written_head (page_number to) to.at) ∙ means.highest) means.most
-            (subst (λ n. IsFreeList (seen (entry_written (page_number to) to.at).now all space) n m.free) (sym (ap first_free (written_head (page_number to) to.at)))
-            (written_free (page_number to) to.at (first_free (bytes (seen w.now all space) 0)) m.free entry_was.3 (λ x listed. listed) means.free))
+          given = (positive, inside);
+          raised = λ x differ up. up;
+          kept = omega arith;
+        })
+        (written_table (page_number to) to.at) (ap highest (written_head (page_number to) to.at) ∙ means.highest) means.most
+        (subst (λ n. IsFreeList (seen (entry_written (page_number to) to.at).now all space) n m.free) (sym (ap first_free (written_head (page_number to) to.at)))
+        (written_free (page_number to) to.at (first_free (bytes (seen w.now all space) 0)) m.free entry_was.3 (λ x listed. listed) means.free))
 
     -- the number is free, and the first that is given again
     pub means_removed : IsTrue (is_there (with_entry_in w space (leaf_number (seen w.now all space) (leaf_index h)) (entry_index h) 0 (first_free (bytes (seen w.now all space) 0))).now (page_of space 0))
@@ -154,22 +154,23 @@ module _ (w : Work) (all : PageId → Option (List ℕ)) (space : Space) (m : No
         let most = means.most in
         let here : place_at (seen last.now all space) h ≡ free = place_kept h positive inside ∙ written_place 0 free small in
         means_after (seen w.now all space) (seen last.now all space) m (without_number m h) h means
-            (record {
-              taken = λ x differ. get-without_other m.taken h x differ;
-              listed = λ x differ. listed_other m.free h x differ;
-              page = λ x some up differ. page_kept x some up ∙ written_page_kept 0 free x some up differ;
-              place = λ x some up differ. place_kept x some up ∙ written_place_kept 0 free x some up differ;
-              entry = subst (λ (e : Option Addr × Bool). EntryMeans e.0 e.1 (page_at (seen last.now all space) h) (place_at (seen last.now all space) h)) (λ i. (sym (get-without_same m.taken h) i, sym (listed_itself m.free h) i))
+        (record {
+          taken = λ x differ. get-without_other m.taken h x differ;
+          listed = λ x differ. listed_other m.free h x differ;
+          page = λ x some up differ. page_kept x some up ∙ written_page_kept 0 free x some up differ;
+          place = λ x some up differ. place_kept x some up ∙ written_place_kept 0 free x some up differ;
+          entry = subst (λ (e : Option Addr × Bool). EntryMeans e.0 e.1 (page_at (seen last.now all space) h) (place_at (seen last.now all space) h)) (λ i. (sym (get-without_same m.taken h) i, sym (listed_itself m.free h) i))
               (page_kept h positive inside ∙ written_page 0 free (omega arith), refl);
-              given = (positive, inside);
-              raised = λ x differ up. up;
-              kept = omega arith;
-            })
-            (headed_table w1 all space 34 h directories directories leaves (omega arith) (omega arith) table (λ some. some) placed head_there)
-            (headed_field w1 all space 34 h directories directories leaves (omega arith) (omega arith) table (λ some. some) placed head_there 4 38 (inr (omega arith)) ∙ ap highest (written_head 0 free) ∙ means.highest)
-            most
-            (headed_written w1 all space 34 h directories directories leaves (omega arith) (omega arith) table (λ some. some) placed head_there (omega (arith, most, inside)),
-            entry_was.3,
-            subst (λ n. IsFreeList (seen last.now all space) n m.free) (sym here)
-            (IsFreeList-kept (seen w.now all space) (seen last.now all space) free m.free
-            (λ x listed. in_range m.free (λ x listed. listed) x listed (λ some up. place_kept x some up ∙ written_place_kept 0 free x some up (λ is. true≢false (sym listed ∙ ap (is_listed m.free) is ∙ entry_was.3)))) means.free))
+          given = (positive, inside);
+          raised = λ x differ up. up;
+          kept = omega arith;
+        })
+        (headed_table w1 all space 34 h directories directories leaves (omega arith) (omega arith) table (λ some. some) placed head_there)
+        (headed_field w1 all space 34 h directories directories leaves (omega arith) (omega arith) table (λ some. some) placed head_there 4 38 (inr (omega arith)) ∙ ap highest (written_head 0 free) ∙ means.highest)
+        most (
+          headed_written w1 all space 34 h directories directories leaves (omega arith) (omega arith) table (λ some. some) placed head_there (omega (arith, most, inside)),
+          entry_was.3,
+          subst (λ n. IsFreeList (seen last.now all space) n m.free) (sym here)
+              (IsFreeList-kept (seen w.now all space) (seen last.now all space) free m.free
+              (λ x listed. in_range m.free (λ x listed. listed) x listed (λ some up. place_kept x some up ∙ written_place_kept 0 free x some up (λ is. true≢false (sym listed ∙ ap (is_listed m.free) is ∙ entry_was.3)))) means.free),
+        )

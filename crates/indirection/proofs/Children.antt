@@ -56,7 +56,7 @@ module _ (b : List ℕ) (d n : ℕ) (below : d < 511) (small : n ≤ LAST_PAGE) 
   length_linked = length-with_field 8 b (link_at d) n (omega (arith, below, long)) ∙ long
 
 module _ (all : PageId → Option (List ℕ)) (space : Space) (begun : ℕ → Option (List ℕ)) (old : ℕ) (w : Work) (roots directories leaves : ℕ)
-  (s : Stands all space begun old w roots directories leaves) (kind : ℕ) (more : next_page (bytes (seen w.now all space) 0) < LAST_PAGE) where
+    (s : Stands all space begun old w roots directories leaves) (kind : ℕ) (more : next_page (bytes (seen w.now all space) 0) < LAST_PAGE) where
   pub mid_made : MakesPage (seen w.now all space) (seen (with_new kind w space).now all space) kind (next_in w space)
   mid_made = made w all space kind s.table.head s.there s.table.next more
 
@@ -76,9 +76,9 @@ module _ (all : PageId → Option (List ℕ)) (space : Space) (begun : ℕ → O
     there = there_with_new kind w space (page_of space 0) s.there;
     fields = λ m to behind. made_field w all space kind s.table.head s.there s.table.next more m to (omega (arith, behind)) ∙ s.fields m to behind;
     leaf_bytes = λ l below.
-    let inside : l < leaves = let few = s.leaf_numbers in omega (arith, few, below) in
-    ap (bytes (seen (with_new kind w space).now all space)) (leaf_stays (seen w.now all space) (seen (with_new kind w space).now all space) roots directories leaves s.table mid_keeps s.rooted s.placed l inside)
-    ∙ leaves_beside (seen w.now all space) (seen (with_new kind w space).now all space) roots directories leaves s.table kind (next_in w space) l mid_made inside ∙ s.leaf_bytes l below;
+        let inside : l < leaves = let few = s.leaf_numbers in omega (arith, few, below) in
+        ap (bytes (seen (with_new kind w space).now all space)) (leaf_stays (seen w.now all space) (seen (with_new kind w space).now all space) roots directories leaves s.table mid_keeps s.rooted s.placed l inside)
+        ∙ leaves_beside (seen w.now all space) (seen (with_new kind w space).now all space) roots directories leaves s.table kind (next_in w space) l mid_made inside ∙ s.leaf_bytes l below;
     leaf_numbers = s.leaf_numbers;
     rooted = s.rooted;
     placed = s.placed;
@@ -101,7 +101,7 @@ module _ (all : PageId → Option (List ℕ)) (space : Space) (begun : ℕ → O
 
 -- a new root
 module _ (all : PageId → Option (List ℕ)) (space : Space) (begun : ℕ → Option (List ℕ)) (w : Work)
-  (s : Stands all space begun 0 w 0 0 0) (more : next_page (bytes (seen w.now all space) 0) < LAST_PAGE) where
+    (s : Stands all space begun 0 w 0 0 0) (more : next_page (bytes (seen w.now all space) 0) < LAST_PAGE) where
   root_bytes : bytes (seen (with_child DIRECTORY_KIND w space 0 18).now all space) 0 ≡ with_field 8 (bytes (seen (with_new DIRECTORY_KIND w space).now all space) 0) 18 (next_in w space)
   root_bytes =
       seen-written (with_new DIRECTORY_KIND w space) all space 0 _
@@ -119,11 +119,11 @@ module _ (all : PageId → Option (List ℕ)) (space : Space) (begun : ℕ → O
       let mid = mid_stands all space begun 0 w 0 0 0 s DIRECTORY_KIND more in let apart = mid_beside all space begun 0 w 0 0 0 s DIRECTORY_KIND more in let long = mid.table.head.1 in
       let b = bytes (seen (with_new DIRECTORY_KIND w space).now all space) 0 in let n = next_in w space in let v = with_new DIRECTORY_KIND w space in record {
         table = root_linked (seen v.now all space) (seen (with_child DIRECTORY_KIND w space 0 18).now all space) n mid.table apart.head
-        (mid_numbered all space begun 0 w 0 0 0 s DIRECTORY_KIND more) (mid_made all space begun 0 w 0 0 0 s DIRECTORY_KIND more).page
-        (λ q differ. seen-beside v all space 0 q _ differ)
-        (ap (λ l. slice_index l 0) root_bytes ∙ kind_kept 8 b 18 n (omega arith) (omega (arith, long)) ∙ mid.table.head.0, ap length root_bytes ∙ length-with_field 8 b 18 n (omega (arith, long)) ∙ long)
-        rooted_number
-        (ap next_page root_bytes ∙ field_apart 8 2 8 b 18 n (inl (omega arith)) (omega (arith, long)));
+            (mid_numbered all space begun 0 w 0 0 0 s DIRECTORY_KIND more) (mid_made all space begun 0 w 0 0 0 s DIRECTORY_KIND more).page
+            (λ q differ. seen-beside v all space 0 q _ differ)
+            (ap (λ l. slice_index l 0) root_bytes ∙ kind_kept 8 b 18 n (omega arith) (omega (arith, long)) ∙ mid.table.head.0, ap length root_bytes ∙ length-with_field 8 b 18 n (omega (arith, long)) ∙ long)
+            rooted_number
+            (ap next_page root_bytes ∙ field_apart 8 2 8 b 18 n (inl (omega arith)) (omega (arith, long)));
         there = there_with_page v (page_of space 0) (page_of space 0) _ mid.there;
         fields = λ m to behind. ap (field m to) root_bytes ∙ field_apart m to 8 b 18 n (inr (omega (arith, behind))) (omega (arith, long)) ∙ mid.fields m to behind;
         leaf_bytes = λ l below. absurd (omega (arith, below));
@@ -137,8 +137,8 @@ module _ (all : PageId → Option (List ℕ)) (space : Space) (begun : ℕ → O
 
 -- a new directory page
 module _ (all : PageId → Option (List ℕ)) (space : Space) (begun : ℕ → Option (List ℕ)) (old : ℕ) (w : Work) (directories leaves : ℕ)
-  (s : Stands all space begun old w 1 directories leaves) (more : next_page (bytes (seen w.now all space) 0) < LAST_PAGE) (below : directories < 511)
-  (root_there : IsTrue (is_there w.now (page_of space (root_number (seen w.now all space))))) where
+    (s : Stands all space begun old w 1 directories leaves) (more : next_page (bytes (seen w.now all space) 0) < LAST_PAGE) (below : directories < 511)
+    (root_there : IsTrue (is_there w.now (page_of space (root_number (seen w.now all space))))) where
   abbrev pub directed : Work
   directed = with_child DIRECTORY_KIND w space (root_number (seen w.now all space)) (link_at directories)
 
@@ -157,17 +157,17 @@ module _ (all : PageId → Option (List ℕ)) (space : Space) (begun : ℕ → O
       record {
         others = λ q differ. seen-beside v all space r q _ (λ is. differ (is ∙ sym is_root));
         root = subst (IsPage (seen directed.now all space) DIRECTORY_KIND) (sym is_root)
-        (ap (λ l. slice_index l 0) parent_bytes ∙ kind_linked b directories n below small page.1 ∙ page.0, ap length parent_bytes ∙ length_linked b directories n below small page.1);
+            (ap (λ l. slice_index l 0) parent_bytes ∙ kind_linked b directories n below small page.1 ∙ page.0, ap length parent_bytes ∙ length_linked b directories n below small page.1);
         new_link = ap (λ q. link directories (bytes (seen directed.now all space) q)) is_root ∙ ap (link directories) parent_bytes ∙ link_written b directories n below small page.1;
         old_links = λ d less. ap (λ q. link d (bytes (seen directed.now all space) q)) is_root ∙ ap (link d) parent_bytes
-        ∙ link_apart b directories n below small page.1 d (λ is. absurd (omega (arith, is, less))) ∙ ap (λ q. link d (bytes (seen v.now all space) q)) (sym is_root);
+            ∙ link_apart b directories n below small page.1 d (λ is. absurd (omega (arith, is, less))) ∙ ap (λ q. link d (bytes (seen v.now all space) q)) (sym is_root);
       }
 
   pub directed_number : directory_number (seen directed.now all space) directories ≡ next_in w space
   directed_number =
       let v = with_new DIRECTORY_KIND w space in let mid = mid_stands all space begun old w 1 directories leaves s DIRECTORY_KIND more in
       new_directory (seen v.now all space) (seen directed.now all space) directories leaves (next_in w space) mid.table mid.placed
-          (mid_beside all space begun old w 1 directories leaves s DIRECTORY_KIND more) (mid_numbered all space begun old w 1 directories leaves s DIRECTORY_KIND more) (mid_made all space begun old w 1 directories leaves s DIRECTORY_KIND more).page links
+      (mid_beside all space begun old w 1 directories leaves s DIRECTORY_KIND more) (mid_numbered all space begun old w 1 directories leaves s DIRECTORY_KIND more) (mid_made all space begun old w 1 directories leaves s DIRECTORY_KIND more).page links
 
   pub directed_stands : Stands all space begun old directed 1 (directories + 1) leaves
   directed_stands =
@@ -187,7 +187,7 @@ module _ (all : PageId → Option (List ℕ)) (space : Space) (begun : ℕ → O
   directed_root =
       let v = with_new DIRECTORY_KIND w space in let mid = mid_stands all space begun old w 1 directories leaves s DIRECTORY_KIND more in
       root_same (seen v.now all space) (seen directed.now all space) directories leaves (next_in w space) mid.table mid.placed
-          (mid_beside all space begun old w 1 directories leaves s DIRECTORY_KIND more) (mid_numbered all space begun old w 1 directories leaves s DIRECTORY_KIND more) (mid_made all space begun old w 1 directories leaves s DIRECTORY_KIND more).page links
+      (mid_beside all space begun old w 1 directories leaves s DIRECTORY_KIND more) (mid_numbered all space begun old w 1 directories leaves s DIRECTORY_KIND more) (mid_made all space begun old w 1 directories leaves s DIRECTORY_KIND more).page links
       ∙ mid_root all space begun old w 1 directories leaves s DIRECTORY_KIND more
 
   pub directed_there : IsTrue (is_there directed.now (page_of space (next_in w space)))
@@ -195,8 +195,8 @@ module _ (all : PageId → Option (List ℕ)) (space : Space) (begun : ℕ → O
 
 -- a new leaf
 module _ (all : PageId → Option (List ℕ)) (space : Space) (begun : ℕ → Option (List ℕ)) (old : ℕ) (w : Work) (directories leaves : ℕ)
-  (s : Stands all space begun old w 1 directories leaves) (more : next_page (bytes (seen w.now all space) 0) < LAST_PAGE) (room : (l : ℕ) → l < leaves + 1 → l / 511 < directories)
-  (above_there : IsTrue (is_there w.now (page_of space (directory_number (seen w.now all space) (leaves / 511))))) where
+    (s : Stands all space begun old w 1 directories leaves) (more : next_page (bytes (seen w.now all space) 0) < LAST_PAGE) (room : (l : ℕ) → l < leaves + 1 → l / 511 < directories)
+    (above_there : IsTrue (is_there w.now (page_of space (directory_number (seen w.now all space) (leaves / 511))))) where
   abbrev pub leafed : Work
   leafed = with_child LEAF_KIND w space (directory_number (seen w.now all space) (leaves / 511)) (link_at (leaves % 511))
 
@@ -216,17 +216,17 @@ module _ (all : PageId → Option (List ℕ)) (space : Space) (begun : ℕ → O
       record {
         others = λ q differ. seen-beside v all space r q _ (λ is. differ (is ∙ sym is_above));
         directory = subst (IsPage (seen leafed.now all space) DIRECTORY_KIND) (sym is_above)
-        (ap (λ l. slice_index l 0) above_bytes ∙ kind_linked b (leaves % 511) n (omega arith) small page.1 ∙ page.0, ap length above_bytes ∙ length_linked b (leaves % 511) n (omega arith) small page.1);
+            (ap (λ l. slice_index l 0) above_bytes ∙ kind_linked b (leaves % 511) n (omega arith) small page.1 ∙ page.0, ap length above_bytes ∙ length_linked b (leaves % 511) n (omega arith) small page.1);
         new_link = ap (λ q. link (leaves % 511) (bytes (seen leafed.now all space) q)) is_above ∙ ap (link (leaves % 511)) above_bytes ∙ link_written b (leaves % 511) n (omega arith) small page.1;
         old_links = λ i less differ. ap (λ q. link i (bytes (seen leafed.now all space) q)) is_above ∙ ap (link i) above_bytes
-        ∙ link_apart b (leaves % 511) n (omega arith) small page.1 i differ ∙ ap (λ q. link i (bytes (seen v.now all space) q)) (sym is_above);
+            ∙ link_apart b (leaves % 511) n (omega arith) small page.1 i differ ∙ ap (λ q. link i (bytes (seen v.now all space) q)) (sym is_above);
       }
 
   pub leafed_number : leaf_number (seen leafed.now all space) leaves ≡ next_in w space
   leafed_number =
       let v = with_new LEAF_KIND w space in let mid = mid_stands all space begun old w 1 directories leaves s LEAF_KIND more in
       new_leaf (seen v.now all space) (seen leafed.now all space) directories leaves (next_in w space) mid.table room
-          (mid_beside all space begun old w 1 directories leaves s LEAF_KIND more) (mid_numbered all space begun old w 1 directories leaves s LEAF_KIND more) (mid_made all space begun old w 1 directories leaves s LEAF_KIND more).page leaf_links
+      (mid_beside all space begun old w 1 directories leaves s LEAF_KIND more) (mid_numbered all space begun old w 1 directories leaves s LEAF_KIND more) (mid_made all space begun old w 1 directories leaves s LEAF_KIND more).page leaf_links
 
   pub leafed_stands : Stands all space begun old leafed 1 directories (leaves + 1)
   leafed_stands =

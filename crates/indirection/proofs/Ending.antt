@@ -70,11 +70,15 @@ module _ (w : Work) (all : PageId → Option (List ℕ)) (space : Space) (m : No
       let below : h ≤ m.highest = let same = means.highest in omega (arith, same, inside) in
       subst (λ b. Gives w.now (if b then Err (Damaged (head_of space)) else and_then (found_in w.now space (root_number (seen w.now all space)) h) (λ leaf. taken_leaf space leaf.number leaf.entry)) (leaf_number (seen w.now all space) (leaf_index h)) (IsTrue (is_there w.now (page_of space (leaf_number (seen w.now all space) (leaf_index h)))) × (0 < h) × (h ≤ m.highest))) (sym is)
       (gives_then w.now (found_in w.now space (root_number (seen w.now all space)) h) (λ (leaf : Leaf). taken_leaf space leaf.number leaf.entry) _ (leaf_number (seen w.now all space) (leaf_index h)) (means_found-is w.now all space m means h positive below)
-      (λ there. inl (is_taken (leaf_number (seen w.now all space) (leaf_index h)) (is_listed m.free h) (page_at (seen w.now all space) h) (place_at (seen w.now all space) h)
-      (subst (λ o. EntryMeans o (is_listed m.free h) (page_at (seen w.now all space) h) (place_at (seen w.now all space) h)) taken (means.entry h positive below)), (there, positive, below)))))
+      (λ there. inl (
+        is_taken (leaf_number (seen w.now all space) (leaf_index h)) (is_listed m.free h) (page_at (seen w.now all space) h) (place_at (seen w.now all space) h)
+            (subst (λ o. EntryMeans o (is_listed m.free h) (page_at (seen w.now all space) h) (place_at (seen w.now all space) h)) taken (means.entry h positive below)),
+        (there, positive, below),
+      ))))
     where
       some_none : (a : Addr) → Some a ≡ None → ⊥
       some_none a is = cc
+
       is_taken : (leaf : ℕ) (listed : Bool) (page place : ℕ) → EntryMeans (Some a) listed page place
           → taken_leaf space leaf (if page == 0 then Free place else Taken (record { layer = page / 256; page = page % 256; at = place })) ≡ Ok leaf
       is_taken leaf listed page place is = at (page == 0) refl
@@ -149,9 +153,12 @@ module _ (w : Work) (all : PageId → Option (List ℕ)) (space : Space) (m : No
           gives_then w.now (taken_in w.now space (record { root = root_number (seen w.now all space); first_free = first_free (bytes (seen w.now all space) 0); highest = highest (bytes (seen w.now all space) 0) }) h)
           (λ (leaf : ℕ). Ok (tt, with_number 4 (with_entry_in w space leaf (entry_index h) 0 (first_free (bytes (seen w.now all space) 0))) space 0 34 h)) _ _ (taken-is a is) (λ there. inl (refl, (head_there, there)))))
           answer
-          (λ there. (ap is_some is, means_removed w all space m means h there.1.1 there.1.2 there.1.0 a is
-          (there_with_page w (page_of space (leaf_number (seen w.now all space) (leaf_index h))) (page_of space 0) _ there.0)
-          (let low = free_small m.free (first_free (bytes (seen w.now all space) 0)) (λ x listed. listed) means.free in let most = means.most in omega (arith, low, most))))
+          (λ there. (
+            ap is_some is,
+            means_removed w all space m means h there.1.1 there.1.2 there.1.0 a is
+                (there_with_page w (page_of space (leaf_number (seen w.now all space) (leaf_index h))) (page_of space 0) _ there.0)
+                (let low = free_small m.free (first_free (bytes (seen w.now all space) 0)) (λ x listed. listed) means.free in let most = means.most in omega (arith, low, most)),
+          ))
       at None is = refused_or_needs w.now (removed_in w space h) (Damaged (head_of space)) r w'
           (λ done v. IsSome (map.get m.taken h) × MeansNumbers (seen v.now all space) (without_number m h)) (λ end. (map.get m.taken h ≡ None) × (end ≡ Damaged (head_of space)))
           (then_refused w.now (numbers_in w.now space) (λ (numbers : Numbers). and_then (taken_in w.now space numbers h) (λ leaf. Ok (tt, with_number 4 (with_entry_in w space leaf (entry_index h) 0 numbers.first_free) space 0 34 h)))

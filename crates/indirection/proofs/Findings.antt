@@ -65,7 +65,7 @@ module _ (k : Known) (all : PageId → Option (List ℕ)) (space : Space) where
   linked-is kind from n positive past page =
       let id = page_of space n in
       subst (λ t. Gives k (if t then Err (Damaged (page_of space from)) else and_then (asked k (page_of space from) id) (λ b. tested id (slice_index b 0 == kind) b)) (bytes (seen k all space) n) (IsTrue (is_there k id))) (sym (not_zero n past))
-          (page_found id (page_of space from) k (map.get k.pages id) (not (map.contains_key k.whole space || map.contains_key k.freed id)) (all id) kind (λ b. slice_index b 0 == kind) refl positive page.0 (eq-eqb (slice_index (bytes (seen k all space) n) 0) kind page.0))
+      (page_found id (page_of space from) k (map.get k.pages id) (not (map.contains_key k.whole space || map.contains_key k.freed id)) (all id) kind (λ b. slice_index b 0 == kind) refl positive page.0 (eq-eqb (slice_index (bytes (seen k all space) n) 0) kind page.0))
     where
       not_zero : (n : ℕ) → n ≢ 0 → (n == 0) ≡ false
       not_zero n past = grind (arith, nat_tests)
@@ -109,7 +109,7 @@ module _ (k : Known) (all : PageId → Option (List ℕ)) (space : Space) where
     unfolding leaf_number
     leaf_in-is leaf below =
         gives_then k (linked k space DIRECTORY_KIND (root_number (seen k all space)) (directory_number (seen k all space) (leaf / 511))) (λ b. Ok (link (leaf % 511) b)) (bytes (seen k all space) (directory_number (seen k all space) (leaf / 511))) _
-            (directory-is (root_number (seen k all space)) (leaf / 511) below) (λ there. inl (refl, tt))
+        (directory-is (root_number (seen k all space)) (leaf / 511) below) (λ there. inl (refl, tt))
 
     pub entry_seen : ℕ → ℕ → Entry
     entry_seen page place = if page == 0 then Free place else Taken (record { layer = page / 256; page = page % 256; at = place })
@@ -125,18 +125,18 @@ module _ (k : Known) (all : PageId → Option (List ℕ)) (space : Space) where
 
     pub found-is : (h : ℕ) → leaf_index h < leaves → leaf_index h / 511 < directories → (page_at (seen k all space) h ≡ 0) ⊎ (place_at (seen k all space) h < 65536)
         → Gives k (found_in k space (root_number (seen k all space)) h)
-            (record { number = leaf_number (seen k all space) (leaf_index h); entry = if page_at (seen k all space) h == 0 then Free (place_at (seen k all space) h) else Taken (record { layer = page_at (seen k all space) h / 256; page = page_at (seen k all space) h % 256; at = place_at (seen k all space) h }) })
-            (IsTrue (is_there k (page_of space (leaf_number (seen k all space) (leaf_index h)))))
+        (record { number = leaf_number (seen k all space) (leaf_index h); entry = if page_at (seen k all space) h == 0 then Free (place_at (seen k all space) h) else Taken (record { layer = page_at (seen k all space) h / 256; page = page_at (seen k all space) h % 256; at = place_at (seen k all space) h }) })
+        (IsTrue (is_there k (page_of space (leaf_number (seen k all space) (leaf_index h)))))
     unfolding page_at place_at
     found-is h below above sound =
         let p = seen k all space in let l = leaf_index h in let d = directory_number p (l / 511) in let n = leaf_number p l in let b = bytes p n in let i = entry_index h in
         gives_then k (directory_in k space (root_number p) l) (λ directory. and_then (leaf_in k space (root_number p) directory l) (λ leaf. and_then (linked k space LEAF_KIND directory leaf) (λ bytes. and_then (entry_of space leaf (entry_page i bytes) (entry_place i bytes)) (λ entry. Ok (record { number = leaf; entry = entry })))))
-            d _ (directory_in-is l above) (λ _.
-            gives_then k (leaf_in k space (root_number p) d l) (λ leaf. and_then (linked k space LEAF_KIND d leaf) (λ bytes. and_then (entry_of space leaf (entry_page i bytes) (entry_place i bytes)) (λ entry. Ok (record { number = leaf; entry = entry }))))
-            n _ (leaf_in-is l above) (λ _.
-            gives_then k (linked k space LEAF_KIND d n) (λ bytes. and_then (entry_of space n (entry_page i bytes) (entry_place i bytes)) (λ entry. Ok (record { number = n; entry = entry })))
-            b _ (leaf-is d l below) (λ there.
-            inl (ap (λ r. and_then r (λ entry. Ok (record { number = n; entry = entry }))) (entry_of-is n (entry_page i b) (entry_place i b) sound), there))))
+        d _ (directory_in-is l above) (λ _.
+        gives_then k (leaf_in k space (root_number p) d l) (λ leaf. and_then (linked k space LEAF_KIND d leaf) (λ bytes. and_then (entry_of space leaf (entry_page i bytes) (entry_place i bytes)) (λ entry. Ok (record { number = leaf; entry = entry }))))
+        n _ (leaf_in-is l above) (λ _.
+        gives_then k (linked k space LEAF_KIND d n) (λ bytes. and_then (entry_of space n (entry_page i bytes) (entry_place i bytes)) (λ entry. Ok (record { number = n; entry = entry })))
+        b _ (leaf-is d l below) (λ there.
+        inl (ap (λ r. and_then r (λ entry. Ok (record { number = n; entry = entry }))) (entry_of-is n (entry_page i b) (entry_place i b) sound), there))))
 
 entry_address : (o : Option Addr) (listed : Bool) (page place : ℕ) → EntryMeans o listed page place → address_of (if page == 0 then Free place else Taken (record { layer = page / 256; page = page % 256; at = place })) ≡ o
 entry_address (Some a) listed page place is = at (page == 0) refl
@@ -156,6 +156,7 @@ out_or_in h top {P = P} out inside = at (h == 0) (nat_lt top h) refl refl
   where
     positive : (h : ℕ) → h ≢ 0 → 0 < h
     positive h past = omega (arith, past)
+
     at : (z l : Bool) → (h == 0) ≡ z → nat_lt top h ≡ l → P
     at true l zero_is less = out (inl (eqb-true h 0 zero_is)) (ap (λ b. b || nat_lt top h) zero_is)
     at false true zero_is less = out (inr (ltb-true top h less)) (λ i. zero_is i || less i)
@@ -168,18 +169,18 @@ module _ (k : Known) (all : PageId → Option (List ℕ)) (space : Space) (m : N
 
   pub means_found-is : (h : ℕ) → 0 < h → h ≤ m.highest
       → Gives k (found_in k space (root_number (seen k all space)) h)
-          (record { number = leaf_number (seen k all space) (leaf_index h); entry = if page_at (seen k all space) h == 0 then Free (place_at (seen k all space) h) else Taken (record { layer = page_at (seen k all space) h / 256; page = page_at (seen k all space) h % 256; at = place_at (seen k all space) h }) })
-          (IsTrue (is_there k (page_of space (leaf_number (seen k all space) (leaf_index h)))))
+      (record { number = leaf_number (seen k all space) (leaf_index h); entry = if page_at (seen k all space) h == 0 then Free (place_at (seen k all space) h) else Taken (record { layer = page_at (seen k all space) h / 256; page = page_at (seen k all space) h % 256; at = place_at (seen k all space) h }) })
+      (IsTrue (is_there k (page_of space (leaf_number (seen k all space) (leaf_index h)))))
   means_found-is h positive inside =
       let leaves = leaf_count m.highest in let directories = directory_count leaves in
       found-is k all space directories directories leaves means.table (omega (arith, positive, inside)) h (omega (arith, positive, inside)) (omega (arith, positive, inside))
-          (entry_sound (map.get m.taken h) (is_listed m.free h) (page_at (seen k all space) h) (place_at (seen k all space) h) (means.entry h positive inside))
+      (entry_sound (map.get m.taken h) (is_listed m.free h) (page_at (seen k all space) h) (place_at (seen k all space) h) (means.entry h positive inside))
 
   -- the address that the pages mean is found, or a page is needed
   pub address-is : (h : ℕ) → GivesOrNeeds k (address_in k space h) (map.get m.taken h)
   address-is h = ⊎_elim (λ is. inl is.0) (λ need. inr need)
       (gives_then k (numbers_in k space) (λ (numbers : Numbers). if h == 0 || nat_lt numbers.highest h then Ok None else and_then (found_in k space numbers.root h) (λ leaf. Ok (address_of leaf.entry)))
-          (record { root = root_number (seen k all space); first_free = first_free (bytes (seen k all space) 0); highest = highest (bytes (seen k all space) 0) }) (map.get m.taken h) means_numbers-is (λ _. at))
+      (record { root = root_number (seen k all space); first_free = first_free (bytes (seen k all space) 0); highest = highest (bytes (seen k all space) 0) }) (map.get m.taken h) means_numbers-is (λ _. at))
     where
       at : Gives k (if h == 0 || nat_lt (highest (bytes (seen k all space) 0)) h then Ok None else and_then (found_in k space (root_number (seen k all space)) h) (λ leaf. Ok (address_of leaf.entry))) (map.get m.taken h) (Unit {0})
       at = out_or_in h (highest (bytes (seen k all space) 0))

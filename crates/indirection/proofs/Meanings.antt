@@ -27,8 +27,8 @@ pub record WritesEntry (pages new : Pages) (h page place : ℕ) : Type 0 where
   pub others : (l : ℕ) → l ≢ leaf_index h → leaf_number pages l ≢ leaf_number pages (leaf_index h) → bytes new (leaf_number pages l) ≡ bytes pages (leaf_number pages l)
 
 module _ (pages new : Pages) (h page place leaves : ℕ) (long : length (bytes pages (leaf_number pages (leaf_index h))) ≡ 4096)
-  (stays : (l : ℕ) → l < leaves → leaf_number new l ≡ leaf_number pages l) (apart : (l m : ℕ) → l < leaves → m < leaves → leaf_number pages l ≡ leaf_number pages m → l ≡ m)
-  (below : leaf_index h < leaves) (w : WritesEntry pages new h page place) where
+    (stays : (l : ℕ) → l < leaves → leaf_number new l ≡ leaf_number pages l) (apart : (l m : ℕ) → l < leaves → m < leaves → leaf_number pages l ≡ leaf_number pages m → l ≡ m)
+    (below : leaf_index h < leaves) (w : WritesEntry pages new h page place) where
   pub page_at-written : page < 256 ^ 8 → page_at new h ≡ page
   unfolding page_at
   page_at-written small =
@@ -51,7 +51,7 @@ module _ (pages new : Pages) (h page place leaves : ℕ) (long : length (bytes p
       at true is =
           let same = eqb-true (leaf_index x) (leaf_index h) is in
           subst (λ l. read (entry_index x) (bytes new (leaf_number pages l)) ≡ read (entry_index x) (bytes pages (leaf_number pages l))) (sym same)
-              (ap (read (entry_index x)) w.leaf ∙ kept (entry_index x) (omega arith) (λ place. differ (omega (arith, same, place, positive, positive'))))
+          (ap (read (entry_index x)) w.leaf ∙ kept (entry_index x) (omega arith) (λ place. differ (omega (arith, same, place, positive, positive'))))
       at false is =
           let other : leaf_index x ≢ leaf_index h = λ one. true≢false (sym (eq-eqb (leaf_index x) (leaf_index h) one) ∙ is) in
           ap (read (entry_index x)) (w.others (leaf_index x) other (λ one. other (apart (leaf_index x) (leaf_index h) inside below one)))
@@ -75,6 +75,7 @@ IsFreeList-kept pages new first (h ∷ hs) kept is = (
   where
     listed_first : (h : ℕ) (hs : List ℕ) → is_listed (h ∷ hs) h ≡ true
     listed_first h hs = grind (arith, nat_tests)
+
     listed_behind : (x h : ℕ) (hs : List ℕ) → is_listed hs x ≡ true → is_listed (h ∷ hs) x ≡ true
     listed_behind x h hs listed = grind (arith, nat_tests)
 
@@ -98,13 +99,13 @@ means_after pages new before after h m d table top most free = record {
   most = most;
   free = free;
   entry = λ x positive inside. here_or x
-  (λ same. subst (λ x. EntryMeans (map.get after.taken x) (is_listed after.free x) (page_at new x) (place_at new x)) (sym same) d.entry)
-  (λ differ. moved (sym (d.taken x differ)) (sym (d.listed x differ)) (sym (d.page x positive (d.raised x differ inside) differ)) (sym (d.place x positive (d.raised x differ inside) differ))
-  (m.entry x positive (d.raised x differ inside)));
+      (λ same. subst (λ x. EntryMeans (map.get after.taken x) (is_listed after.free x) (page_at new x) (place_at new x)) (sym same) d.entry)
+      (λ differ. moved (sym (d.taken x differ)) (sym (d.listed x differ)) (sym (d.page x positive (d.raised x differ inside) differ)) (sym (d.place x positive (d.raised x differ inside) differ))
+      (m.entry x positive (d.raised x differ inside)));
   outside = λ x out.
-  let differ : x ≢ h = λ same. let given = d.given in ⊎_elim (λ zero. absurd (omega (arith, same, given, zero))) (λ past. absurd (omega (arith, same, given, past))) out in
-  let before_out : (x ≡ 0) ⊎ (before.highest < x) = ⊎_elim (λ zero. inl zero) (λ past. let kept = d.kept in inr (omega (arith, kept, past))) out in
-  (d.taken x differ ∙ (m.outside x before_out).0, d.listed x differ ∙ (m.outside x before_out).1);
+      let differ : x ≢ h = λ same. let given = d.given in ⊎_elim (λ zero. absurd (omega (arith, same, given, zero))) (λ past. absurd (omega (arith, same, given, past))) out in
+      let before_out : (x ≡ 0) ⊎ (before.highest < x) = ⊎_elim (λ zero. inl zero) (λ past. let kept = d.kept in inr (omega (arith, kept, past))) out in
+      (d.taken x differ ∙ (m.outside x before_out).0, d.listed x differ ∙ (m.outside x before_out).1);
 }
   where
     here_or : (x : ℕ) {P : Type 0} → (x ≡ h → P) → (x ≢ h → P) → P
@@ -113,5 +114,6 @@ means_after pages new before after h m d table top most free = record {
         at : (b : Bool) → nat_eq x h ≡ b → P
         at true is = same (eqb-true x h is)
         at false is = other (λ one. true≢false (sym (eq-eqb x h one) ∙ is))
+
     moved : {t t' : Option Addr} {l l' : Bool} {p p' q q' : ℕ} → t ≡ t' → l ≡ l' → p ≡ p' → q ≡ q' → EntryMeans t l p q → EntryMeans t' l' p' q'
     moved et el ep eq e = subst (λ (r : Option Addr × Bool × ℕ × ℕ). EntryMeans r.0 r.1 r.2 r.3) (λ i. (et i, el i, ep i, eq i)) e

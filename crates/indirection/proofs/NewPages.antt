@@ -29,7 +29,7 @@ kind_written kind = (
 
 -- a new page is made
 module _ (w : Work) (all : PageId → Option (List ℕ)) (space : Space) (kind : ℕ) (head : IsPage (seen w.now all space) 2 0) (there : IsTrue (is_there w.now (page_of space 0)))
-  (positive : 0 < next_page (bytes (seen w.now all space) 0)) (more : next_page (bytes (seen w.now all space) 0) < LAST_PAGE) where
+    (positive : 0 < next_page (bytes (seen w.now all space) 0)) (more : next_page (bytes (seen w.now all space) 0) < LAST_PAGE) where
   next_is : next_in w space ≡ next_page (bytes (seen w.now all space) 0)
   next_is = sym (ap next_page (seen-first w.now all space 0 there))
 
@@ -56,9 +56,9 @@ module _ (w : Work) (all : PageId → Option (List ℕ)) (space : Space) (kind :
       let long = head.1 in let b = bytes (seen w.now all space) 0 in record {
         number = next_is;
         others = λ q past differ.
-        seen-beside second all space (next_in w space) q (with_bytes zeros 0 (kind ∷ [])) differ
-        ∙ seen-beside first all space 0 q (with_next_page (first_bytes w.now (head_of space)) (next_in w space + 1)) past
-        ∙ seen-beside w all space (next_in w space) q zeros differ;
+            seen-beside second all space (next_in w space) q (with_bytes zeros 0 (kind ∷ [])) differ
+            ∙ seen-beside first all space 0 q (with_next_page (first_bytes w.now (head_of space)) (next_in w space + 1)) past
+            ∙ seen-beside w all space (next_in w space) q zeros differ;
         head = (
           ap (λ l. slice_index l 0) made_head ∙ kind_kept 8 b 2 (next_page b + 1) (omega arith) (omega (arith, long)) ∙ head.0,
           ap length made_head ∙ length-with_field 8 b 2 (next_page b + 1) (omega (arith, long)) ∙ long,

@@ -67,8 +67,10 @@ head_allows id (Some b) out is kind positive most = at (is_head b) (next_page b 
   where
     passes : (two : ℕ) (n : ℕ) → two ≡ 2 → 0 < n → (two == 2 && not (n == 0)) ≡ true
     passes two n is some = grind (arith, nat_tests)
+
     less : (n : ℕ) → n ≤ LAST_PAGE → (n == LAST_PAGE) ≡ false → n < LAST_PAGE
     less n up differ = grind (arith, nat_tests)
+
     at : (h l : Bool) → is_head b ≡ h → (next_page b == LAST_PAGE) ≡ l
         → (((if not h then Some (Damaged id) else if l then Some (Spent LAST_PAGE) else None) ≡ None) × (next_page b < LAST_PAGE))
         ⊎ ((if not h then Some (Damaged id) else if l then Some (Spent LAST_PAGE) else None) ≡ Some (Spent LAST_PAGE))
@@ -84,9 +86,9 @@ module _ (all : PageId → Option (List ℕ)) (space : Space) (begun : ℕ → O
       let kind_is : slice_index b 0 ≡ 2 = ap (λ l. slice_index l 0) (sym first) ∙ s.table.head.0 in
       let positive : 0 < next_page b = subst (λ (b : List ℕ). 0 < next_page b) first s.table.next in let most : next_page b ≤ LAST_PAGE = subst (λ (b : List ℕ). next_page b ≤ LAST_PAGE) first s.table.last in
       ⊎_elim
-          (λ is. inl ((next_in w space, with_child kind w space parent at), ap (λ r. unless r (next_in w space, with_child kind w space parent at)) is.0, (refl, subst (λ (b : List ℕ). next_page b < LAST_PAGE) (sym first) is.1)))
-          (λ is. inr (inr (ap (λ r. unless r (next_in w space, with_child kind w space parent at)) is)))
-          (head_allows (head_of space) (map.get w.now.pages (head_of space)) (not (map.contains_key w.now.whole space || map.contains_key w.now.freed (head_of space))) s.there kind_is positive most)
+      (λ is. inl ((next_in w space, with_child kind w space parent at), ap (λ r. unless r (next_in w space, with_child kind w space parent at)) is.0, (refl, subst (λ (b : List ℕ). next_page b < LAST_PAGE) (sym first) is.1)))
+      (λ is. inr (inr (ap (λ r. unless r (next_in w space, with_child kind w space parent at)) is)))
+      (head_allows (head_of space) (map.get w.now.pages (head_of space)) (not (map.contains_key w.now.whole space || map.contains_key w.now.freed (head_of space))) s.there kind_is positive most)
 
   -- a leaf was made
   abbrev pub HasLeaf : ℕ → ℕ × Work → Type 0
@@ -97,21 +99,26 @@ module _ (all : PageId → Option (List ℕ)) (space : Space) (begun : ℕ → O
   leaf_for-is w leaf s =
       let directories = directory_count (leaf + 1) in
       gives_reaches w.now (linked w.now space DIRECTORY_KIND (root_number (seen w.now all space)) (directory_number (seen w.now all space) (leaf / 511)))
-          (λ bytes. child_in w space LEAF_KIND (directory_number (seen w.now all space) (leaf / 511)) (link_at (leaf % 511))) _ (HasLeaf leaf)
-          (directory-is w.now all space 1 directories leaf s.table (omega arith) (root_number (seen w.now all space)) (leaf / 511) (omega arith)) (λ there.
-          made (child-is w 1 directories leaf s LEAF_KIND (directory_number (seen w.now all space) (leaf / 511)) (link_at (leaf % 511))) there)
+      (λ bytes. child_in w space LEAF_KIND (directory_number (seen w.now all space) (leaf / 511)) (link_at (leaf % 511))) _ (HasLeaf leaf)
+      (directory-is w.now all space 1 directories leaf s.table (omega arith) (root_number (seen w.now all space)) (leaf / 511) (omega arith)) (λ there.
+      made (child-is w 1 directories leaf s LEAF_KIND (directory_number (seen w.now all space) (leaf / 511)) (link_at (leaf % 511))) there)
     where
       room : (l : ℕ) → l < leaf + 1 → l / 511 < directory_count (leaf + 1)
       room l below = omega (arith, below)
+
       made : Reaches w.now (child_in w space LEAF_KIND (directory_number (seen w.now all space) (leaf / 511)) (link_at (leaf % 511)))
           (λ p. (p ≡ (next_in w space, with_child LEAF_KIND w space (directory_number (seen w.now all space) (leaf / 511)) (link_at (leaf % 511)))) × (next_page (bytes (seen w.now all space) 0) < LAST_PAGE))
           → IsTrue (is_there w.now (page_of space (directory_number (seen w.now all space) (leaf / 511))))
           → Reaches w.now (child_in w space LEAF_KIND (directory_number (seen w.now all space) (leaf / 511)) (link_at (leaf % 511))) (HasLeaf leaf)
-      made (inl given) there = inl (given.0, given.1, subst (HasLeaf leaf) (sym given.2.0) (
-        leafed_stands all space begun old w (directory_count (leaf + 1)) leaf s given.2.1 room there,
-        leafed_number all space begun old w (directory_count (leaf + 1)) leaf s given.2.1 room there,
-        leafed_there all space begun old w (directory_count (leaf + 1)) leaf s given.2.1 room there,
-      ))
+      made (inl given) there = inl (
+        given.0,
+        given.1,
+        subst (HasLeaf leaf) (sym given.2.0) (
+          leafed_stands all space begun old w (directory_count (leaf + 1)) leaf s given.2.1 room there,
+          leafed_number all space begun old w (directory_count (leaf + 1)) leaf s given.2.1 room there,
+          leafed_there all space begun old w (directory_count (leaf + 1)) leaf s given.2.1 room there,
+        ),
+      )
       made (inr stop) there = inr stop
 
   -- its directory page is there, and nothing is needed that was not needed before
@@ -124,21 +131,26 @@ module _ (all : PageId → Option (List ℕ)) (space : Space) (begun : ℕ → O
   unfolding directory_number
   directory_for-is w leaf s few =
       gives_reaches w.now (linked w.now space DIRECTORY_KIND 0 (root_number (seen w.now all space)))
-          (λ bytes. if leaf % 511 == 0 then child_in w space DIRECTORY_KIND (root_number (seen w.now all space)) (link_at (leaf / 511)) else Ok (link (leaf / 511) bytes, w)) (bytes (seen w.now all space) (root_number (seen w.now all space))) (HasDirectory w leaf)
-          (root-is w.now all space 1 (directory_count leaf) leaf s.table (omega arith)) (λ there. at (leaf % 511 == 0) refl there)
+      (λ bytes. if leaf % 511 == 0 then child_in w space DIRECTORY_KIND (root_number (seen w.now all space)) (link_at (leaf / 511)) else Ok (link (leaf / 511) bytes, w)) (bytes (seen w.now all space) (root_number (seen w.now all space))) (HasDirectory w leaf)
+      (root-is w.now all space 1 (directory_count leaf) leaf s.table (omega arith)) (λ there. at (leaf % 511 == 0) refl there)
     where
       made : (d : ℕ) → d ≡ leaf / 511 → directory_count (leaf + 1) ≡ d + 1 → Stands all space begun old w 1 d leaf → IsTrue (is_there w.now (page_of space (root_number (seen w.now all space))))
           → Reaches w.now (child_in w space DIRECTORY_KIND (root_number (seen w.now all space)) (link_at d)) (λ p. (p ≡ (next_in w space, with_child DIRECTORY_KIND w space (root_number (seen w.now all space)) (link_at d))) × (next_page (bytes (seen w.now all space) 0) < LAST_PAGE))
           → Reaches w.now (child_in w space DIRECTORY_KIND (root_number (seen w.now all space)) (link_at d)) (HasDirectory w leaf)
-      made d place count s there (inl given) = inl (given.0, given.1, subst (HasDirectory w leaf) (sym given.2.0) (
-        subst (λ c. Stands all space begun old (with_child DIRECTORY_KIND w space (root_number (seen w.now all space)) (link_at d)) 1 c leaf) (sym count)
-        (directed_stands all space begun old w d leaf s given.2.1 (omega (arith, place, few)) there),
-        subst (λ e. directory_number (seen (with_child DIRECTORY_KIND w space (root_number (seen w.now all space)) (link_at d)).now all space) e ≡ next_in w space) place
-        (directed_number all space begun old w d leaf s given.2.1 (omega (arith, place, few)) there),
-        directed_root all space begun old w d leaf s given.2.1 (omega (arith, place, few)) there,
-        λ q is. unknown_before DIRECTORY_KIND w space (root_number (seen w.now all space)) (link_at d) q is,
-      ))
+      made d place count s there (inl given) = inl (
+        given.0,
+        given.1,
+        subst (HasDirectory w leaf) (sym given.2.0) (
+          subst (λ c. Stands all space begun old (with_child DIRECTORY_KIND w space (root_number (seen w.now all space)) (link_at d)) 1 c leaf) (sym count)
+              (directed_stands all space begun old w d leaf s given.2.1 (omega (arith, place, few)) there),
+          subst (λ e. directory_number (seen (with_child DIRECTORY_KIND w space (root_number (seen w.now all space)) (link_at d)).now all space) e ≡ next_in w space) place
+              (directed_number all space begun old w d leaf s given.2.1 (omega (arith, place, few)) there),
+          directed_root all space begun old w d leaf s given.2.1 (omega (arith, place, few)) there,
+          λ q is. unknown_before DIRECTORY_KIND w space (root_number (seen w.now all space)) (link_at d) q is,
+        ),
+      )
       made d place count s there (inr stop) = inr stop
+
       at : (b : Bool) → (leaf % 511 == 0) ≡ b → IsTrue (is_there w.now (page_of space (root_number (seen w.now all space))))
           → Reaches w.now (if b then child_in w space DIRECTORY_KIND (root_number (seen w.now all space)) (link_at (leaf / 511)) else Ok (link (leaf / 511) (bytes (seen w.now all space) (root_number (seen w.now all space))), w)) (HasDirectory w leaf)
       at true is there =
@@ -153,9 +165,9 @@ module _ (all : PageId → Option (List ℕ)) (space : Space) (begun : ℕ → O
       → Reaches w.now (directed_in w space (root_number (seen w.now all space)) leaf) (HasLeaf leaf)
   directed-is w leaf s few =
       reaches_then w.now (directory_for w space (root_number (seen w.now all space)) leaf) (λ directed. leaf_for directed.1 space (root_number (seen w.now all space)) directed.0 leaf) (HasDirectory w leaf) (HasLeaf leaf)
-          (directory_for-is w leaf s few) (λ p has.
-          reaches_before p.1.now w.now (leaf_for p.1 space (root_number (seen w.now all space)) p.0 leaf) (HasLeaf leaf) has.3
-          (subst (λ (e : ℕ × ℕ). Reaches p.1.now (leaf_for p.1 space e.0 e.1 leaf) (HasLeaf leaf)) (λ i. (has.2 i, has.1 i)) (leaf_for-is p.1 leaf has.0)))
+      (directory_for-is w leaf s few) (λ p has.
+      reaches_before p.1.now w.now (leaf_for p.1 space (root_number (seen w.now all space)) p.0 leaf) (HasLeaf leaf) has.3
+      (subst (λ (e : ℕ × ℕ). Reaches p.1.now (leaf_for p.1 space e.0 e.1 leaf) (HasLeaf leaf)) (λ i. (has.2 i, has.1 i)) (leaf_for-is p.1 leaf has.0)))
 
   -- the root is there
   abbrev pub HasRoot : Work → ℕ → ℕ × Work → Type 0
@@ -167,32 +179,45 @@ module _ (all : PageId → Option (List ℕ)) (space : Space) (begun : ℕ → O
       made : leaf ≡ 0 → old ≡ 0 → (z : Stands all space begun 0 w 0 0 0)
           → Reaches w.now (child_in w space DIRECTORY_KIND 0 18) (λ p. (p ≡ (next_in w space, with_child DIRECTORY_KIND w space 0 18)) × (next_page (bytes (seen w.now all space) 0) < LAST_PAGE))
           → Reaches w.now (child_in w space DIRECTORY_KIND 0 18) (HasRoot w leaf)
-      made none empty z (inl given) = inl (given.0, given.1, subst (HasRoot w leaf) (sym given.2.0) (
-        subst (λ (e : ℕ × ℕ). Stands all space begun e.0 (with_child DIRECTORY_KIND w space 0 18) 1 (directory_count e.1) e.1) (λ i. (sym empty i, sym none i)) (rooted_stands all space begun w z given.2.1),
-        rooted_number all space begun w z given.2.1,
-        λ q is. unknown_before DIRECTORY_KIND w space 0 18 q is,
-      ))
+      made none empty z (inl given) = inl (
+        given.0,
+        given.1,
+        subst (HasRoot w leaf) (sym given.2.0) (
+          subst (λ (e : ℕ × ℕ). Stands all space begun e.0 (with_child DIRECTORY_KIND w space 0 18) 1 (directory_count e.1) e.1) (λ i. (sym empty i, sym none i)) (rooted_stands all space begun w z given.2.1),
+          rooted_number all space begun w z given.2.1,
+          λ q is. unknown_before DIRECTORY_KIND w space 0 18 q is,
+        ),
+      )
       made none empty z (inr stop) = inr stop
+
       at : (b : Bool) → (leaf == 0) ≡ b → Reaches w.now (if b then child_in w space DIRECTORY_KIND 0 18 else Ok (root_number (seen w.now all space), w)) (HasRoot w leaf)
       at true is =
           let none = eqb-true leaf 0 is in let few = s.leaf_numbers in let empty : old ≡ 0 = omega (arith, none, few) in
           made none empty (subst (λ (e : ℕ × ℕ). Stands all space begun e.0 w (directory_count e.1) (directory_count e.1) e.1) (λ i. (empty i, none i)) s) (child-is w (directory_count leaf) (directory_count leaf) leaf s DIRECTORY_KIND 0 18)
       at false is =
           let some : leaf ≢ 0 = λ none. true≢false (sym (eq-eqb leaf 0 none) ∙ is) in
-          inl ((root_number (seen w.now all space), w), refl, (record {
-            table = one_root (seen w.now all space) (directory_count leaf) 1 (directory_count leaf) leaf (λ one. omega (arith, some)) s.table;
-            there = s.there;
-            fields = s.fields;
-            leaf_bytes = s.leaf_bytes;
-            leaf_numbers = s.leaf_numbers;
-            rooted = λ one. omega arith;
-            placed = s.placed;
-          }, refl, λ q unknown. unknown))
+          inl (
+            (root_number (seen w.now all space), w),
+            refl,
+            (
+              record {
+                table = one_root (seen w.now all space) (directory_count leaf) 1 (directory_count leaf) leaf (λ one. omega (arith, some)) s.table;
+                there = s.there;
+                fields = s.fields;
+                leaf_bytes = s.leaf_bytes;
+                leaf_numbers = s.leaf_numbers;
+                rooted = λ one. omega arith;
+                placed = s.placed;
+              },
+              refl,
+              λ q unknown. unknown,
+            ),
+          )
 
   pub grown-is : (w : Work) (leaf : ℕ) → Stands all space begun old w (directory_count leaf) (directory_count leaf) leaf → leaf < 261121
       → Reaches w.now (grown_in w space (root_number (seen w.now all space)) leaf) (HasLeaf leaf)
   grown-is w leaf s few =
       reaches_then w.now (root_for w space (root_number (seen w.now all space)) leaf) (λ rooted. directed_in rooted.1 space rooted.0 leaf) (HasRoot w leaf) (HasLeaf leaf)
-          (root_for-is w leaf s) (λ p has.
-          reaches_before p.1.now w.now (directed_in p.1 space p.0 leaf) (HasLeaf leaf) has.2
-          (subst (λ r. Reaches p.1.now (directed_in p.1 space r leaf) (HasLeaf leaf)) has.1 (directed-is p.1 leaf has.0 few)))
+      (root_for-is w leaf s) (λ p has.
+      reaches_before p.1.now w.now (directed_in p.1 space p.0 leaf) (HasLeaf leaf) has.2
+      (subst (λ r. Reaches p.1.now (directed_in p.1 space r leaf) (HasLeaf leaf)) has.1 (directed-is p.1 leaf has.0 few)))

@@ -10,7 +10,6 @@ use Rattle.indirection.specs.Reading.{page_of}
 use Rattle.indirection.specs.Meaning.{seen, bytes}
 use Rattle.indirection.proofs.Pages.{get_with_page, get_of_space}
 
-
 seen_some : (page : Option (List ℕ)) (out : Bool) (all : Option (List ℕ)) (x : List ℕ) → page ≡ Some x → (if not (is_some page) && out then all else page) ≡ Some x
 seen_some None out all x is = cc
 seen_some (Some y) out all x is = is

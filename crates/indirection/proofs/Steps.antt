@@ -139,7 +139,7 @@ module _ (pages new : Pages) (roots directories leaves : ℕ) (t : IsTable pages
         root_bytes = λ some. made.others (root_number pages) (kinds_apart pages DIRECTORY_KIND 2 (root_number pages) 0 (λ is. absurd (omega (arith, is))) (t.root some).0 t.head) (λ is. apart.root some (sym is));
         directory_bytes = λ d below. made.others (directory_number pages d) (kinds_apart pages DIRECTORY_KIND 2 (directory_number pages d) 0 (λ is. absurd (omega (arith, is))) (t.directory d below).0 t.head) (λ is. apart.directory d below (sym is));
         leaf_page = λ l below. subst (λ (b : List ℕ). (slice_index b 0 ≡ LEAF_KIND) × (length b ≡ 4096))
-        (sym (made.others (leaf_number pages l) (kinds_apart pages LEAF_KIND 2 (leaf_number pages l) 0 (λ is. absurd (omega (arith, is))) (t.leaf l below).0 t.head) (λ is. apart.leaf l below (sym is)))) (t.leaf l below).0;
+            (sym (made.others (leaf_number pages l) (kinds_apart pages LEAF_KIND 2 (leaf_number pages l) 0 (λ is. absurd (omega (arith, is))) (t.leaf l below).0 t.head) (λ is. apart.leaf l below (sym is)))) (t.leaf l below).0;
       }
 
 -- what is below one more is below, or is the last
@@ -177,7 +177,7 @@ pub record LinksDirectory (pages new : Pages) (directories n : ℕ) : Type 0 whe
   pub old_links : (d : ℕ) → d < directories → link d (bytes new (root_number pages)) ≡ link d (bytes pages (root_number pages))
 
 module _ (pages new : Pages) (directories leaves n : ℕ) (t : IsTable pages 1 directories leaves) (placed : (l : ℕ) → l < leaves → l / 511 < directories)
-  (apart : IsBeside pages 1 directories leaves n) (numbered : IsNumbered pages n) (page : IsPage pages DIRECTORY_KIND n) (linked : LinksDirectory pages new directories n) where
+    (apart : IsBeside pages 1 directories leaves n) (numbered : IsNumbered pages n) (page : IsPage pages DIRECTORY_KIND n) (linked : LinksDirectory pages new directories n) where
   pub head_same : bytes new 0 ≡ bytes pages 0
   head_same = linked.others 0 (kinds_apart pages 2 DIRECTORY_KIND 0 (root_number pages) (λ is. absurd (omega (arith, is))) t.head (t.root (omega arith)).0)
 
@@ -217,19 +217,19 @@ module _ (pages new : Pages) (directories leaves n : ℕ) (t : IsTable pages 1 d
     last = subst (λ (b : List ℕ). next_page b ≤ LAST_PAGE) (sym head_same) t.last;
     root = λ some. subst (λ r. IsPage new DIRECTORY_KIND r × IsNumbered new r) (sym root_same) (linked.root, subst (λ (b : List ℕ). root_number pages < next_page b) (sym head_same) (t.root some).1);
     directory = λ d below. last_or_before directories d below
-    (λ before. as_before DIRECTORY_KIND (directory_number new d) (directory_number pages d) (old_directory d before) (t.root_apart d before) (t.directory d before))
-    (λ last. as_before DIRECTORY_KIND (directory_number new d) n (ap (directory_number new) last ∙ new_directory) (apart.root (omega arith)) (page, numbered));
+        (λ before. as_before DIRECTORY_KIND (directory_number new d) (directory_number pages d) (old_directory d before) (t.root_apart d before) (t.directory d before))
+        (λ last. as_before DIRECTORY_KIND (directory_number new d) n (ap (directory_number new) last ∙ new_directory) (apart.root (omega arith)) (page, numbered));
     leaf = λ l below. as_before LEAF_KIND (leaf_number new l) (leaf_number pages l) (old_leaf l below) (kinds_apart pages LEAF_KIND DIRECTORY_KIND (leaf_number pages l) (root_number pages) (λ is. absurd (omega (arith, is))) (t.leaf l below).0 (t.root (omega arith)).0) (t.leaf l below);
     root_apart = λ d below is. last_or_before directories d below
-    (λ before. t.root_apart d before (sym (old_directory d before) ∙ is ∙ root_same))
-    (λ last. apart.root (omega arith) (sym (ap (directory_number new) last ∙ new_directory) ∙ is ∙ root_same));
+        (λ before. t.root_apart d before (sym (old_directory d before) ∙ is ∙ root_same))
+        (λ last. apart.root (omega arith) (sym (ap (directory_number new) last ∙ new_directory) ∙ is ∙ root_same));
     directories_apart = λ d e below below' is. last_or_before directories d below
-    (λ before. last_or_before directories e below'
-    (λ before'. t.directories_apart d e before before' (sym (old_directory d before) ∙ is ∙ old_directory e before'))
-    (λ last. absurd (apart.directory d before (sym (sym (old_directory d before) ∙ is ∙ ap (directory_number new) last ∙ new_directory)))))
-    (λ last. last_or_before directories e below'
-    (λ before'. absurd (apart.directory e before' (sym (ap (directory_number new) last ∙ new_directory) ∙ is ∙ old_directory e before')))
-    (λ last'. last ∙ sym last'));
+        (λ before. last_or_before directories e below'
+        (λ before'. t.directories_apart d e before before' (sym (old_directory d before) ∙ is ∙ old_directory e before'))
+        (λ last. absurd (apart.directory d before (sym (sym (old_directory d before) ∙ is ∙ ap (directory_number new) last ∙ new_directory)))))
+        (λ last. last_or_before directories e below'
+        (λ before'. absurd (apart.directory e before' (sym (ap (directory_number new) last ∙ new_directory) ∙ is ∙ old_directory e before')))
+        (λ last'. last ∙ sym last'));
     leaves_apart = λ l m below below' is. t.leaves_apart l m below below' (sym (old_leaf l below) ∙ is ∙ old_leaf m below');
   }
 
@@ -241,7 +241,7 @@ pub record LinksLeaf (pages new : Pages) (leaves n : ℕ) : Type 0 where
   pub old_links : (i : ℕ) → i < 511 → i ≢ leaves % 511 → link i (bytes new (directory_number pages (leaves / 511))) ≡ link i (bytes pages (directory_number pages (leaves / 511)))
 
 module _ (pages new : Pages) (directories leaves n : ℕ) (t : IsTable pages 1 directories leaves) (placed : (l : ℕ) → l < leaves + 1 → l / 511 < directories)
-  (apart : IsBeside pages 1 directories leaves n) (numbered : IsNumbered pages n) (page : IsPage pages LEAF_KIND n) (linked : LinksLeaf pages new leaves n) where
+    (apart : IsBeside pages 1 directories leaves n) (numbered : IsNumbered pages n) (page : IsPage pages LEAF_KIND n) (linked : LinksLeaf pages new leaves n) where
   above_is : IsPage pages DIRECTORY_KIND (directory_number pages (leaves / 511)) × IsNumbered pages (directory_number pages (leaves / 511))
   above_is = t.directory (leaves / 511) (placed leaves (omega arith))
 
@@ -272,7 +272,7 @@ module _ (pages new : Pages) (directories leaves n : ℕ) (t : IsTable pages 1 d
       at true is =
           let same = eqb-true (l / 511) (leaves / 511) is in
           subst (λ d. link (l % 511) (bytes new (directory_number pages d)) ≡ link (l % 511) (bytes pages (directory_number pages d))) (sym same)
-              (linked.old_links (l % 511) (omega arith) (λ place. absurd (omega (arith, same, place, below))))
+          (linked.old_links (l % 511) (omega arith) (λ place. absurd (omega (arith, same, place, below))))
       at false is =
           ap (link (l % 511)) (linked.others (directory_number pages (l / 511)) (λ one. absurd (true≢false (sym (eq-eqb (l / 511) (leaves / 511) (t.directories_apart (l / 511) (leaves / 511) (placed l (omega (arith, below))) (placed leaves (omega arith)) one)) ∙ is))))
 
@@ -303,15 +303,15 @@ module _ (pages new : Pages) (directories leaves n : ℕ) (t : IsTable pages 1 d
     root = λ some. stays_page DIRECTORY_KIND (root_number new) (root_number pages) root_as_before (λ is. t.root_apart (leaves / 511) (placed leaves (omega arith)) (sym is)) (t.root (omega arith));
     directory = λ d below. subst (λ m. IsPage new DIRECTORY_KIND m × IsNumbered new m) (sym (same_directory d)) (directory_there d below, subst (λ (b : List ℕ). directory_number pages d < next_page b) (sym head_as_before) (t.directory d below).1);
     leaf = λ l below. last_or_before leaves l below
-    (λ before. stays_page LEAF_KIND (leaf_number new l) (leaf_number pages l) (leaf_as_before l before) (leaf_differs l before) (t.leaf l before))
-    (λ last. stays_page LEAF_KIND (leaf_number new l) n (ap (leaf_number new) last ∙ new_leaf) (apart.directory (leaves / 511) (placed leaves (omega arith))) (page, numbered));
+        (λ before. stays_page LEAF_KIND (leaf_number new l) (leaf_number pages l) (leaf_as_before l before) (leaf_differs l before) (t.leaf l before))
+        (λ last. stays_page LEAF_KIND (leaf_number new l) n (ap (leaf_number new) last ∙ new_leaf) (apart.directory (leaves / 511) (placed leaves (omega arith))) (page, numbered));
     root_apart = λ d below is. t.root_apart d below (sym (same_directory d) ∙ is ∙ root_as_before);
     directories_apart = λ d e below below' is. t.directories_apart d e below below' (sym (same_directory d) ∙ is ∙ same_directory e);
     leaves_apart = λ l m below below' is. last_or_before leaves l below
-    (λ before. last_or_before leaves m below'
-    (λ before'. t.leaves_apart l m before before' (sym (leaf_as_before l before) ∙ is ∙ leaf_as_before m before'))
-    (λ last. absurd (apart.leaf l before (sym (sym (leaf_as_before l before) ∙ is ∙ ap (leaf_number new) last ∙ new_leaf)))))
-    (λ last. last_or_before leaves m below'
-    (λ before'. absurd (apart.leaf m before' (sym (ap (leaf_number new) last ∙ new_leaf) ∙ is ∙ leaf_as_before m before')))
-    (λ last'. last ∙ sym last'));
+        (λ before. last_or_before leaves m below'
+        (λ before'. t.leaves_apart l m before before' (sym (leaf_as_before l before) ∙ is ∙ leaf_as_before m before'))
+        (λ last. absurd (apart.leaf l before (sym (sym (leaf_as_before l before) ∙ is ∙ ap (leaf_number new) last ∙ new_leaf)))))
+        (λ last. last_or_before leaves m below'
+        (λ before'. absurd (apart.leaf m before' (sym (ap (leaf_number new) last ∙ new_leaf) ∙ is ∙ leaf_as_before m before')))
+        (λ last'. last ∙ sym last'));
   }

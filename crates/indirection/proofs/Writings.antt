@@ -18,8 +18,8 @@ use Rattle.indirection.proofs.Meanings.{WritesEntry}
 
 -- an entry is written in its leaf
 module _ (w : Work) (all : PageId → Option (List ℕ)) (space : Space) (h page place roots directories leaves : ℕ)
-  (t : IsTable (seen w.now all space) roots directories leaves) (rooted : 0 < directories → 0 < roots) (placed : (l : ℕ) → l < leaves → l / 511 < directories)
-  (below : leaf_index h < leaves) (there : IsTrue (is_there w.now (page_of space (leaf_number (seen w.now all space) (leaf_index h))))) where
+    (t : IsTable (seen w.now all space) roots directories leaves) (rooted : 0 < directories → 0 < roots) (placed : (l : ℕ) → l < leaves → l / 511 < directories)
+    (below : leaf_index h < leaves) (there : IsTrue (is_there w.now (page_of space (leaf_number (seen w.now all space) (leaf_index h))))) where
   abbrev leaf : ℕ
   leaf = leaf_number (seen w.now all space) (leaf_index h)
 
@@ -56,8 +56,8 @@ module _ (w : Work) (all : PageId → Option (List ℕ)) (space : Space) (h page
 
 -- a field of the head behind the root is written
 module _ (w : Work) (all : PageId → Option (List ℕ)) (space : Space) (at x roots directories leaves : ℕ) (behind : 26 ≤ at) (inside : at + 4 ≤ 4096)
-  (t : IsTable (seen w.now all space) roots directories leaves) (rooted : 0 < directories → 0 < roots) (placed : (l : ℕ) → l < leaves → l / 511 < directories)
-  (there : IsTrue (is_there w.now (page_of space 0))) where
+    (t : IsTable (seen w.now all space) roots directories leaves) (rooted : 0 < directories → 0 < roots) (placed : (l : ℕ) → l < leaves → l / 511 < directories)
+    (there : IsTrue (is_there w.now (page_of space 0))) where
   abbrev pub headed : Work
   headed = with_number 4 w space 0 at x
 
@@ -79,9 +79,10 @@ module _ (w : Work) (all : PageId → Option (List ℕ)) (space : Space) (at x r
 
   headed_keeps : Keeping (seen w.now all space) (seen headed.now all space) roots directories leaves
   headed_keeps =
-      head_written (seen w.now all space) (seen headed.now all space) roots directories leaves t headed_only
-      (ap (λ l. slice_index l 0) headed_bytes ∙ kind_kept 4 (bytes (seen w.now all space) 0) at x (omega (arith, behind)) fits ∙ t.head.0,
-      ap length headed_bytes ∙ length-with_field 4 (bytes (seen w.now all space) 0) at x fits ∙ t.head.1)
+      head_written (seen w.now all space) (seen headed.now all space) roots directories leaves t headed_only (
+        ap (λ l. slice_index l 0) headed_bytes ∙ kind_kept 4 (bytes (seen w.now all space) 0) at x (omega (arith, behind)) fits ∙ t.head.0,
+        ap length headed_bytes ∙ length-with_field 4 (bytes (seen w.now all space) 0) at x fits ∙ t.head.1,
+      )
       (headed_field 8 18 (inl (omega (arith, behind)))) (let same = headed_field 8 2 (inl (omega (arith, behind))) in omega (arith, same))
       (let same = headed_field 8 2 (inl (omega (arith, behind))) in let before = t.last in omega (arith, same, before))
 

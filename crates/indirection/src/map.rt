@@ -6,7 +6,7 @@ ghost use Rattle.page_bytes.specs.PageNumber.{page_number};
 ghost use Rattle.indirection.specs.Finding.{address_in};
 ghost use Rattle.indirection.specs.Adding.{changed_in, removed_in, added_in};
 ghost use Rattle.indirection.specs.Answers.{Answers, GivesOrNeeds};
-ghost use Rattle.indirection.specs.Meaning.{seen, NodeNumbers, MeansNumbers, with_address, without_number, IsRefused};
+ghost use Rattle.indirection.specs.Meaning.{seen, NodeNumbers, MeansNumbers, with_address, without_number, IsRefused, next_number, with_number_given, IsNotGiven};
 
 use crate::numbers::{find_address, give_number, set_address, take_number};
 use page_bytes::{Addr, NodeNo, PageEnd, Pages, Space, Workspace};
@@ -42,6 +42,7 @@ pub fn add(work: &mut Workspace, space: Space, to: Addr) -> Result<NodeNo, PageE
     requires layer { to.layer ≤ 72057594037927935 }
     requires page { 0 < page_number to }
     ensures pages { Answers (added_in work.old space to) result work.new }
+    ensures meaning { (all : PageId → Option (List ℕ)) (numbers : NodeNumbers) → MeansNumbers (seen work.old.now all space) numbers → MatchResult result (λ no. (no.0 ≡ next_number numbers.highest numbers.free) × MeansNumbers (seen work.new.now all space) (with_number_given numbers to)) (λ end. IsNotGiven work.old.now space numbers end) }
 {
     give_number(work, space, to)
 }
