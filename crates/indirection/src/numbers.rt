@@ -59,14 +59,8 @@ pub fn set_address(work: &mut Workspace, space: Space, no: NodeNo, to: Addr) -> 
 {
     let numbers = read_numbers(work, space)?;
     let leaf = taken_leaf(work, space, &numbers, no.0)?;
-    write_entry(
-        work,
-        space,
-        leaf,
-        (no.0 - 1) % ENTRIES,
-        to.number(),
-        to.at as u32,
-    )
+    let entry = (no.0 - 1) % ENTRIES;
+    write_entry(work, space, leaf, entry, to.number(), to.at as u32)
 }
 
 /// Takes a number away. It is the next that `add` gives.
@@ -75,14 +69,8 @@ pub fn take_number(work: &mut Workspace, space: Space, no: NodeNo) -> Result<(),
 {
     let numbers = read_numbers(work, space)?;
     let leaf = taken_leaf(work, space, &numbers, no.0)?;
-    write_entry(
-        work,
-        space,
-        leaf,
-        (no.0 - 1) % ENTRIES,
-        0,
-        numbers.first_free,
-    )?;
+    let freed = (no.0 - 1) % ENTRIES;
+    write_entry(work, space, leaf, freed, 0, numbers.first_free)?;
     write_short(work, space, 0, FIRST_FREE_AT, no.0)
 }
 
