@@ -1,5 +1,5 @@
 -- How the answers of a call's parts make up its own.
-use Rattle.std.proofs.Common.{◌≡◌, ℕ, ◌⊎◌, inl, inr, Option, Some, None, Result, Ok, Err, refl, sym, subst}
+use Rattle.std.proofs.Common.{◌≡◌, ℕ, inr, Option, Some, None, Result, Ok, Err, sym, subst}
 use Rattle.page_bytes.specs.declared.end.PageEnd.{PageEnd}
 use Rattle.page_bytes.specs.declared.end.PageEnd.TheVariants.{NoMemory}
 use Rattle.page_bytes.specs.declared.ids.Space.{Space}

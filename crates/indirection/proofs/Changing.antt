@@ -1,6 +1,6 @@
 -- What changed, removed and reused numbers do to what the pages mean.
-use Rattle.std.proofs.Common.{◌≡◌, ◌≢◌, ℕ, ◌+◌, ◌-◌, ◌*◌, ◌/◌, ◌%◌, ◌<◌, ◌≤◌, ◌^◌, ◌==◌, ◌||◌, ◌⊎◌, inl, inr, ⊎_elim, Bool, true, false, nat_eq, nat_lt, nat_le, List, [], ◌∷◌, length, Option, Some, None, IsSome, refl, sym, ap, ◌∙◌, cond, is_some, subst, true≢false, eq-eqb, arith, IsTrue}
-use Rattle.std.proofs.lemmas.Bool.{eqb-true, ltb-true, ltb-false, leb-true, leb-false}
+use Rattle.std.proofs.Common.{◌≡◌, ◌≢◌, ℕ, ◌/◌, ◌%◌, ◌<◌, ◌≤◌, ◌^◌, ◌==◌, ◌||◌, inl, inr, Bool, true, false, nat_lt, nat_le, List, ◌∷◌, Option, Some, None, refl, sym, ap, ◌∙◌, cond, subst, true≢false, eq-eqb, arith, IsTrue}
+use Rattle.std.proofs.lemmas.Bool.{ltb-true, ltb-false, leb-true, leb-false}
 use Rattle.std.specs.Ordering.{nat_cmp}
 use Rattle.std.proofs.lemmas.Bool.Decides.{nat_tests}
 use Rattle.std.specs.FinMap as map
@@ -8,16 +8,14 @@ use Rattle.page_bytes.specs.declared.ids.Space.{Space}
 use Rattle.page_bytes.specs.declared.ids.PageId.{PageId}
 use Rattle.page_bytes.specs.declared.ids.Addr.{Addr}
 use Rattle.page_bytes.specs.PageNumber.{page_number}
-use Rattle.page_bytes.specs.Known.{Known, is_there}
+use Rattle.page_bytes.specs.Known.{is_there}
 use Rattle.page_bytes.specs.Work.{Work}
-use Rattle.page_bytes.specs.Fields.{field}
-use Rattle.indirection.specs.Forms.{MOST_NUMBERS, leaf_index, entry_index, first_free, highest}
+use Rattle.indirection.specs.Forms.{leaf_index, entry_index, first_free, highest}
 use Rattle.indirection.specs.Reading.{page_of}
 use Rattle.indirection.specs.Writing.{with_number, with_entry_in}
 use Rattle.indirection.specs.Meaning.{seen, bytes, leaf_number, IsTable, page_at, place_at, leaf_count, directory_count, NodeNumbers, is_listed, EntryMeans, IsFreeList, MeansNumbers, with_address, without_number}
-use Rattle.indirection.proofs.Steps.{Only}
-use Rattle.indirection.proofs.Meanings.{get-with, get-without, page_at-written, place_at-written, page_at-kept, place_at-kept, IsFreeList-kept, Differs, means_after}
-use Rattle.indirection.proofs.Writings.{entered_table, entered_stays, entered_writes, entered_head, entered_bytes, headed_table, headed_field, headed_written, headed_page, headed_place}
+use Rattle.indirection.proofs.Meanings.{get-with, get-without, page_at-written, place_at-written, page_at-kept, place_at-kept, IsFreeList-kept, means_after}
+use Rattle.indirection.proofs.Writings.{entered_table, entered_stays, entered_writes, entered_head, headed_table, headed_field, headed_written, headed_page, headed_place}
 
 apart : (x h : ℕ) → x ≢ h → (x == h) ≡ false
 apart x h differ = grind (arith, nat_tests)

@@ -1,20 +1,20 @@
 -- What a new root, a new directory page and a new leaf do to the table, each with the link to it.
-use Rattle.std.proofs.Common.{◌≡◌, ◌≢◌, ℕ, ◌+◌, ◌-◌, ◌*◌, ◌/◌, ◌%◌, ◌<◌, ◌≤◌, ◌^◌, ◌⊎◌, inl, inr, ⊎_elim, List, length, slice_index, Option, refl, sym, ap, ◌∙◌, subst, arith, IsTrue}
+use Rattle.std.proofs.Common.{◌≡◌, ◌≢◌, ℕ, ◌+◌, ◌/◌, ◌%◌, ◌<◌, ◌≤◌, inl, inr, ⊎_elim, List, length, slice_index, Option, sym, ap, ◌∙◌, subst, arith, IsTrue}
 use Rattle.page_bytes.specs.declared.ids.Space.{Space}
 use Rattle.page_bytes.specs.declared.ids.PageId.{PageId}
 use Rattle.page_bytes.specs.Fields.{field, with_field}
 use Rattle.page_bytes.specs.Head.{next_page, LAST_PAGE}
-use Rattle.page_bytes.specs.Known.{Known, is_there}
-use Rattle.page_bytes.specs.Work.{Work, with_page, with_fresh, first_bytes}
+use Rattle.page_bytes.specs.Known.{is_there}
+use Rattle.page_bytes.specs.Work.{Work, with_fresh}
 use Rattle.page_bytes.proofs.FieldLaws.{field-written}
 use Rattle.indirection.specs.Forms.{LEAF_KIND, DIRECTORY_KIND, root, link, link_at}
 use Rattle.indirection.specs.Reading.{page_of}
-use Rattle.indirection.specs.Writing.{with_number, next_in, with_new, with_child}
+use Rattle.indirection.specs.Writing.{next_in, with_new, with_child}
 use Rattle.indirection.specs.Meaning.{seen, bytes, IsPage, IsNumbered, root_number, directory_number, leaf_number, IsTable}
 use Rattle.indirection.proofs.Fields.{order, length-with_field, field_apart, kind_kept}
 use Rattle.indirection.proofs.Pages.{there_with_page, written_there, there_with_new}
 use Rattle.indirection.proofs.Seen.{seen-written, seen-beside, seen-first}
-use Rattle.indirection.proofs.Steps.{Only, Keeping, MakesPage, IsBeside, IsTable-kept, directory_stays, leaf_stays, kinds_apart, new_beside, page_made, leaves_beside, root_linked, LinksDirectory, directory_linked, head_same, root_same, leaf_bytes_same, new_directory, LinksLeaf, leaf_linked, new_leaf, head_as_before, leaf_bytes_as_before}
+use Rattle.indirection.proofs.Steps.{Keeping, MakesPage, IsBeside, IsTable-kept, directory_stays, leaf_stays, new_beside, page_made, leaves_beside, root_linked, LinksDirectory, directory_linked, head_same, root_same, leaf_bytes_same, new_directory, LinksLeaf, leaf_linked, new_leaf, head_as_before, leaf_bytes_as_before}
 use Rattle.indirection.proofs.NewPages.{made, made_field}
 
 -- a workspace in which the table stands, with the leaves and the fields of the head that it began with

@@ -1,15 +1,15 @@
 -- How a call ends, by what it was asked for.
-use Rattle.std.proofs.Common.{◌≡◌, ℕ, ◌+◌, ◌*◌, ◌/◌, ◌%◌, ◌<◌, ◌≤◌, ◌^◌, ◌==◌, ◌||◌, ◌⊎◌, inl, inr, ⊎_elim, Bool, true, false, nat_lt, nat_le, is_some, List, [], ◌∷◌, Option, Some, None, IsSome, Result, Ok, Err, MatchResult, refl, sym, ap, ◌∙◌, subst, true≢false, eq-eqb, arith, IsTrue, if◌then◌else◌}
+use Rattle.std.proofs.Common.{◌≡◌, ℕ, ◌/◌, ◌%◌, ◌<◌, ◌≤◌, ◌^◌, ◌==◌, ◌||◌, ◌⊎◌, inl, inr, ⊎_elim, Bool, true, false, nat_le, is_some, List, [], ◌∷◌, Option, Some, None, IsSome, Result, Ok, Err, MatchResult, refl, sym, ap, ◌∙◌, subst, true≢false, eq-eqb, arith, IsTrue, if◌then◌else◌}
 use Rattle.std.proofs.lemmas.Bool.{eqb-true, leb-true, leb-false}
 use Rattle.std.specs.FinMap as map
 use Rattle.page_bytes.specs.declared.ids.Space.{Space}
 use Rattle.page_bytes.specs.declared.ids.PageId.{PageId}
 use Rattle.page_bytes.specs.declared.ids.Addr.{Addr}
 use Rattle.page_bytes.specs.declared.end.PageEnd.{PageEnd}
-use Rattle.page_bytes.specs.declared.end.PageEnd.TheVariants.{Need, Damaged, NoMemory}
+use Rattle.page_bytes.specs.declared.end.PageEnd.TheVariants.{Damaged}
 use Rattle.page_bytes.specs.PageNumber.{page_number}
 use Rattle.page_bytes.specs.Head.{head_of}
-use Rattle.page_bytes.specs.Known.{Known, is_there, is_unknown}
+use Rattle.page_bytes.specs.Known.{Known, is_there}
 use Rattle.page_bytes.specs.Work.{Work}
 use Rattle.indirection.specs.declared.forms.Leaf.{Leaf}
 use Rattle.indirection.specs.declared.forms.Numbers.{Numbers}

@@ -1,8 +1,8 @@
 -- What a written field leaves of a page: its length, its kind and the fields beside it.
-use Rattle.std.proofs.Common.{◌≡◌, ◌≢◌, ℕ, ◌+◌, ◌*◌, Bool, true, false, nat_lt, ◌<◌, ◌≤◌, ◌^◌, ◌⊎◌, ⊎_elim, inl, inr, List, length, slice_index, refl, sym, ap, ◌∙◌, subst, arith}
+use Rattle.std.proofs.Common.{◌≡◌, ◌≢◌, ℕ, ◌+◌, Bool, true, false, nat_lt, ◌<◌, ◌≤◌, ◌^◌, ◌⊎◌, ⊎_elim, inl, inr, List, length, slice_index, refl, sym, ap, ◌∙◌, arith}
 use Rattle.std.proofs.lemmas.Bool.{ltb-true, ltb-false}
 use Rattle.indirection.specs.Forms.{entry_at, entry_page, entry_place, with_entry}
-use Rattle.page_bytes.specs.Fields.{bytes_at, with_bytes, field, with_field}
+use Rattle.page_bytes.specs.Fields.{bytes_at, field, with_field}
 use Rattle.page_bytes.proofs.FieldLaws.{length-with_bytes, bytes_at-before, bytes_at-behind, field-written, field-bytes_at, with_field-bytes, length-big_bytes, slice_index-bytes_at}
 
 pub length-with_field : (m : ℕ) (page : List ℕ) (to x : ℕ) → to + m ≤ length page → length (with_field m page to x) ≡ length page

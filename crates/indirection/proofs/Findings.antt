@@ -1,5 +1,5 @@
 -- What is found where the pages mean numbers: the number's entry, or a page is needed.
-use Rattle.std.proofs.Common.{◌≡◌, ◌≢◌, ℕ, zero, suc, ◌+◌, ◌-◌, ◌*◌, ◌/◌, ◌%◌, ◌<◌, ◌≤◌, ◌==◌, ◌||◌, ◌&&◌, ◌⊎◌, inl, inr, ⊎_elim, Bool, true, false, not, nat_eq, nat_lt, nat_le, List, [], ◌∷◌, length, slice_index, Option, Some, None, Result, Ok, Err, refl, sym, ap, ◌∙◌, cond, is_some, unwrap_or, subst, true≢false, eq-eqb, arith, IsTrue, if◌then◌else◌}
+use Rattle.std.proofs.Common.{◌≡◌, ◌≢◌, ℕ, ◌/◌, ◌%◌, ◌<◌, ◌≤◌, ◌==◌, ◌||◌, ◌&&◌, ◌⊎◌, inl, inr, ⊎_elim, Bool, true, false, not, nat_lt, List, [], slice_index, Option, Some, None, Result, Ok, Err, refl, sym, ap, ◌∙◌, is_some, unwrap_or, subst, true≢false, eq-eqb, arith, IsTrue, if◌then◌else◌}
 use Rattle.std.proofs.lemmas.Bool.{eqb-true, ltb-true, ltb-false}
 use Rattle.std.proofs.lemmas.Bool.Decides.{nat_tests}
 use Rattle.std.specs.FinMap as map
@@ -9,12 +9,12 @@ use Rattle.page_bytes.specs.declared.ids.Addr.{Addr}
 use Rattle.page_bytes.specs.declared.end.PageEnd.{PageEnd}
 use Rattle.page_bytes.specs.declared.end.PageEnd.TheVariants.{Need, Damaged}
 use Rattle.page_bytes.specs.Known.{Known, is_there, is_unknown}
-use Rattle.page_bytes.specs.Head.{head_of, is_head, next_page}
+use Rattle.page_bytes.specs.Head.{next_page}
 use Rattle.indirection.specs.declared.forms.Leaf.{Leaf}
 use Rattle.indirection.specs.declared.forms.Numbers.{Numbers}
 use Rattle.indirection.specs.declared.forms.Entry.{Entry}
 use Rattle.indirection.specs.declared.forms.Entry.TheVariants.{Taken, Free}
-use Rattle.indirection.specs.Forms.{MOST_NUMBERS, LEAF_KIND, DIRECTORY_KIND, leaf_index, entry_index, root, first_free, highest, link, entry_page, entry_place}
+use Rattle.indirection.specs.Forms.{MOST_NUMBERS, LEAF_KIND, DIRECTORY_KIND, leaf_index, entry_index, first_free, highest, link, entry_page, entry_place}
 use Rattle.indirection.specs.Reading.{and_then, page_of, or_damaged, asked, tested, is_number_head, head_in, linked}
 use Rattle.indirection.specs.Finding.{directory_in, leaf_in, entry_of, found_in, numbers_in, address_of, address_in}
 use Rattle.indirection.specs.Meaning.{seen, bytes, IsPage, root_number, directory_number, leaf_number, IsTable, page_at, place_at, leaf_count, directory_count, NodeNumbers, is_listed, EntryMeans, MeansNumbers}

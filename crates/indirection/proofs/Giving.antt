@@ -1,6 +1,6 @@
 -- What a number that is given does to what the pages mean.
-use Rattle.std.proofs.Common.{◌≡◌, ◌≢◌, ℕ, ◌+◌, ◌-◌, ◌*◌, ◌/◌, ◌%◌, ◌<◌, ◌≤◌, ◌^◌, ◌==◌, ◌||◌, ◌⊎◌, inl, inr, ⊎_elim, Bool, true, false, nat_eq, nat_lt, nat_le, List, [], ◌∷◌, length, Option, Some, None, Result, Ok, Err, MatchResult, refl, sym, ap, ◌∙◌, cond, subst, true≢false, eq-eqb, le-ltb, arith, IsTrue, if◌then◌else◌}
-use Rattle.std.proofs.lemmas.Bool.{eqb-true, ltb-false}
+use Rattle.std.proofs.Common.{◌≡◌, ◌≢◌, ℕ, ◌+◌, ◌*◌, ◌/◌, ◌%◌, ◌<◌, ◌≤◌, ◌^◌, ◌==◌, ◌||◌, ◌⊎◌, inl, inr, ⊎_elim, Bool, true, false, List, [], ◌∷◌, Option, Some, None, Result, Ok, Err, MatchResult, refl, sym, ap, ◌∙◌, subst, true≢false, eq-eqb, le-ltb, arith, IsTrue, if◌then◌else◌}
+use Rattle.std.proofs.lemmas.Bool.{eqb-true}
 use Rattle.std.proofs.lemmas.Bool.Decides.{nat_tests}
 use Rattle.std.specs.FinMap as map
 use Rattle.page_bytes.specs.declared.ids.Space.{Space}
@@ -8,11 +8,11 @@ use Rattle.page_bytes.specs.declared.ids.PageId.{PageId}
 use Rattle.page_bytes.specs.declared.ids.NodeNo.{NodeNo}
 use Rattle.page_bytes.specs.declared.ids.Addr.{Addr}
 use Rattle.page_bytes.specs.declared.end.PageEnd.{PageEnd}
-use Rattle.page_bytes.specs.declared.end.PageEnd.TheVariants.{Need, Damaged, Spent, NoMemory}
+use Rattle.page_bytes.specs.declared.end.PageEnd.TheVariants.{Damaged, Spent}
 use Rattle.page_bytes.specs.PageNumber.{page_number}
 use Rattle.page_bytes.specs.Fields.{field}
 use Rattle.page_bytes.specs.Head.{head_of, LAST_PAGE}
-use Rattle.page_bytes.specs.Known.{Known, is_there, is_unknown}
+use Rattle.page_bytes.specs.Known.{Known, is_there}
 use Rattle.page_bytes.specs.Work.{Work}
 use Rattle.indirection.specs.declared.forms.Leaf.{Leaf}
 use Rattle.indirection.specs.declared.forms.Numbers.{Numbers}
@@ -23,12 +23,12 @@ use Rattle.indirection.specs.Finding.{numbers_in, directory_in, leaf_in, found_i
 use Rattle.indirection.specs.Writing.{with_number, with_entry_in}
 use Rattle.indirection.specs.Adding.{free_behind, reused_in, placed_in, grown_in, last_leaf, appended_in, added_in}
 use Rattle.indirection.specs.Answers.{Answers, IsStop}
-use Rattle.indirection.specs.Meaning.{seen, bytes, root_number, directory_number, leaf_number, IsTable, page_at, place_at, leaf_count, directory_count, NodeNumbers, is_listed, EntryMeans, IsFreeList, MeansNumbers, next_number, highest_given, free_left, with_number_given, IsNotGiven}
+use Rattle.indirection.specs.Meaning.{seen, bytes, root_number, directory_number, leaf_number, page_at, place_at, leaf_count, directory_count, NodeNumbers, is_listed, EntryMeans, IsFreeList, MeansNumbers, next_number, highest_given, free_left, with_number_given, IsNotGiven}
 use Rattle.indirection.proofs.Pages.{there_with_page}
-use Rattle.indirection.proofs.Meanings.{page_at-written, place_at-written, page_at-kept, place_at-kept, IsFreeList-kept, Differs, means_after}
+use Rattle.indirection.proofs.Meanings.{page_at-written, place_at-written, page_at-kept, place_at-kept, IsFreeList-kept, means_after}
 use Rattle.indirection.proofs.Writings.{entered_table, entered_stays, entered_writes, entered_head, headed_table, headed_field, headed_written, headed_page, headed_place}
-use Rattle.indirection.proofs.Findings.{Needs, Gives, gives_then, directory_in-is, leaf_in-is, leaf-is, means_numbers-is, means_found-is}
-use Rattle.indirection.proofs.Changing.{get-with_same, get-with_other, means_address, in_range, entry_written, written_table, written_head, written_page, written_place, written_page_kept, written_place_kept, written_free, listed_other}
+use Rattle.indirection.proofs.Findings.{Gives, gives_then, directory_in-is, leaf_in-is, leaf-is, means_numbers-is, means_found-is}
+use Rattle.indirection.proofs.Changing.{get-with_same, get-with_other, means_address, in_range, entry_written, written_table, written_head, written_page, written_place, written_page_kept, written_place_kept, listed_other}
 use Rattle.indirection.proofs.Ending.{free_small, refused_or_needs, then_refused}
 use Rattle.indirection.proofs.Children.{Stands, one_root}
 use Rattle.indirection.proofs.Reaching.{Reaches, reaches_then, gives_reaches, HasLeaf, grown-is}

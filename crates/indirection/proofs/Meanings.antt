@@ -1,14 +1,13 @@
 -- What a changed entry does to what the pages mean.
-use Rattle.std.proofs.Common.{◌≡◌, ◌≢◌, ℕ, ◌+◌, ◌-◌, ◌*◌, ◌/◌, ◌%◌, ◌<◌, ◌≤◌, ◌^◌, ◌==◌, ◌||◌, ◌⊎◌, inl, inr, ⊎_elim, Bool, true, false, nat_eq, nat_lt, List, [], ◌∷◌, length, slice_index, Option, Some, None, refl, sym, ap, ◌∙◌, cond, subst, true≢false, eq-eqb, arith}
-use Rattle.std.proofs.lemmas.Bool.{eqb-true, ltb-true, ltb-false}
+use Rattle.std.proofs.Common.{◌≡◌, ◌≢◌, ℕ, ◌<◌, ◌≤◌, ◌^◌, ◌==◌, ◌⊎◌, inl, inr, ⊎_elim, Bool, true, false, nat_eq, List, [], ◌∷◌, length, Option, Some, None, refl, sym, ap, ◌∙◌, cond, subst, true≢false, eq-eqb, arith}
+use Rattle.std.proofs.lemmas.Bool.{eqb-true}
 use Rattle.std.proofs.lemmas.Bool.Decides.{nat_tests}
-use Rattle.std.specs.Ordering.{nat_cmp, eq_by_cmp}
+use Rattle.std.specs.Ordering.{nat_cmp}
 use Rattle.std.specs.Cmp.{nat_cmp_total, unsigned_tied}
 use Rattle.std.specs.FinMap as map
 use Rattle.page_bytes.specs.declared.ids.Addr.{Addr}
-use Rattle.indirection.specs.Forms.{MOST_NUMBERS, LEAF_KIND, leaf_index, entry_index, first_free, highest, entry_page, entry_place, with_entry}
-use Rattle.indirection.specs.Meaning.{bytes, IsPage, leaf_number, IsTable, page_at, place_at, leaf_count, directory_count, NodeNumbers, is_listed, EntryMeans, IsFreeList, MeansNumbers}
-use Rattle.indirection.proofs.Steps.{Only}
+use Rattle.indirection.specs.Forms.{MOST_NUMBERS, leaf_index, entry_index, first_free, highest, entry_page, entry_place, with_entry}
+use Rattle.indirection.specs.Meaning.{bytes, leaf_number, IsTable, page_at, place_at, leaf_count, directory_count, NodeNumbers, is_listed, EntryMeans, IsFreeList, MeansNumbers}
 use Rattle.indirection.proofs.Fields.{entry_page-written, entry_place-written, entry_page-apart, entry_place-apart}
 
 abbrev Pages : Type 0

@@ -1,25 +1,19 @@
 -- What a new page with a link to it does to the table.
-use Rattle.std.proofs.Common.{◌≡◌, ◌≢◌, ℕ, ◌+◌, ◌-◌, ◌*◌, ◌/◌, ◌%◌, ◌<◌, ◌≤◌, ◌^◌, ◌==◌, ◌&&◌, ◌||◌, ◌⊎◌, inl, inr, ⊎_elim, Bool, true, false, not, nat_eq, nat_lt, List, [], ◌∷◌, length, replicate, slice_index, Option, Some, None, unwrap_or, is_some, refl, sym, ap, ◌∙◌, subst, true≢false, eq-eqb, arith, IsTrue, if◌then◌else◌, lit≤}
-use Rattle.std.proofs.lemmas.Bool.{eqb-true}
-use Rattle.std.proofs.lemmas.Bool.Decides.{nat_tests}
+use Rattle.std.proofs.Common.{◌≡◌, ◌≢◌, ℕ, ◌+◌, ◌<◌, ◌≤◌, inr, List, [], ◌∷◌, length, slice_index, Option, sym, ap, ◌∙◌, arith, IsTrue, lit≤}
 use Rattle.page_bytes.specs.declared.ids.Space.{Space}
 use Rattle.page_bytes.specs.declared.ids.PageId.{PageId}
-use Rattle.page_bytes.specs.declared.end.PageEnd.{PageEnd}
-use Rattle.page_bytes.specs.declared.end.PageEnd.TheVariants.{Need, Damaged, Spent}
 use Rattle.page_bytes.specs.Fields.{field, with_field, with_bytes}
-use Rattle.page_bytes.specs.Head.{head_of, is_head, next_page, with_next_page, LAST_PAGE}
-use Rattle.page_bytes.specs.Known.{Known, is_there, is_unknown}
-use Rattle.page_bytes.specs.Refusal.{head_refusal, fresh_refusal}
+use Rattle.page_bytes.specs.Head.{head_of, next_page, with_next_page, LAST_PAGE}
+use Rattle.page_bytes.specs.Known.{is_there}
 use Rattle.page_bytes.specs.Work.{Work, with_page, first_bytes, zeros, with_fresh}
 use Rattle.page_bytes.proofs.FieldLaws.{field-written, length-with_bytes, bytes_at-written, slice_index-bytes_at}
-use Rattle.indirection.specs.Forms.{LEAF_KIND, DIRECTORY_KIND, leaf_index, entry_index, root, first_free, highest, link, link_at}
+use Rattle.indirection.specs.Forms.{root}
 use Rattle.indirection.specs.Reading.{page_of}
-use Rattle.indirection.specs.Writing.{with_number, next_in, with_new, with_child}
-use Rattle.indirection.specs.Meaning.{seen, bytes, IsPage, IsNumbered, root_number, directory_number, leaf_number, IsTable}
+use Rattle.indirection.specs.Writing.{next_in, with_new}
+use Rattle.indirection.specs.Meaning.{seen, bytes, IsPage}
 use Rattle.indirection.proofs.Fields.{length-with_field, field_apart, kind_kept}
-use Rattle.indirection.proofs.Pages.{there_with_page, written_there, there_with_new}
 use Rattle.indirection.proofs.Seen.{seen-written, seen-beside, seen-first}
-use Rattle.indirection.proofs.Steps.{Only, Keeping, MakesPage, IsBeside, IsTable-kept, directory_stays, leaf_stays, kinds_apart, new_beside, page_made, leaves_beside, root_linked, LinksDirectory, directory_linked, leaf_bytes_same, new_directory, LinksLeaf, leaf_linked, new_leaf, leaf_bytes_as_before}
+use Rattle.indirection.proofs.Steps.{MakesPage}
 
 kind_written : (kind : ℕ) → (slice_index (with_bytes zeros 0 (kind ∷ [])) 0 ≡ kind) × (length (with_bytes zeros 0 (kind ∷ [])) ≡ 4096)
 kind_written kind = (

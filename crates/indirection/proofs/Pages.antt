@@ -1,5 +1,5 @@
 -- What a page write leaves of the other pages.
-use Rattle.std.proofs.Common.{◌≡◌, ℕ, zero, suc, ◌+◌, ◌<◌, ◌==◌, Bool, true, false, not, ◌&&◌, if◌then◌else◌, List, [], ◌∷◌, Option, Some, None, Result, Ok, Err, refl, ap, sym, ◌∙◌, cond, is_some, unwrap_or, slice_index, IsTrue, arith}
+use Rattle.std.proofs.Common.{◌≡◌, ℕ, zero, suc, ◌+◌, ◌<◌, ◌==◌, Bool, true, false, not, ◌&&◌, if◌then◌else◌, List, [], ◌∷◌, Option, Some, None, Ok, refl, ap, ◌∙◌, cond, is_some, unwrap_or, slice_index, IsTrue, arith}
 use Rattle.std.proofs.lemmas.Bool.Decides.{nat_tests}
 use Rattle.std.specs.declared.cmp.Ordering.{Ordering}
 use Rattle.std.specs.declared.cmp.Ordering.TheVariants.{Less, Equal, Greater}
@@ -11,7 +11,7 @@ use Rattle.page_bytes.specs.declared.ids.PageId.{PageId}
 use Rattle.page_bytes.specs.declared.end.PageEnd.{PageEnd}
 use Rattle.page_bytes.specs.declared.end.PageEnd.TheVariants.{Need, Damaged, Spent}
 use Rattle.page_bytes.specs.Order.{space_cmp, page_cmp}
-use Rattle.page_bytes.specs.Known.{Known, is_there, is_unknown}
+use Rattle.page_bytes.specs.Known.{is_there, is_unknown}
 use Rattle.page_bytes.specs.Head.{head_of, next_page, with_next_page, LAST_PAGE}
 use Rattle.page_bytes.specs.Fields.{with_bytes}
 use Rattle.page_bytes.specs.Refusal.{RefusedBy, head_refusal, fresh_refusal}

@@ -1,6 +1,6 @@
 -- What a call that makes pages comes to: a new leaf, a need of a page, or the end of the page numbers.
-use Rattle.std.proofs.Common.{◌≡◌, ◌≢◌, ℕ, zero, suc, ◌+◌, ◌-◌, ◌*◌, ◌/◌, ◌%◌, ◌<◌, ◌≤◌, ◌==◌, ◌&&◌, ◌||◌, ◌⊎◌, inl, inr, ⊎_elim, Bool, true, false, not, nat_eq, nat_lt, List, [], length, slice_index, Option, Some, None, Result, Ok, Err, is_some, unwrap_or, refl, sym, ap, ◌∙◌, cond, subst, true≢false, eq-eqb, arith, IsTrue, if◌then◌else◌}
-use Rattle.std.proofs.lemmas.Bool.{eqb-true, ltb-true, ltb-false}
+use Rattle.std.proofs.Common.{◌≡◌, ◌≢◌, ℕ, ◌+◌, ◌/◌, ◌%◌, ◌<◌, ◌≤◌, ◌==◌, ◌&&◌, ◌||◌, ◌⊎◌, inl, inr, ⊎_elim, Bool, true, false, not, List, slice_index, Option, Some, None, Result, Ok, Err, is_some, unwrap_or, refl, sym, ap, ◌∙◌, cond, subst, true≢false, eq-eqb, arith, IsTrue, if◌then◌else◌}
+use Rattle.std.proofs.lemmas.Bool.{eqb-true}
 use Rattle.std.proofs.lemmas.Bool.Decides.{nat_tests}
 use Rattle.std.specs.Ordering.{eq_by_cmp}
 use Rattle.std.specs.FinMap as map
@@ -11,17 +11,17 @@ use Rattle.page_bytes.specs.declared.end.PageEnd.TheVariants.{Need, Damaged, Spe
 use Rattle.page_bytes.specs.Order.{page_cmp}
 use Rattle.page_bytes.specs.Head.{head_of, is_head, next_page, LAST_PAGE}
 use Rattle.page_bytes.specs.Known.{Known, is_there, is_unknown}
-use Rattle.page_bytes.specs.Refusal.{head_refusal, fresh_refusal}
+use Rattle.page_bytes.specs.Refusal.{head_refusal}
 use Rattle.page_bytes.specs.Work.{Work, with_page, with_fresh, first_bytes, zeros}
 use Rattle.indirection.specs.Forms.{LEAF_KIND, DIRECTORY_KIND, link, link_at}
 use Rattle.indirection.specs.Reading.{and_then, page_of, linked}
-use Rattle.indirection.specs.Writing.{with_number, next_in, with_new, with_child}
+use Rattle.indirection.specs.Writing.{next_in, with_new, with_child}
 use Rattle.indirection.specs.Adding.{unless, child_in, root_for, directory_for, leaf_for, directed_in, grown_in}
-use Rattle.indirection.specs.Meaning.{seen, bytes, IsPage, root_number, directory_number, leaf_number, IsTable, directory_count}
+use Rattle.indirection.specs.Meaning.{seen, bytes, root_number, directory_number, leaf_number, directory_count}
 use Rattle.indirection.proofs.Pages.{page_cmp-total}
 use Rattle.indirection.proofs.Seen.{seen-first}
 use Rattle.indirection.proofs.Findings.{Needs, Gives, root-is, directory-is}
-use Rattle.indirection.proofs.Children.{Stands, rooted_number, rooted_stands, rooted_there, one_root, directed_number, directed_stands, directed_root, leafed_number, leafed_stands, leafed_there}
+use Rattle.indirection.proofs.Children.{Stands, rooted_number, rooted_stands, one_root, directed_number, directed_stands, directed_root, leafed_number, leafed_stands, leafed_there}
 
 -- a value of which Q holds is given, or a page is needed, or page numbers are spent
 abbrev pub Reaches : {X : Type 0} → Known → Result X PageEnd → (X → Type 0) → Type 0

@@ -1,10 +1,10 @@
 -- What is seen of a space's pages once one of them is written.
-use Rattle.std.proofs.Common.{◌≡◌, ◌≢◌, ℕ, zero, suc, ◌==◌, Bool, true, false, not, ◌&&◌, ◌||◌, List, [], Option, Some, None, refl, sym, ap, ◌∙◌, cond, is_some, unwrap_or, IsTrue, if◌then◌else◌, slice_index, true≢false, arith}
+use Rattle.std.proofs.Common.{◌≡◌, ◌≢◌, ℕ, ◌==◌, Bool, true, false, not, ◌&&◌, ◌||◌, List, [], Option, Some, None, refl, sym, ap, ◌∙◌, cond, is_some, unwrap_or, IsTrue, if◌then◌else◌, true≢false, arith}
 use Rattle.std.proofs.lemmas.Bool.Decides.{nat_tests}
 use Rattle.std.specs.FinMap as map
 use Rattle.page_bytes.specs.declared.ids.Space.{Space}
 use Rattle.page_bytes.specs.declared.ids.PageId.{PageId}
-use Rattle.page_bytes.specs.Known.{Known, is_there, is_unknown}
+use Rattle.page_bytes.specs.Known.{Known, is_there}
 use Rattle.page_bytes.specs.Work.{Work, with_page, first_bytes, zeros}
 use Rattle.indirection.specs.Reading.{page_of}
 use Rattle.indirection.specs.Meaning.{seen, bytes}

@@ -1,5 +1,5 @@
 -- What one written page leaves of the root, the directory pages and the leaves.
-use Rattle.std.proofs.Common.{◌≡◌, ◌≢◌, ℕ, ◌+◌, ◌*◌, ◌/◌, ◌%◌, ◌<◌, ◌≤◌, Bool, true, false, nat_eq, nat_lt, List, length, slice_index, Option, refl, sym, ap, ◌∙◌, subst, true≢false, eq-eqb, arith}
+use Rattle.std.proofs.Common.{◌≡◌, ◌≢◌, ℕ, ◌+◌, ◌/◌, ◌%◌, ◌<◌, ◌≤◌, Bool, true, false, nat_eq, nat_lt, List, length, slice_index, Option, refl, sym, ap, ◌∙◌, subst, true≢false, eq-eqb, arith}
 use Rattle.std.proofs.lemmas.Bool.{eqb-true, ltb-true, ltb-false}
 use Rattle.page_bytes.specs.Head.{next_page, LAST_PAGE}
 use Rattle.indirection.specs.Forms.{LEAF_KIND, DIRECTORY_KIND, root, link}

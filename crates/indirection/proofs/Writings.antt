@@ -1,16 +1,15 @@
 -- What a written entry and a written head leave, as they are seen.
-use Rattle.std.proofs.Common.{◌≡◌, ◌≢◌, ℕ, ◌+◌, ◌-◌, ◌*◌, ◌/◌, ◌%◌, ◌<◌, ◌≤◌, ◌^◌, ◌⊎◌, inl, inr, List, length, slice_index, Option, refl, sym, ap, ◌∙◌, subst, arith, IsTrue}
+use Rattle.std.proofs.Common.{◌≡◌, ℕ, ◌+◌, ◌*◌, ◌/◌, ◌<◌, ◌≤◌, ◌^◌, ◌⊎◌, inl, List, length, slice_index, Option, sym, ap, ◌∙◌, arith, IsTrue}
 use Rattle.page_bytes.specs.declared.ids.Space.{Space}
 use Rattle.page_bytes.specs.declared.ids.PageId.{PageId}
 use Rattle.page_bytes.specs.Fields.{field, with_field}
-use Rattle.page_bytes.specs.Head.{next_page}
-use Rattle.page_bytes.specs.Known.{Known, is_there}
-use Rattle.page_bytes.specs.Work.{Work, with_page, first_bytes}
+use Rattle.page_bytes.specs.Known.{is_there}
+use Rattle.page_bytes.specs.Work.{Work}
 use Rattle.page_bytes.proofs.FieldLaws.{field-written}
-use Rattle.indirection.specs.Forms.{LEAF_KIND, leaf_index, entry_index, root, first_free, highest, with_entry}
+use Rattle.indirection.specs.Forms.{LEAF_KIND, leaf_index, entry_index, with_entry}
 use Rattle.indirection.specs.Reading.{page_of}
 use Rattle.indirection.specs.Writing.{with_number, with_entry_in}
-use Rattle.indirection.specs.Meaning.{seen, bytes, IsPage, root_number, leaf_number, IsTable, page_at, place_at}
+use Rattle.indirection.specs.Meaning.{seen, bytes, IsPage, leaf_number, IsTable, page_at, place_at}
 use Rattle.indirection.proofs.Fields.{length-with_field, field_apart, kind_kept, length-with_entry, kind-with_entry}
 use Rattle.indirection.proofs.Seen.{seen-written, seen-beside, seen-first}
 use Rattle.indirection.proofs.Steps.{Only, Keeping, IsTable-kept, leaf_stays, kinds_apart, leaf_written, head_written}

@@ -1,5 +1,5 @@
 -- What the calls that change numbers do, page by page.
-use Rattle.std.specs.Prelude.{◌≡◌, ℕ, ◌+◌, ◌-◌, ◌*◌, ◌/◌, ◌%◌, ◌==◌, ◌||◌, not, nat_lt, List, Option, Some, None, Result, Ok, Err, if◌then◌else◌}
+use Rattle.std.specs.Prelude.{ℕ, ◌+◌, ◌/◌, ◌%◌, ◌==◌, ◌||◌, nat_lt, Option, Some, None, Result, Ok, Err, if◌then◌else◌}
 use Rattle.page_bytes.specs.declared.ids.Space.{Space}
 use Rattle.page_bytes.specs.declared.ids.NodeNo.{NodeNo}
 use Rattle.page_bytes.specs.declared.ids.Addr.{Addr}
@@ -10,10 +10,9 @@ use Rattle.page_bytes.specs.Head.{head_of}
 use Rattle.page_bytes.specs.Refusal.{fresh_refusal}
 use Rattle.page_bytes.specs.Known.{Known}
 use Rattle.page_bytes.specs.Work.{Work}
-use Rattle.indirection.specs.declared.forms.Leaf.{Leaf}
 use Rattle.indirection.specs.declared.forms.Entry.{Entry}
 use Rattle.indirection.specs.declared.forms.Entry.TheVariants.{Taken, Free}
-use Rattle.indirection.specs.Forms.{MOST_NUMBERS, LEAF_KIND, DIRECTORY_KIND, leaf_index, entry_index, root, first_free, highest, link, link_at}
+use Rattle.indirection.specs.Forms.{MOST_NUMBERS, LEAF_KIND, DIRECTORY_KIND, entry_index, root, highest, link, link_at}
 use Rattle.indirection.specs.Reading.{and_then, page_of, linked}
 use Rattle.indirection.specs.Finding.{numbers_in, directory_in, leaf_in, found_in}
 use Rattle.indirection.specs.Writing.{with_number, with_entry_in, next_in, with_new, with_child}

@@ -2,8 +2,8 @@
 -- directory pages, of kind 7, have 511 page numbers each: the root those of the directory pages, a directory page those
 -- of its leaves. A leaf, of kind 6, has 340 entries: a page number and a place in that page, or for page 0, which means
 -- that the number is free, the next free number.
-use Rattle.std.specs.Prelude.{ℕ, ◌+◌, ◌-◌, ◌*◌, ◌/◌, ◌%◌, List, [], ◌∷◌}
-use Rattle.page_bytes.specs.Fields.{field, with_field, with_bytes}
+use Rattle.std.specs.Prelude.{ℕ, ◌+◌, ◌-◌, ◌*◌, ◌/◌, ◌%◌, List}
+use Rattle.page_bytes.specs.Fields.{field, with_field}
 
 abbrev pub LEAF_KIND : ℕ
 LEAF_KIND = 6

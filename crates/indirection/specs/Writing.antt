@@ -1,12 +1,12 @@
 -- Pages that are written to: a field of a page, an entry of a leaf, and a new page to which another page has a link.
-use Rattle.std.specs.Prelude.{ℕ, List, [], ◌∷◌, IsTrue}
+use Rattle.std.specs.Prelude.{ℕ, [], ◌∷◌, IsTrue}
 use Rattle.page_bytes.specs.declared.ids.Space.{Space}
 use Rattle.page_bytes.specs.declared.ids.PageId.{PageId}
 use Rattle.page_bytes.specs.Fields.{with_field, with_bytes}
 use Rattle.page_bytes.specs.Head.{head_of, next_page}
 use Rattle.page_bytes.specs.Known.{Known, is_there}
-use Rattle.page_bytes.specs.Work.{Work, with_page, first_bytes, zeros, fresh_page, with_fresh}
-use Rattle.indirection.specs.Forms.{with_entry, entry_at}
+use Rattle.page_bytes.specs.Work.{Work, with_page, first_bytes, zeros, with_fresh}
+use Rattle.indirection.specs.Forms.{with_entry}
 use Rattle.indirection.specs.Reading.{page_of}
 
 -- the page's field of n bytes at a place has the number x

@@ -1,12 +1,12 @@
-use Rattle.std.proofs.Common.{◌≡◌, IsTrue, Option, Some, None, Ok, sym, subst, ap, ◌∙◌}
+use Rattle.std.proofs.Common.{IsTrue, Option, Ok, sym, subst, ap, ◌∙◌}
 use Rattle.page_bytes.specs.declared.ids.PageId.{PageId}
 use Rattle.page_bytes.specs.declared.end.PageEnd.{PageEnd}
 use Rattle.page_bytes.specs.Known.{is_there}
 use Rattle.page_bytes.specs.Refusal.{fresh_refusal}
-use Rattle.page_bytes.specs.Work.{Work, with_fresh}
+use Rattle.page_bytes.specs.Work.{Work}
 use Rattle.indirection.specs.Reading.{page_of}
 use Rattle.indirection.specs.Writing.{next_in, with_kind, with_new}
-use Rattle.indirection.specs.Adding.{unless, new_in}
+use Rattle.indirection.specs.Adding.{unless}
 use Rattle.indirection.specs.Answers.{Answers}
 use Rattle.indirection.proofs.Pages.{not_refused, fresh_there, with_new-is, there_with_fresh}
 use Rattle.indirection.proofs.writing.new_page.Goals as goal
