@@ -6,3 +6,5 @@ pub mod ListLemmas
 pub mod Listing
 pub mod Sharing
 pub mod FieldLaws
+pub mod TextWalks
+pub mod SchemaWalks

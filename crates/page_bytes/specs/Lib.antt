@@ -11,3 +11,7 @@ pub mod Inside
 pub mod Lends
 pub mod LendsBytes
 pub mod LendsPage
+pub mod Links
+pub mod Texts
+pub mod Schema
+pub mod SchemaFound

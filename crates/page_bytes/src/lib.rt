@@ -6,16 +6,22 @@
 //! `Workspace` has the pages below, which it was given, and what it knows now. Its calls are `edit`, `fresh`, `free`,
 //! `open_space`, `drop_space` and `add`; `finish` lists the pages that differ from those below. They refuse with Need
 //! for a page of which nothing is known, with Damaged for one that should be there, with Spent where page numbers end.
+//!
+//! `text_at` joins the pieces of a text, and `schema_entry` finds the place of a schema entry. They read pages that other
+//! crates write, and test each before they believe it.
 #![tactic(auto)]
 
 mod changes;
 mod end;
 mod fields;
 mod ids;
+mod links;
 mod lists;
 mod page;
 mod pages;
+mod schema;
 mod table;
+mod texts;
 mod workspace;
 
 pub use end::{NoMemory, PageEnd};
@@ -24,7 +30,11 @@ pub use ids::{Addr, DocEntry, NodeNo, PageId, SchemaId, Space};
 pub use lists::{ChangeList, PageChange, PageIdList};
 pub use page::{Draft, PAGE_BYTES, Page};
 pub use pages::{PageSet, Pages};
+pub use schema::schema_entry;
+pub use texts::{ByteList, TextRef, text_at};
 pub use workspace::Workspace;
 
+#[cfg(test)]
+mod link_tests;
 #[cfg(test)]
 mod tests;

@@ -1,0 +1,75 @@
+-- What a written field leaves of a page: its length, its kind and the fields beside it.
+use Rattle.std.proofs.Common.{◌≡◌, ◌≢◌, ℕ, ◌+◌, Bool, true, false, nat_lt, ◌<◌, ◌≤◌, ◌^◌, ◌⊎◌, ⊎_elim, inl, inr, List, length, slice_index, refl, sym, ap, ◌∙◌, arith}
+use Rattle.std.proofs.lemmas.Bool.{ltb-true, ltb-false}
+use Rattle.indirection.specs.Forms.{entry_at, entry_page, entry_place, with_entry}
+use Rattle.page_bytes.specs.Fields.{bytes_at, field, with_field}
+use Rattle.page_bytes.proofs.FieldLaws.{length-with_bytes, bytes_at-before, bytes_at-behind, field-written, field-bytes_at, with_field-bytes, length-big_bytes, slice_index-bytes_at}
+
+pub length-with_field : (m : ℕ) (page : List ℕ) (to x : ℕ) → to + m ≤ length page → length (with_field m page to x) ≡ length page
+length-with_field m page to x within =
+    let count = length-big_bytes m x in
+    ap length (with_field-bytes m to x page) ∙ length-with_bytes page to _ (omega (arith, count, within))
+
+bytes_apart : (n at m : ℕ) (page : List ℕ) (to x : ℕ) → (at + n ≤ to) ⊎ (to + m ≤ at) → to + m ≤ length page → bytes_at at n (with_field m page to x) ≡ bytes_at at n page
+bytes_apart n at m page to x apart within =
+    let count = length-big_bytes m x in
+    ap (bytes_at at n) (with_field-bytes m to x page)
+    ∙ ⊎_elim
+    (λ before. bytes_at-before page at n to _ before (omega (arith, within)))
+    (λ behind. bytes_at-behind page at n to _ (omega (arith, count, behind)) (omega (arith, within)))
+    apart
+
+pub field_apart : (n at m : ℕ) (page : List ℕ) (to x : ℕ) → (at + n ≤ to) ⊎ (to + m ≤ at) → to + m ≤ length page → field n at (with_field m page to x) ≡ field n at page
+field_apart n at m page to x apart within = field-bytes_at n at page (with_field m page to x) (bytes_apart n at m page to x apart within)
+
+pub kind_kept : (m : ℕ) (page : List ℕ) (to x : ℕ) → 1 ≤ to → to + m ≤ length page → slice_index (with_field m page to x) 0 ≡ slice_index page 0
+kind_kept m page to x past within =
+    sym (slice_index-bytes_at (with_field m page to x) 0)
+    ∙ ap (λ l. slice_index l 0) (bytes_apart 1 0 m page to x (first past) within)
+    ∙ slice_index-bytes_at page 0
+  where
+    first : 1 ≤ to → (0 + 1 ≤ to) ⊎ (to + m ≤ 0)
+    first h = inl h
+
+-- two entries lie apart
+pub order : (j i : ℕ) → j ≢ i → (j < i) ⊎ (i < j)
+order j i differ = at (nat_lt j i) refl
+  where
+    at : (b : Bool) → nat_lt j i ≡ b → (j < i) ⊎ (i < j)
+    at true is = inl (ltb-true j i is)
+    at false is = let past = ltb-false j i is in inr (omega (arith, past, differ))
+
+-- an entry that is written has what was written, and the others what they had
+module _ (i page place : ℕ) (leaf : List ℕ) (fits : i < 340) (long : length leaf ≡ 4096) where
+  long_half : length (with_field 8 leaf (entry_at i) page) ≡ 4096
+  long_half = length-with_field 8 leaf (entry_at i) page (omega (arith, fits, long)) ∙ long
+
+  pub length-with_entry : length (with_entry i page place leaf) ≡ 4096
+  length-with_entry = let h = long_half in length-with_field 4 (with_field 8 leaf (entry_at i) page) (entry_at i + 8) place (omega (arith, fits, h)) ∙ h
+
+  pub kind-with_entry : slice_index (with_entry i page place leaf) 0 ≡ slice_index leaf 0
+  kind-with_entry =
+      let h = long_half in
+      kind_kept 4 (with_field 8 leaf (entry_at i) page) (entry_at i + 8) place (omega arith) (omega (arith, fits, h))
+      ∙ kind_kept 8 leaf (entry_at i) page (omega arith) (omega (arith, fits, long))
+
+  pub entry_page-written : page < 256 ^ 8 → entry_page i (with_entry i page place leaf) ≡ page
+  entry_page-written small =
+      let h = long_half in
+      field_apart 8 (entry_at i) 4 (with_field 8 leaf (entry_at i) page) (entry_at i + 8) place (inl (omega arith)) (omega (arith, fits, h))
+      ∙ field-written 8 (entry_at i) page leaf small (omega (arith, fits, long))
+
+  pub entry_place-written : place < 256 ^ 4 → entry_place i (with_entry i page place leaf) ≡ place
+  entry_place-written small = let h = long_half in field-written 4 (entry_at i + 8) place (with_field 8 leaf (entry_at i) page) small (omega (arith, fits, h))
+
+  pub entry_page-apart : (j : ℕ) → j < 340 → j ≢ i → entry_page j (with_entry i page place leaf) ≡ entry_page j leaf
+  entry_page-apart j below differ =
+      let h = long_half in
+      field_apart 8 (entry_at j) 4 (with_field 8 leaf (entry_at i) page) (entry_at i + 8) place (⊎_elim (λ less. inl (omega (arith, less))) (λ past. inr (omega (arith, past))) (order j i differ)) (omega (arith, fits, h))
+      ∙ field_apart 8 (entry_at j) 8 leaf (entry_at i) page (⊎_elim (λ less. inl (omega (arith, less))) (λ past. inr (omega (arith, past))) (order j i differ)) (omega (arith, fits, long))
+
+  pub entry_place-apart : (j : ℕ) → j < 340 → j ≢ i → entry_place j (with_entry i page place leaf) ≡ entry_place j leaf
+  entry_place-apart j below differ =
+      let h = long_half in
+      field_apart 4 (entry_at j + 8) 4 (with_field 8 leaf (entry_at i) page) (entry_at i + 8) place (⊎_elim (λ less. inl (omega (arith, less))) (λ past. inr (omega (arith, past))) (order j i differ)) (omega (arith, fits, h))
+      ∙ field_apart 4 (entry_at j + 8) 8 leaf (entry_at i) page (⊎_elim (λ less. inl (omega (arith, less))) (λ past. inr (omega (arith, past))) (order j i differ)) (omega (arith, fits, long))

@@ -1,0 +1,14 @@
+pub mod Pages
+pub mod Answering
+pub mod Steps
+pub mod Seen
+pub mod Fields
+pub mod Meanings
+pub mod Findings
+pub mod Writings
+pub mod Changing
+pub mod Ending
+pub mod NewPages
+pub mod Children
+pub mod Reaching
+pub mod Giving

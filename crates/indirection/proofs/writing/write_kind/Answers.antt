@@ -1,0 +1,5 @@
+use Rattle.indirection.proofs.Pages.{there_with_page}
+use Rattle.indirection.proofs.writing.write_kind.Goals as goal
+
+pub returns-clause-kept : goal.returns-clause-kept
+returns-clause-kept c id is = there_with_page c.args.work.now c.args.id id _ is

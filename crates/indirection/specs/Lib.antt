@@ -1,0 +1,7 @@
+pub mod Forms
+pub mod Reading
+pub mod Finding
+pub mod Writing
+pub mod Adding
+pub mod Answers
+pub mod Meaning

@@ -1,0 +1,142 @@
+//! How pages are asked for, and how a number's entry is found.
+ghost use Rattle.std.specs.Prelude.{◌≡◌, ◌<◌, ◌≤◌, ◌*◌, IfOk, OnOk, IsTrue};
+ghost use Rattle.page_bytes.specs.Known.{is_there};
+ghost use Rattle.std.specs.Result.{result_map_both};
+ghost use Rattle.indirection.specs.Reading.{asked, page_of, head_in, linked};
+ghost use Rattle.indirection.specs.Finding.{numbers_in, directory_in, leaf_in, entry_of, found_in};
+
+use crate::forms::{
+    DIRECTORY_KIND, ENTRIES, Entry, FIRST_FREE_AT, HEAD_KIND, HIGHEST_AT, LEAF_KIND, LINKS, Leaf,
+    MOST_NUMBERS, NEXT_PAGE_AT, Numbers, ROOT_AT, entry_at, link_at,
+};
+use page_bytes::{Addr, PageEnd, PageId, Pages, Space, read_u8, read_u32, read_u64};
+
+/// The bytes of a page, to which `from` leads.
+fn ask<P: Pages>(pages: &P, from: PageId, id: PageId) -> Result<&[u8; 4096], PageEnd>
+    ensures { result_map_both (λ page. page.now) (λ end. end) result ≡ asked (P.known pages.now) from id }
+{
+    if let Some(bytes) = pages.page(id) {
+        return Ok(bytes);
+    }
+    if pages.absent(id) {
+        return Err(PageEnd::Damaged { page: from });
+    }
+    Err(PageEnd::Need { page: id })
+}
+
+/// The bytes of the head, which passes its test.
+fn head_bytes<P: Pages>(pages: &P, space: Space) -> Result<&[u8; 4096], PageEnd>
+    ensures { result_map_both (λ page. page.now) (λ end. end) result ≡ head_in (P.known pages.now) space }
+{
+    let id = PageId { space, number: 0 };
+    let head = ask(pages, id, id)?;
+    if read_u8(head, 0) != HEAD_KIND || read_u64(head, NEXT_PAGE_AT) == 0 {
+        return Err(PageEnd::Damaged { page: id });
+    }
+    if read_u32(head, HIGHEST_AT) > MOST_NUMBERS {
+        return Err(PageEnd::Damaged { page: id });
+    }
+    Ok(head)
+}
+
+/// The bytes of a page of this kind, to which the page `from` has a link.
+pub fn linked_page<P: Pages>(
+    pages: &P,
+    space: Space,
+    kind: u8,
+    from: u64,
+    number: u64,
+) -> Result<&[u8; 4096], PageEnd>
+    ensures { result_map_both (λ page. page.now) (λ end. end) result ≡ linked (P.known pages.now) space kind from number }
+{
+    let from = PageId {
+        space,
+        number: from,
+    };
+    if number == 0 {
+        return Err(PageEnd::Damaged { page: from });
+    }
+    let id = PageId { space, number };
+    let bytes = ask(pages, from, id)?;
+    if read_u8(bytes, 0) != kind {
+        return Err(PageEnd::Damaged { page: id });
+    }
+    Ok(bytes)
+}
+
+/// What the head says of node numbers.
+pub fn read_numbers<P: Pages>(pages: &P, space: Space) -> Result<Numbers, PageEnd>
+    ensures numbers { result ≡ numbers_in (P.known pages.now) space }
+    ensures there { OnOk result (IsTrue (is_there (P.known pages.now) (page_of space 0))) }
+    ensures most { IfOk result (λ numbers. numbers.highest ≤ 88781140) }
+{
+    let head = head_bytes(pages, space)?;
+    Ok(Numbers {
+        root: read_u64(head, ROOT_AT),
+        first_free: read_u32(head, FIRST_FREE_AT),
+        highest: read_u32(head, HIGHEST_AT),
+    })
+}
+
+/// The number of a leaf's directory page, by the root.
+pub fn directory_of<P: Pages>(pages: &P, space: Space, root: u64, leaf: u32) -> Result<u64, PageEnd>
+    requires { leaf < 511 * 511 }
+    ensures { result ≡ directory_in (P.known pages.now) space root leaf }
+{
+    let bytes = linked_page(pages, space, DIRECTORY_KIND, 0, root)?;
+    Ok(read_u64(bytes, link_at(leaf / LINKS)))
+}
+
+/// The number of a leaf, by its directory page.
+pub fn leaf_of<P: Pages>(
+    pages: &P,
+    space: Space,
+    root: u64,
+    directory: u64,
+    leaf: u32,
+) -> Result<u64, PageEnd>
+    ensures { result ≡ leaf_in (P.known pages.now) space root directory leaf }
+{
+    let bytes = linked_page(pages, space, DIRECTORY_KIND, root, directory)?;
+    Ok(read_u64(bytes, link_at(leaf % LINKS)))
+}
+
+/// What an entry says.
+fn entry_of_fields(space: Space, leaf: u64, page: u64, place: u32) -> Result<Entry, PageEnd>
+    ensures { result ≡ entry_of space leaf page place }
+{
+    if page == 0 {
+        return Ok(Entry::Free(place));
+    }
+    if place > u16::MAX as u32 {
+        let page = PageId {
+            space,
+            number: leaf,
+        };
+        return Err(PageEnd::Damaged { page });
+    }
+    Ok(Entry::Taken(Addr {
+        layer: page / 256,
+        page: (page % 256) as u8,
+        at: place as u16,
+    }))
+}
+
+/// The leaf of a number, with the number's entry.
+pub fn find_leaf<P: Pages>(pages: &P, space: Space, root: u64, number: u32) -> Result<Leaf, PageEnd>
+    requires above { 0 < number }
+    requires below { number ≤ 88781140 }
+    ensures found { result ≡ found_in (P.known pages.now) space root number }
+    ensures there { IfOk result (λ leaf. IsTrue (is_there (P.known pages.now) (page_of space leaf.number))) }
+{
+    let index = (number - 1) / ENTRIES;
+    let directory = directory_of(pages, space, root, index)?;
+    let leaf = leaf_of(pages, space, root, directory, index)?;
+    let bytes = linked_page(pages, space, LEAF_KIND, directory, leaf)?;
+    let at = entry_at((number - 1) % ENTRIES);
+    let entry = entry_of_fields(space, leaf, read_u64(bytes, at), read_u32(bytes, at + 8))?;
+    Ok(Leaf {
+        number: leaf,
+        entry,
+    })
+}

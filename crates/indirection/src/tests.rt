@@ -1,0 +1,327 @@
+use crate::{add, change, find, remove};
+use page_bytes::{
+    Addr, Draft, NoMemory, NodeNo, Page, PageEnd, PageId, PageSet, Pages, Space, Workspace,
+    read_u64,
+};
+use std::alloc::Global;
+use std::test::Fail;
+
+const SPACE: Space = Space {
+    commit: 3,
+    ordinal: 1,
+};
+
+fn id(number: u64) -> PageId {
+    PageId {
+        space: SPACE,
+        number,
+    }
+}
+
+// A head with this next page number, root, first free number and highest number.
+fn head(alloc: Global, next: u64, root: u64, free: u32, highest: u32) -> Result<Page, NoMemory> {
+    let mut draft = Draft::zero(alloc)?;
+    draft.write_u8(0, 2);
+    draft.write_u64(2, next);
+    draft.write_u64(18, root);
+    draft.write_u32(34, free);
+    draft.write_u32(38, highest);
+    Page::of(alloc, draft)
+}
+
+// A page of this kind with a number at a place.
+fn page(alloc: Global, kind: u8, at: usize, number: u64) -> Result<Page, NoMemory> {
+    let mut draft = Draft::zero(alloc)?;
+    draft.write_u8(0, kind);
+    if at <= 4088 {
+        draft.write_u64(at, number);
+    }
+    Page::of(alloc, draft)
+}
+
+fn empty_document(alloc: Global) -> Result<Workspace, NoMemory> {
+    let mut set = PageSet::new(alloc);
+    set.put(id(0), head(alloc, 1, 0, 0, 0)?)?;
+    Ok(Workspace::over(alloc, set))
+}
+
+// The address that the tests give the node of a number.
+fn address(number: u32) -> Addr {
+    Addr::of(number as u64 + 7, (number % 4096) as u16)
+}
+
+fn added(work: &mut Workspace, to: Addr) -> Result<NodeNo, PageEnd> {
+    if to.layer > 72057594037927935 || to.number() == 0 {
+        return Err(PageEnd::NoMemory);
+    }
+    add(work, SPACE, to)
+}
+
+fn changed(work: &mut Workspace, number: u32, to: Addr) -> Result<(), PageEnd> {
+    if to.layer > 72057594037927935 || to.number() == 0 {
+        return Err(PageEnd::NoMemory);
+    }
+    change(work, SPACE, NodeNo(number), to)
+}
+
+#[test]
+fn removed_number_is_given_again(rt: HostRuntime) -> Result<(), Fail> {
+    let mut work = empty_document(rt.alloc())?;
+    for number in 1..4 {
+        assert_eq!(rt; added(&mut work, address(number)), Ok(NodeNo(number)));
+    }
+    assert_eq!(rt; remove(&mut work, SPACE, NodeNo(2)), Ok(()));
+    assert_eq!(rt; find(&work, SPACE, NodeNo(2)), Ok(None));
+    assert_eq!(rt; added(&mut work, address(9)), Ok(NodeNo(2)));
+    assert_eq!(rt; find(&work, SPACE, NodeNo(1)), Ok(Some(address(1))));
+    assert_eq!(rt; find(&work, SPACE, NodeNo(2)), Ok(Some(address(9))));
+    assert_eq!(rt; find(&work, SPACE, NodeNo(3)), Ok(Some(address(3))));
+    Ok(())
+}
+
+// The first number of which the answer is another than its address.
+fn first_wrong(work: &Workspace, count: u32) -> Option<u32> {
+    for number in 1..count {
+        if find(work, SPACE, NodeNo(number)) != Ok(Some(address(number))) {
+            return Some(number);
+        }
+    }
+    None
+}
+
+fn add_up_to(work: &mut Workspace, count: u32) -> Result<bool, PageEnd> {
+    for number in 1..count {
+        if added(work, address(number))? != NodeNo(number) {
+            return Ok(false);
+        }
+    }
+    Ok(true)
+}
+
+#[test]
+fn numbers_stand_in_two_directory_pages(rt: HostRuntime) -> Result<(), Fail> {
+    let mut work = empty_document(rt.alloc())?;
+    let count = 340 * 511 + 342;
+    assert_eq!(rt; add_up_to(&mut work, count), Ok(true));
+    assert_eq!(rt; first_wrong(&work, count), None);
+    assert_eq!(rt; find(&work, SPACE, NodeNo(count)), Ok(None));
+    let head = work.page(id(0)).ok_or("no head")?;
+    assert_eq!(rt; read_u64(head, 2), 1 + 1 + 2 + 513);
+    Ok(())
+}
+
+// What is done to a number, in turn, by a sequence of numbers that looks random.
+fn churn(work: &mut Workspace, model: &mut Vec<Option<Addr>>, turns: u32) -> Result<bool, PageEnd> {
+    let mut seed: u64 = 17;
+    for turn in 0..turns {
+        seed = seed
+            .wrapping_mul(6364136223846793005)
+            .wrapping_add(1442695040888963407);
+        let place = (seed >> 33) as usize % model.len().max(1);
+        if !turn_on(work, model, place, turn)? {
+            return Ok(false);
+        }
+    }
+    Ok(true)
+}
+
+// A number that is there is changed or removed, else one is added.
+fn turn_on(
+    work: &mut Workspace,
+    model: &mut Vec<Option<Addr>>,
+    place: usize,
+    turn: u32,
+) -> Result<bool, PageEnd> {
+    if place >= model.len() || place > 9999 {
+        return Ok(false);
+    }
+    let number = place as u32 + 1;
+    if model[place].is_none() {
+        let given = added(work, address(turn))?.0 as usize;
+        if given == 0 || given > model.len() || model[given - 1].is_some() {
+            return Ok(false);
+        }
+        model[given - 1] = Some(address(turn));
+    } else if turn % 2 == 0 {
+        changed(work, number, address(turn))?;
+        model[place] = Some(address(turn));
+    } else {
+        remove(work, SPACE, NodeNo(number))?;
+        model[place] = None;
+    }
+    Ok(true)
+}
+
+fn agrees(work: &Workspace, model: &[Option<Addr>]) -> bool {
+    for (place, wanted) in model.iter().enumerate() {
+        let number = (place % 100000) as u32 + 1;
+        if find(work, SPACE, NodeNo(number)) != Ok(*wanted) {
+            return false;
+        }
+    }
+    true
+}
+
+#[test]
+fn ten_thousand_changes_agree_with_a_map(rt: HostRuntime) -> Result<(), Fail> {
+    let mut work = empty_document(rt.alloc())?;
+    let mut model = vec![in rt.alloc(); None; 900]?;
+    assert_eq!(rt; churn(&mut work, &mut model, 10000), Ok(true));
+    assert!(rt; agrees(&work, &model));
+    Ok(())
+}
+
+fn needed(number: u64) -> Result<Option<Addr>, PageEnd> {
+    Err(PageEnd::Need { page: id(number) })
+}
+
+#[test]
+fn pages_that_are_not_there_are_needed_or_damaged(rt: HostRuntime) -> Result<(), Fail> {
+    let alloc = rt.alloc();
+    let mut work = Workspace::over(alloc, PageSet::new(alloc));
+    assert_eq!(rt; find(&work, SPACE, NodeNo(1)), needed(0));
+    work.open_space(SPACE)?;
+    let damaged = Err(PageEnd::Damaged { page: id(0) });
+    assert_eq!(rt; find(&work, SPACE, NodeNo(1)), damaged);
+    let mut set = PageSet::new(alloc);
+    set.put(id(0), head(alloc, 4, 1, 0, 1)?)?;
+    assert_eq!(rt; find(&set, SPACE, NodeNo(1)), needed(1));
+    set.put(id(1), page(alloc, 7, 8, 2)?)?;
+    assert_eq!(rt; find(&set, SPACE, NodeNo(1)), needed(2));
+    set.put(id(2), page(alloc, 7, 8, 3)?)?;
+    assert_eq!(rt; find(&set, SPACE, NodeNo(1)), needed(3));
+    set.put(id(3), page(alloc, 6, 16, 5)?)?;
+    assert_eq!(rt; find(&set, SPACE, NodeNo(1)), Ok(Some(Addr::of(5, 0))));
+    Ok(())
+}
+
+// Fields of the head, the root, a directory page and a leaf, in pages 0, 1, 2 and 3.
+#[derive(Clone, Copy)]
+struct Fields {
+    next: u64,
+    root: u64,
+    free: u32,
+    highest: u32,
+    root_kind: u8,
+    directory: u64,
+    directory_kind: u8,
+    leaf: u64,
+    leaf_kind: u8,
+    entry: u64,
+}
+
+const SOUND: Fields = Fields {
+    next: 4,
+    root: 1,
+    free: 0,
+    highest: 1,
+    root_kind: 7,
+    directory: 2,
+    directory_kind: 7,
+    leaf: 3,
+    leaf_kind: 6,
+    entry: 5,
+};
+
+fn pages_of(alloc: Global, fields: &Fields) -> Result<PageSet, NoMemory> {
+    let mut set = PageSet::new(alloc);
+    let first = head(alloc, fields.next, fields.root, fields.free, fields.highest)?;
+    set.put(id(0), first)?;
+    set.put(id(1), page(alloc, fields.root_kind, 8, fields.directory)?)?;
+    set.put(id(2), page(alloc, fields.directory_kind, 8, fields.leaf)?)?;
+    set.put(id(3), page(alloc, fields.leaf_kind, 16, fields.entry)?)?;
+    Ok(set)
+}
+
+fn found_over(alloc: Global, fields: &Fields) -> Result<Option<Addr>, PageEnd> {
+    let set = pages_of(alloc, fields)?;
+    find(&set, SPACE, NodeNo(1))
+}
+
+fn added_over(alloc: Global, fields: &Fields) -> Result<NodeNo, PageEnd> {
+    let mut work = Workspace::over(alloc, pages_of(alloc, fields)?);
+    added(&mut work, Addr::of(9, 32))
+}
+
+#[test]
+fn broken_pages_are_damaged(rt: HostRuntime) {
+    let cases = [
+        (Fields { next: 0, ..SOUND }, 0),
+        (
+            Fields {
+                highest: 88781141,
+                ..SOUND
+            },
+            0,
+        ),
+        (Fields { root: 0, ..SOUND }, 0),
+        (
+            Fields {
+                root_kind: 5,
+                ..SOUND
+            },
+            1,
+        ),
+        (
+            Fields {
+                directory: 0,
+                ..SOUND
+            },
+            1,
+        ),
+        (
+            Fields {
+                directory_kind: 6,
+                ..SOUND
+            },
+            2,
+        ),
+        (Fields { leaf: 0, ..SOUND }, 2),
+        (Fields { leaf: 2, ..SOUND }, 2),
+    ];
+    for (fields, number) in &cases {
+        let damaged = Err(PageEnd::Damaged { page: id(*number) });
+        assert_eq!(rt; found_over(rt.alloc(), fields), damaged);
+    }
+}
+
+#[test]
+fn broken_free_lists_are_damaged(rt: HostRuntime) {
+    let cases = [
+        (
+            Fields { free: 2, ..SOUND },
+            Err(PageEnd::Damaged { page: id(0) }),
+        ),
+        (
+            Fields { free: 1, ..SOUND },
+            Err(PageEnd::Damaged { page: id(0) }),
+        ),
+        (
+            Fields {
+                highest: 88781140,
+                ..SOUND
+            },
+            Err(PageEnd::Damaged { page: id(0) }),
+        ),
+        (
+            Fields {
+                next: u64::MAX,
+                highest: 340,
+                ..SOUND
+            },
+            Err(PageEnd::Spent { number: u64::MAX }),
+        ),
+        (
+            Fields {
+                free: 1,
+                entry: 0,
+                ..SOUND
+            },
+            Ok(NodeNo(1)),
+        ),
+        (SOUND, Ok(NodeNo(2))),
+    ];
+    for (fields, wanted) in &cases {
+        assert_eq!(rt; added_over(rt.alloc(), fields), *wanted);
+    }
+}
