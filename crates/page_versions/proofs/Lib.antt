@@ -1,0 +1,5 @@
+pub mod Chaining
+pub mod Needing
+pub mod Paging
+pub mod Stages
+pub mod Sounding
