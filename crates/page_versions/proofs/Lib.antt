@@ -3,3 +3,4 @@ pub mod Needing
 pub mod Paging
 pub mod Stages
 pub mod Sounding
+pub mod Callers

@@ -41,6 +41,12 @@ pub record IsPast (k : Kept) (n : ℕ) : Type 0 where
   pub commits : (id : PageId) → All (λ v. v.commit < n) (chain_of k id)
   pub snapshots : (s : ℕ) → IsOpen k s → s < n
 
+-- nothing is staged, and no version and no open snapshot is of a commit after this one
+pub record IsUpTo (k : Kept) (n : ℕ) : Type 0 where
+  pub staged : k.staged ≡ None
+  pub commits : (id : PageId) → All (λ v. v.commit ≤ n) (chain_of k id)
+  pub snapshots : (s : ℕ) → IsOpen k s → s ≤ n
+
 -- at this commit each page has the version that it had
 abbrev pub SameAt : Kept → Kept → ℕ → Type 0
 SameAt old new n = (id : PageId) → version_at (chain_of new id) n ≡ version_at (chain_of old id) n

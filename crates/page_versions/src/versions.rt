@@ -169,6 +169,13 @@ impl Versions {
         }
     }
 
+    /// The commit of the snapshot under the key, if one is open. Takes no memory.
+    pub fn snapshot(&self, key: usize) -> Option<u64>
+        ensures { result ≡ snapshot_at self.now key }
+    {
+        self.snapshots.get(key).copied()
+    }
+
     /// Ends a snapshot, and drops what no other one sees. Takes no memory.
     pub fn end_snapshot(&mut self, key: usize)
         requires { IsSome (snapshot_at self.old key) }
