@@ -1,0 +1,6 @@
+use Rattle.std.proofs.Common.{◌≡◌, drop}
+use Rattle.page_versions.specs.Chains.{version_at}
+use Rattle.page_versions.proofs.chain.Chain.at.Given as goal
+
+abbrev pub invariant-loop-version : goal.invariant-loop-version
+invariant-loop-version l = version_at (drop l.version-index l.version-items) l.commit ≡ version_at l.version-items l.commit

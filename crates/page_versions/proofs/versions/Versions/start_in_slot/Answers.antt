@@ -1,0 +1,23 @@
+use Rattle.std.proofs.Common.{◌≡◌, ◌≤◌, ◌<◌, ◌+◌, ℕ, true, false, cond, List, [], Option, Some, None, All, Contains, refl, sym, ap, ◌∙◌, subst, true≢false, arith, slice_set, length, vec_len, vec_capacity}
+use Rattle.std.specs.FinMap as map
+use Rattle.page_bytes.specs.declared.ids.PageId.{PageId}
+use Rattle.page_versions.specs.declared.version.Version.{Version}
+use Rattle.page_versions.specs.declared.version.Image.TheVariants.{Slot}
+use Rattle.page_versions.specs.ChainMap.{ChainMap, chain_in}
+use Rattle.page_versions.specs.Chains.{version_at, needed, published}
+use Rattle.page_versions.specs.Kept.{Kept, chain_of, IsExact, IsNewestAt, IsKnownAt}
+use Rattle.page_versions.specs.Purging.{base, unstaged, purged, purged_base, with_slot}
+use Rattle.page_versions.specs.Inside.{IsSound, is_listed, IsLater}
+use Rattle.page_versions.proofs.Needing.{needed-seen, needed-newest, known_later}
+use Rattle.page_versions.proofs.Sounding.{start_sound, by_result}
+use Rattle.page_versions.proofs.versions.Versions.start_in_slot.Goals as goal
+
+pub invariant_of-self : goal.invariant_of-self
+invariant_of-self c =
+    let m = c.self.inside.table in let slots = c.self.inside.snapshots.slots in let touched = c.self.inside.touched.items in let older = c.self.inside.older.items in
+    let is : c.self.inside.staged ≡ None = ap (λ (k : Kept). k.staged) c.self.view_is ∙ c.requires.nothing_staged in
+    let v : Version = record { commit = c.args.commit; image = Slot c.args.slot } in
+    let before = subst (λ st. IsSound m slots st touched older (vec_len c.self.inside.older + vec_len c.self.inside.touched) (vec_capacity c.self.inside.older)) is c.self.invariant in
+    subst (λ st. IsSound c.insert.new.self slots st touched older (vec_len c.self.inside.older + vec_len c.self.inside.touched) (vec_capacity c.self.inside.older)) (sym is)
+    (by_result c.insert.result (λ n. IsSound n slots None touched older (vec_len c.self.inside.older + vec_len c.self.inside.touched) (vec_capacity c.self.inside.older)) m c.insert.new.self (map.insert m c.args.id c.in_ok-chain.chain) c.insert.ensures.ok c.insert.ensures.err
+    (subst (λ x. IsSound (map.insert m c.args.id x) slots None touched older (vec_len c.self.inside.older + vec_len c.self.inside.touched) (vec_capacity c.self.inside.older)) (sym c.in_ok-chain.ensures) (start_sound m slots touched older _ _ c.args.id v before)) before)
