@@ -8,3 +8,4 @@ pub mod Kept
 pub mod Scans
 pub mod Takes
 pub mod Found
+pub mod Again

@@ -1,13 +1,13 @@
 -- What a reader took from the front of bytes is what the record's bytes say: what is read is spelled so.
-use Rattle.std.proofs.Common.{◌≡◌, ℕ, zero, suc, ◌+◌, ◌-◌, ◌^◌, ◌<◌, ◌≤◌, Bool, true, false, cond, ltb, eqb, List, [], ◌∷◌, ◌++◌, length, get_or, take, drop, Option, Some, None, Result, Ok, Err, refl, sym, ap, subst, ◌∙◌, append_assoc, arith, inl, inr}
+use Rattle.std.proofs.Common.{◌≡◌, ℕ, zero, suc, ◌+◌, ◌-◌, ◌<◌, ◌≤◌, Bool, true, false, cond, ltb, List, [], ◌∷◌, ◌++◌, length, take, drop, Option, Some, None, Result, Ok, Err, refl, sym, ap, subst, ◌∙◌, append_assoc, arith, inl, inr}
 use Rattle.std.specs.Prelude.{nat_lt, ◌==◌, ◌&&◌, ◌||◌, is_some}
 use Rattle.std.specs.FinMap as map
 use Rattle.page_bytes.specs.declared.ids.Space.{Space}
 use Rattle.std.specs.List.{flat_map}
 use Rattle.std.specs.Int.{w64, from_be_bytes, to_be_bytes}
-use Rattle.std.proofs.lemmas.Bool.{cases_lt, ltb-false, ltb-true, le-ltb, eqb-true}
-use Rattle.std.proofs.lemmas.List.{take_at, drop_at, take-append-drop, length-append, length-take, get_or-drop, get_or-take, get_or_past, flat_map_more, append-nil}
-use Rattle.std.proofs.lemmas.Nat.{be_bytes_8, from_be_bytes-to_be_bytes_8}
+use Rattle.std.proofs.lemmas.Bool.{cases_lt, ltb-false, ltb-true, eqb-true}
+use Rattle.std.proofs.lemmas.List.{drop_at, take-append-drop, length-append, length-take, get_or-drop, get_or-take, get_or_past, append-nil}
+use Rattle.std.proofs.lemmas.Nat.{be_bytes_8}
 use Rattle.page_bytes.specs.declared.ids.DocEntry.{DocEntry}
 use Rattle.page_bytes.specs.declared.ids.PageId.{PageId}
 use Rattle.page_bytes.specs.declared.lists.PageChange.{PageChange}
@@ -90,22 +90,22 @@ form_is (suc zero) lt = refl
 form_is (suc (suc b)) lt = absurd (omega (arith, ltb-true _ _ lt))
 
 module _ (commit : ℕ) (names : List LogName) (name bytes : List ℕ) where
-  abbrev space_in : ℕ × List ℕ → ℕ × List ℕ → Space
+  abbrev pub space_in : ℕ × List ℕ → ℕ × List ℕ → Space
   space_in c o = record { commit = c.0; ordinal = o.0 }
 
-  abbrev entry_1 : ℕ × List ℕ → ℕ × List ℕ → ℕ × List ℕ → Result (DocEntry × List ℕ) ℕ
+  abbrev pub entry_1 : ℕ × List ℕ → ℕ × List ℕ → ℕ × List ℕ → Result (DocEntry × List ℕ) ℕ
   entry_1 c o form = check (nat_lt form.0 2) (length o.1) >>= λ known. Ok (record { space = space_in c o; clustered = form.0 == 1 }, form.1)
 
-  abbrev entry_2 : ℕ × List ℕ → ℕ × List ℕ → Result (DocEntry × List ℕ) ℕ
+  abbrev pub entry_2 : ℕ × List ℕ → ℕ × List ℕ → Result (DocEntry × List ℕ) ℕ
   entry_2 c o = byte_at o.1 >>= entry_1 c o
 
-  abbrev entry_3 : ℕ × List ℕ → ℕ × List ℕ → Result (DocEntry × List ℕ) ℕ
+  abbrev pub entry_3 : ℕ × List ℕ → ℕ × List ℕ → Result (DocEntry × List ℕ) ℕ
   entry_3 c o = check (is_space_of (entry_of name names) names (space_in c o)) (length bytes) >>= λ own. entry_2 c o
 
-  abbrev entry_4 : ℕ × List ℕ → Result (DocEntry × List ℕ) ℕ
+  abbrev pub entry_4 : ℕ × List ℕ → Result (DocEntry × List ℕ) ℕ
   entry_4 c = number_at c.1 >>= entry_3 c
 
-  abbrev entry_5 : ℕ × List ℕ → Result (DocEntry × List ℕ) ℕ
+  abbrev pub entry_5 : ℕ × List ℕ → Result (DocEntry × List ℕ) ℕ
   entry_5 c = check (is_commit_of (entry_of name names) commit c.0) (length bytes) >>= λ came. entry_4 c
 
   entry_takes : (x : DocEntry × List ℕ) → IsBytes bytes → entry_at commit names name bytes ≡ Ok x → Takes bytes (space_bytes x.0.space ++ form_byte x.0.clustered ∷ []) x.1
@@ -138,28 +138,28 @@ entry_if_takes true commit names name bytes x fits e =
     (space_bytes d.0.0.space ++ form_byte d.0.0.clustered ∷ [], t, ap (λ (l : List ℕ). 1 ∷ l) (append_assoc (name_bytes name) (space_bytes d.0.0.space) (form_byte d.0.0.clustered ∷ [])))
 
 module _ (commit : ℕ) (before names : List LogName) (bytes : List ℕ) where
-  abbrev name_1 : ℕ × List ℕ → List ℕ × List ℕ → Option DocEntry × List ℕ → Result (LogName × List ℕ) ℕ
+  abbrev pub name_1 : ℕ × List ℕ → List ℕ × List ℕ → Option DocEntry × List ℕ → Result (LogName × List ℕ) ℕ
   name_1 kind name entry = Ok (record { name = name.0; entry = entry.0 }, entry.1)
 
-  abbrev name_2 : ℕ × List ℕ → List ℕ × List ℕ → Result (LogName × List ℕ) ℕ
+  abbrev pub name_2 : ℕ × List ℕ → List ℕ × List ℕ → Result (LogName × List ℕ) ℕ
   name_2 kind name = entry_if (kind.0 == 1) commit names name.0 name.1 >>= name_1 kind name
 
-  abbrev name_3 : ℕ × List ℕ → List ℕ × List ℕ → Result (LogName × List ℕ) ℕ
+  abbrev pub name_3 : ℕ × List ℕ → List ℕ × List ℕ → Result (LogName × List ℕ) ℕ
   name_3 kind name = check (kind.0 == 1 || is_some (entry_of name.0 names)) (length kind.1) >>= λ there. name_2 kind name
 
-  abbrev name_4 : ℕ × List ℕ → List ℕ × List ℕ → Result (LogName × List ℕ) ℕ
+  abbrev pub name_4 : ℕ × List ℕ → List ℕ × List ℕ → Result (LogName × List ℕ) ℕ
   name_4 kind name = check (is_next_name (last_in before) (kind.0 == 1) name.0) (length kind.1) >>= λ next. name_3 kind name
 
-  abbrev name_5 : ℕ × List ℕ → List ℕ × List ℕ → Result (LogName × List ℕ) ℕ
+  abbrev pub name_5 : ℕ × List ℕ → List ℕ × List ℕ → Result (LogName × List ℕ) ℕ
   name_5 kind name = check (is_name name.0) (length kind.1) >>= λ good. name_4 kind name
 
-  abbrev name_6 : ℕ × List ℕ → ℕ × List ℕ → Result (LogName × List ℕ) ℕ
+  abbrev pub name_6 : ℕ × List ℕ → ℕ × List ℕ → Result (LogName × List ℕ) ℕ
   name_6 kind long = bytes_at long.0 long.1 >>= name_5 kind
 
-  abbrev name_7 : ℕ × List ℕ → Result (LogName × List ℕ) ℕ
+  abbrev pub name_7 : ℕ × List ℕ → Result (LogName × List ℕ) ℕ
   name_7 kind = byte_at kind.1 >>= name_6 kind
 
-  abbrev name_8 : ℕ × List ℕ → Result (LogName × List ℕ) ℕ
+  abbrev pub name_8 : ℕ × List ℕ → Result (LogName × List ℕ) ℕ
   name_8 kind = check (nat_lt kind.0 2) (length bytes) >>= λ known. name_7 kind
 
   name_takes : (x : LogName × List ℕ) → IsBytes bytes → name_at commit before names bytes ≡ Ok x → Takes bytes (name_change x.0) x.1
@@ -200,25 +200,25 @@ names_take commit (suc n) done s bytes x fits e =
 -- ---- pages
 
 module _ (last : Option PageChange) (names : List LogName) (bytes : List ℕ) where
-  abbrev id_in : ℕ × List ℕ → ℕ × List ℕ → ℕ × List ℕ → PageId
+  abbrev pub id_in : ℕ × List ℕ → ℕ × List ℕ → ℕ × List ℕ → PageId
   id_in c o n = record { space = record { commit = c.0; ordinal = o.0 }; number = n.0 }
 
-  abbrev id_1 : ℕ × List ℕ → ℕ × List ℕ → ℕ × List ℕ → Result (PageId × List ℕ) ℕ
+  abbrev pub id_1 : ℕ × List ℕ → ℕ × List ℕ → ℕ × List ℕ → Result (PageId × List ℕ) ℕ
   id_1 c o n = check (is_next_page last (id_in c o n)) (length bytes) >>= λ next. Ok (id_in c o n, n.1)
 
-  abbrev id_2 : ℕ × List ℕ → ℕ × List ℕ → Result (PageId × List ℕ) ℕ
+  abbrev pub id_2 : ℕ × List ℕ → ℕ × List ℕ → Result (PageId × List ℕ) ℕ
   id_2 c o = number_at o.1 >>= id_1 c o
 
-  abbrev is_own : ℕ × List ℕ → ℕ × List ℕ → Bool
+  abbrev pub is_own : ℕ × List ℕ → ℕ × List ℕ → Bool
   is_own c o = is_next_space last (record { commit = c.0; ordinal = o.0 }) && has_space names (record { commit = c.0; ordinal = o.0 })
 
-  abbrev id_3 : ℕ × List ℕ → ℕ × List ℕ → Result (PageId × List ℕ) ℕ
+  abbrev pub id_3 : ℕ × List ℕ → ℕ × List ℕ → Result (PageId × List ℕ) ℕ
   id_3 c o = check (is_own c o) (length bytes) >>= λ own. id_2 c o
 
-  abbrev id_4 : ℕ × List ℕ → Result (PageId × List ℕ) ℕ
+  abbrev pub id_4 : ℕ × List ℕ → Result (PageId × List ℕ) ℕ
   id_4 c = number_at c.1 >>= id_3 c
 
-  abbrev id_5 : ℕ × List ℕ → Result (PageId × List ℕ) ℕ
+  abbrev pub id_5 : ℕ × List ℕ → Result (PageId × List ℕ) ℕ
   id_5 c = check (is_next_commit last c.0 && has_commit names c.0) (length bytes) >>= λ came. id_4 c
 
   id_takes : (x : PageId × List ℕ) → IsBytes bytes → id_at last names bytes ≡ Ok x → Takes bytes (space_bytes x.0.space ++ number x.0.number) x.1
@@ -246,19 +246,19 @@ image_takes true bytes x fits e =
     (d.0.0, (bytes_take 4096 bytes d.0.0 d.0.1 fits d.1).0, refl)
 
 module _ (before : List PageChange) (s : Store) (bytes : List ℕ) where
-  abbrev page_1 : PageId × List ℕ → Option (List ℕ) × List ℕ → Result (PageChange × List ℕ) ℕ
+  abbrev pub page_1 : PageId × List ℕ → Option (List ℕ) × List ℕ → Result (PageChange × List ℕ) ℕ
   page_1 id image = Ok (record { id = id.0; page = image.0 }, image.1)
 
-  abbrev page_2 : PageId × List ℕ → ℕ × List ℕ → Result (PageChange × List ℕ) ℕ
+  abbrev pub page_2 : PageId × List ℕ → ℕ × List ℕ → Result (PageChange × List ℕ) ℕ
   page_2 id kind = image_if (kind.0 == 1) kind.1 >>= page_1 id
 
-  abbrev page_3 : PageId × List ℕ → ℕ × List ℕ → Result (PageChange × List ℕ) ℕ
+  abbrev pub page_3 : PageId × List ℕ → ℕ × List ℕ → Result (PageChange × List ℕ) ℕ
   page_3 id kind = check (kind.0 == 1 || map.contains_key s.pages id.0) (length bytes) >>= λ there. page_2 id kind
 
-  abbrev page_4 : PageId × List ℕ → ℕ × List ℕ → Result (PageChange × List ℕ) ℕ
+  abbrev pub page_4 : PageId × List ℕ → ℕ × List ℕ → Result (PageChange × List ℕ) ℕ
   page_4 id kind = check (nat_lt kind.0 2) (length id.1) >>= λ known. page_3 id kind
 
-  abbrev page_5 : PageId × List ℕ → Result (PageChange × List ℕ) ℕ
+  abbrev pub page_5 : PageId × List ℕ → Result (PageChange × List ℕ) ℕ
   page_5 id = byte_at id.1 >>= page_4 id
 
   page_takes : (x : PageChange × List ℕ) → IsBytes bytes → page_at before s bytes ≡ Ok x → Takes bytes (page_change x.0) x.1
@@ -293,22 +293,22 @@ pages_take (suc n) done s bytes x fits e =
 -- ---- records
 
 module _ (s : Store) (bytes : List ℕ) where
-  abbrev body_1 : ℕ × List ℕ → List LogName × List ℕ → List PageChange × List ℕ → Result (Change × List ℕ) ℕ
+  abbrev pub body_1 : ℕ × List ℕ → List LogName × List ℕ → List PageChange × List ℕ → Result (Change × List ℕ) ℕ
   body_1 commit names pages = Ok (record { commit = commit.0; names = names.0; pages = pages.0 }, pages.1)
 
-  abbrev body_2 : ℕ × List ℕ → List LogName × List ℕ → ℕ × List ℕ → Result (Change × List ℕ) ℕ
+  abbrev pub body_2 : ℕ × List ℕ → List LogName × List ℕ → ℕ × List ℕ → Result (Change × List ℕ) ℕ
   body_2 commit names paged = pages_at paged.0 [] (after_names names.0 s) paged.1 >>= body_1 commit names
 
-  abbrev body_3 : ℕ × List ℕ → List LogName × List ℕ → Result (Change × List ℕ) ℕ
+  abbrev pub body_3 : ℕ × List ℕ → List LogName × List ℕ → Result (Change × List ℕ) ℕ
   body_3 commit names = number_at names.1 >>= body_2 commit names
 
-  abbrev body_4 : ℕ × List ℕ → ℕ × List ℕ → Result (Change × List ℕ) ℕ
+  abbrev pub body_4 : ℕ × List ℕ → ℕ × List ℕ → Result (Change × List ℕ) ℕ
   body_4 commit named = names_at commit.0 named.0 [] s named.1 >>= body_3 commit
 
-  abbrev body_5 : ℕ × List ℕ → Result (Change × List ℕ) ℕ
+  abbrev pub body_5 : ℕ × List ℕ → Result (Change × List ℕ) ℕ
   body_5 commit = number_at commit.1 >>= body_4 commit
 
-  abbrev body_6 : ℕ × List ℕ → Result (Change × List ℕ) ℕ
+  abbrev pub body_6 : ℕ × List ℕ → Result (Change × List ℕ) ℕ
   body_6 commit = check (commit.0 == s.commit + 1) (length bytes) >>= λ next. body_5 commit
 
   body_takes : (x : Change × List ℕ) → IsBytes bytes → body_at s bytes ≡ Ok x → Takes bytes (body_of x.0) x.1
@@ -337,16 +337,16 @@ module _ (s : Store) (bytes : List ℕ) where
 
 -- what is read is spelled so, and a gate stands behind it
 module _ (s : Store) (bytes : List ℕ) where
-  abbrev record_1 : ℕ × List ℕ → Change × List ℕ → Result (Change × List ℕ) ℕ
+  abbrev pub record_1 : ℕ × List ℕ → Change × List ℕ → Result (Change × List ℕ) ℕ
   record_1 long body = all_housed body.0 (after_names body.0.names s).pages (length long.1) >>= λ housed. Ok body
 
-  abbrev record_2 : ℕ × List ℕ → Change × List ℕ → Result (Change × List ℕ) ℕ
+  abbrev pub record_2 : ℕ × List ℕ → Change × List ℕ → Result (Change × List ℕ) ℕ
   record_2 long body = check (long.0 + length body.1 == length long.1) (length bytes) >>= λ exact. record_1 long body
 
-  abbrev record_3 : ℕ × List ℕ → Change × List ℕ → Result (Change × List ℕ) ℕ
+  abbrev pub record_3 : ℕ × List ℕ → Change × List ℕ → Result (Change × List ℕ) ℕ
   record_3 long body = check (nat_lt 0 (length body.1)) 0 >>= λ gate. record_2 long body
 
-  abbrev record_4 : ℕ × List ℕ → Result (Change × List ℕ) ℕ
+  abbrev pub record_4 : ℕ × List ℕ → Result (Change × List ℕ) ℕ
   record_4 long = body_at s long.1 >>= record_3 long
 
   pub record_takes : (x : Change × List ℕ) → IsBytes bytes → record_at s bytes ≡ Ok x → Takes bytes (number (length (body_of x.0)) ++ body_of x.0) x.1 × (0 < length x.1)

@@ -5,3 +5,4 @@ pub mod Store
 pub mod Reading
 pub mod Gives
 pub mod Scan
+pub mod Taken
