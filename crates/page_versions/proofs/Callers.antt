@@ -1,5 +1,5 @@
 -- What a caller of `Versions` keeps: no version and no open snapshot is of a commit after the newest one.
-use Rattle.std.proofs.Common.{◌≡◌, ◌≢◌, ℕ, ◌+◌, ◌<◌, ◌≤◌, Bool, true, false, cond, not, ◌==◌, List, [], ◌∷◌, Option, Some, None, All, IsSomeAnd, nat_le, Contains, slice_set, slice_index_or, filter, Result, Ok, Err, IfOk, OnErr, refl, sym, ap, ◌∙◌, subst, true≢false, arith}
+use Rattle.std.proofs.Common.{◌≡◌, ◌≢◌, ℕ, ◌+◌, ◌≤◌, Bool, true, false, cond, not, ◌==◌, List, [], ◌∷◌, Option, Some, None, All, IsSomeAnd, nat_le, Contains, slice_set, slice_index_or, filter, Result, Ok, Err, IfOk, OnErr, refl, sym, ap, ◌∙◌, subst, true≢false, arith}
 use Rattle.std.proofs.lemmas.Bool.Decides.{nat_tests}
 use Rattle.std.proofs.lemmas.List.Elements.{recursion_from_All, All-from_recursion}
 use Rattle.std.specs.List.{AllByRecursion}

@@ -1,11 +1,11 @@
 -- How a chain is cut: what stays is seen, and to cut it again changes nothing.
-use Rattle.std.proofs.Common.{◌≡◌, ℕ, ◌+◌, ◌<◌, ◌≤◌, Bool, true, false, cond, not, ◌&&◌, ◌||◌, ◌==◌, nat_le, nat_lt, List, [], ◌∷◌, Option, Some, None, length, find, filter, refl, sym, ap, ◌∙◌, subst, true≢false, arith, take, drop, remove, ◌++◌, get_or, add-one, append_assoc, drop-cons, slice_index_or, zero, suc}
-use Rattle.std.proofs.lemmas.List.{take_more, drop_all}
+use Rattle.std.proofs.Common.{◌≡◌, ℕ, ◌+◌, ◌<◌, ◌≤◌, Bool, true, false, cond, ◌&&◌, ◌||◌, ◌==◌, nat_le, nat_lt, List, [], ◌∷◌, Option, Some, None, length, refl, sym, ap, ◌∙◌, subst, true≢false, arith, take, drop, remove, ◌++◌, get_or, add-one, append_assoc, drop-cons, slice_index_or, zero, suc}
+use Rattle.std.proofs.lemmas.List.{take_more}
 use Rattle.std.proofs.lemmas.Bool.Decides.{nat_tests}
 use Rattle.std.specs.List.{list_any}
 use Rattle.page_versions.specs.declared.version.Version.{Version}
-use Rattle.page_versions.specs.Chains.{version_at, IsFalling, IsFallingBelow, is_staged, published}
-use Rattle.page_versions.specs.Purging.{has_staged, unstaged, base, count_staged, is_between, purge_below, purged_base, purged, in_slot, newest_in_slot, with_slot}
+use Rattle.page_versions.specs.Chains.{version_at, IsFalling, IsFallingBelow}
+use Rattle.page_versions.specs.Purging.{has_staged, unstaged, base, is_between, purge_below, purged_base, purged, in_slot, newest_in_slot, with_slot}
 use Rattle.page_versions.specs.Staging.{with_image}
 use Rattle.page_versions.specs.declared.version.Image.{Image}
 use Rattle.page_versions.specs.Inside.{AllSeen, IsSeen, IsBefore, IsLater}

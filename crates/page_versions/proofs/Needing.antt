@@ -1,13 +1,13 @@
 -- The versions of a chain that are needed are those that a cut leaves, and snapshots see the same in them.
-use Rattle.std.proofs.Common.{◌≡◌, ℕ, ◌<◌, ◌≤◌, Bool, true, false, cond, not, ◌&&◌, ◌||◌, ◌==◌, nat_le, nat_lt, List, [], ◌∷◌, Option, Some, None, length, find, filter, All, Contains, slice_index_or, zero, suc, refl, sym, ap, ◌∙◌, subst, true≢false, arith}
+use Rattle.std.proofs.Common.{◌≡◌, ℕ, ◌<◌, ◌≤◌, Bool, true, false, cond, not, ◌&&◌, ◌||◌, ◌==◌, nat_le, nat_lt, List, [], ◌∷◌, Option, Some, None, length, find, filter, All, Contains, slice_index_or, zero, suc, refl, sym, ap, ◌∙◌, true≢false, arith}
 use Rattle.std.proofs.lemmas.Bool.Decides.{nat_tests}
 use Rattle.std.proofs.lemmas.List.Elements.{recursion_from_All}
 use Rattle.std.specs.List.{list_any, AllByRecursion}
 use Rattle.page_versions.specs.declared.version.Version.{Version}
 use Rattle.page_versions.specs.Chains.{version_at, IsFalling, IsFallingBelow, is_staged, published, newest, is_version, is_seen_by, is_needed, needed}
 use Rattle.page_versions.specs.Kept.{IsKnownAt}
-use Rattle.page_versions.specs.Purging.{unstaged, base, is_between, purge_below, purged_base, purged}
-use Rattle.page_versions.specs.Inside.{IsBefore, IsLater, IsSeen}
+use Rattle.page_versions.specs.Purging.{base, is_between, purge_below, purged_base, purged}
+use Rattle.page_versions.specs.Inside.{IsBefore, IsLater}
 use Rattle.page_versions.proofs.Chaining.{same_number, other_number, later_number, AllBelow, falls_below, falls_from}
 
 -- two tests that agree on the elements filter alike

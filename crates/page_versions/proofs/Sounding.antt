@@ -1,17 +1,17 @@
 -- What `Versions` keeps of its fields, call by call.
-use Rattle.std.proofs.Common.{◌≡◌, ◌≢◌, ℕ, ◌+◌, ◌<◌, ◌≤◌, Bool, true, false, cond, ◌||◌, ◌==◌, nat_lt, List, [], ◌∷◌, Option, Some, None, Result, Ok, Err, IfOk, IfSome, unwrap_or, OnOk, OnErr, All, Contains, slice_index_or, slice_set, length, refl, sym, ap, ◌∙◌, subst, true≢false, arith, zero, suc}
+use Rattle.std.proofs.Common.{◌≡◌, ◌≢◌, ℕ, ◌<◌, ◌≤◌, Bool, true, false, cond, ◌||◌, ◌==◌, List, [], ◌∷◌, Option, Some, None, Result, Ok, Err, IfSome, unwrap_or, OnOk, OnErr, All, Contains, slice_index_or, slice_set, length, refl, sym, ap, ◌∙◌, subst, true≢false, arith, zero, suc}
 use Rattle.std.proofs.lemmas.Bool.Decides.{nat_tests}
 use Rattle.std.specs.List.{list_any}
 use Rattle.std.specs.FinMap as map
 use Rattle.page_bytes.specs.declared.ids.PageId.{PageId}
 use Rattle.page_versions.specs.declared.version.Version.{Version}
 use Rattle.page_versions.specs.ChainMap.{ChainMap, chain_in}
-use Rattle.page_versions.specs.Chains.{version_at, needed, published, IsFalling, is_staged}
+use Rattle.page_versions.specs.Chains.{version_at, needed, published, IsFalling}
 use Rattle.page_versions.specs.Kept.{IsKnownAt}
-use Rattle.page_versions.specs.Purging.{base, unstaged, is_between, purged, purged_base, with_slot, newest_in_slot}
+use Rattle.page_versions.specs.Purging.{base, unstaged, is_between, purged, purged_base, with_slot}
 use Rattle.page_versions.specs.Inside.{IsSound, IsBefore, IsSeen, IsLater, NoneEmpty, is_listed, is_page, StagesUnder}
 use Rattle.page_versions.proofs.Chaining.{purged-seen, short_seen, seen_base_more, purged_base_seen, seen_purged_base, base-purged, base-purged-unstaged, length-purged_base, length-base, later-purged, later_none, later_staged, chain_falls, before_unstaged, version_at-base, base-with_slot, before-in_slot, seen-in_slot, length-in_slot, some-with_slot, later-with_slot, unstaged-with_slot}
-use Rattle.page_versions.proofs.Needing.{needed-is, published-base, needed-seen, needed-newest, known_later}
+use Rattle.page_versions.proofs.Needing.{needed-is, published-base, known_later}
 use Rattle.page_versions.proofs.Paging.{chain_in-insert, filled-insert, page-is, same_table, chain_in-empty}
 use Rattle.page_bytes.specs.Order.{page_cmp}
 

@@ -1,5 +1,5 @@
 -- What is put in front of chains, page by page.
-use Rattle.std.proofs.Common.{◌≡◌, ℕ, ◌<◌, Bool, true, false, cond, ◌&&◌, ◌==◌, List, [], ◌∷◌, ◌++◌, Option, Some, None, IfSome, length, unwrap_or, refl, sym, ap, ◌∙◌, subst, true≢false, arith, if◌then◌else◌, Result, Ok, Err, OnOk}
+use Rattle.std.proofs.Common.{◌≡◌, ℕ, ◌<◌, Bool, true, false, cond, ◌&&◌, ◌==◌, List, [], ◌∷◌, ◌++◌, Option, Some, None, length, refl, sym, ap, ◌∙◌, subst, true≢false, arith, if◌then◌else◌, Result, Ok, Err, OnOk}
 use Rattle.std.specs.Ordering.{eq_by_cmp}
 use Rattle.std.specs.FinMap as map
 use Rattle.page_bytes.specs.declared.ids.PageId.{PageId}
@@ -16,7 +16,7 @@ use Rattle.page_versions.specs.Purging.{has_staged, unstaged}
 use Rattle.page_versions.specs.Inside.{is_page, is_listed, IsBefore, NoneEmpty, staged_once, StagesUnder}
 use Rattle.page_bytes.proofs.Orders.{page_cmp-total, page_cmp-exact}
 use Rattle.page_versions.proofs.Chaining.{same_number, before_has_none}
-use Rattle.page_versions.proofs.Paging.{listed-append, listed_first, listed_last, page-is, unlisted, chain_in-insert, filled-insert, has-chain}
+use Rattle.page_versions.proofs.Paging.{listed_first, listed_last, page-is, unlisted, chain_in-insert, filled-insert}
 
 -- nothing is put in front
 pub stages_none : (n : ℕ) (m : ChainMap) (ps : List PageId) → NoneEmpty m → StagesUnder n m m ps ps

@@ -1,5 +1,5 @@
 -- A page's versions, the newest first: which one is seen at a commit, and which ones are needed.
-use Rattle.std.specs.Prelude.{◌≡◌, ℕ, ◌<◌, ◌≤◌, Bool, false, not, ◌||◌, ◌==◌, nat_le, List, [], ◌∷◌, Option, Some, None, find, filter}
+use Rattle.std.specs.Prelude.{ℕ, ◌<◌, Bool, false, not, ◌||◌, ◌==◌, nat_le, List, [], ◌∷◌, Option, Some, None, find, filter}
 use Rattle.std.specs.List.{list_any}
 use Rattle.page_versions.specs.declared.version.Version.{Version}
 

@@ -2,7 +2,6 @@
 use Rattle.std.specs.Prelude.{ℕ, Bool, false, ◌&&◌, ◌==◌, nat_le, nat_lt, List, [], ◌∷◌, Option, Some, None, if◌then◌else◌}
 use Rattle.std.specs.List.{list_any}
 use Rattle.page_versions.specs.declared.version.Version.{Version}
-use Rattle.page_versions.specs.declared.version.Image.{Image}
 use Rattle.page_versions.specs.declared.version.Image.TheVariants.{Slot}
 
 -- whether the version in front is of the commit

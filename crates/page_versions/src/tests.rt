@@ -180,7 +180,7 @@ impl Store {
 }
 
 fn is_there(image: Option<&Image>) -> bool
-    ensures { IsTrue result → IsSomeAnd (option_copied image) (λ i. i ≢ image_variants.Absent) }
+    ensures { IsTrue result → IsSomeAnd (option_copied image.entry) (λ i. i ≢ image_variants.Absent) }
 {
     match image {
         Some(Image::Resident(_)) => true,
@@ -358,8 +358,9 @@ fn slot_takes_the_newest_image_alone(rt: HostRuntime) -> Result<(), Fail> {
 fn chain_started_in_a_slot(rt: HostRuntime) -> Result<(), Fail> {
     let alloc = rt.alloc();
     let mut versions = Versions::new(alloc);
-    versions.start_in_slot(id(3), 4, 8)?;
-    assert_eq!(rt; byte_of(versions.page_at(id(3), 3)), 0);
-    assert_eq!(rt; byte_of(versions.page_at(id(3), 4)), 208);
+    let first = id(3);
+    versions.start_in_slot(first, 4, 8)?;
+    assert_eq!(rt; byte_of(versions.page_at(first, 3)), 0);
+    assert_eq!(rt; byte_of(versions.page_at(first, 4)), 208);
     Ok(())
 }

@@ -1,4 +1,4 @@
-use Rattle.std.proofs.Common.{◌≡◌, ◌≤◌, ◌<◌, ◌++◌, [], ◌∙◌, ap, sym, refl, take, drop, length, remove, arith, subst, List, ◌∷◌, ℕ, suc, zero}
+use Rattle.std.proofs.Common.{◌≡◌, ◌≤◌, ◌<◌, ◌++◌, [], ◌∙◌, ap, sym, refl, take, drop, length, remove, arith, List, ◌∷◌, ℕ, suc, zero}
 use Rattle.std.proofs.lemmas.List.{drop_all, take_all, append-nil}
 use Rattle.page_versions.specs.Purging.{purge_below}
 use Rattle.page_versions.proofs.Chaining.{purge_keep, purge_drop}

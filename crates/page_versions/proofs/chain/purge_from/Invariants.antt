@@ -1,4 +1,4 @@
-use Rattle.std.proofs.Common.{◌≡◌, ◌≤◌, ◌++◌, ◌-◌, take, drop, length, vec_len}
+use Rattle.std.proofs.Common.{◌≡◌, ◌≤◌, ◌++◌, ◌-◌, take, drop, length}
 use Rattle.page_versions.specs.Purging.{purge_below}
 use Rattle.page_versions.proofs.chain.purge_from.Given as goal
 

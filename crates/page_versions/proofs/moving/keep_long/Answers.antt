@@ -1,4 +1,4 @@
-use Rattle.std.proofs.Common.{◌≡◌, ◌<◌, true, nat_lt, length, filter, refl, sym, ap, ◌∙◌, arith, rules, ◌&&◌}
+use Rattle.std.proofs.Common.{◌≡◌, true, nat_lt, length, filter, ap, ◌∙◌, arith, rules, ◌&&◌}
 use Rattle.std.proofs.lemmas.Bool.Decides.{nat_tests}
 use Rattle.std.proofs.lemmas.Fn.{filter_same}
 use Rattle.page_bytes.specs.declared.ids.PageId.{PageId}

@@ -1,4 +1,4 @@
-use Rattle.std.proofs.Common.{◌≡◌, ◌<◌, IfSome, length, subst, sym}
+use Rattle.std.proofs.Common.{◌<◌, IfSome, length, subst, sym}
 use Rattle.page_versions.specs.Purging.{purged}
 use Rattle.page_versions.proofs.Chaining.{some-purged}
 use Rattle.page_versions.proofs.Paging.{changed-insert, filled-insert}

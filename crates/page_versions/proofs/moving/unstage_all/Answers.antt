@@ -1,9 +1,8 @@
-use Rattle.std.proofs.Common.{◌≡◌, ◌+◌, take, get_or, refl, sym, ap, ◌∙◌, subst}
+use Rattle.std.proofs.Common.{take, get_or, refl, sym, subst}
 use Rattle.std.proofs.lemmas.List.{take_more, take_all}
 use Rattle.page_bytes.specs.declared.ids.PageId.{PageId}
 use Rattle.page_versions.specs.ChainMap.{chain_in}
 use Rattle.page_versions.specs.Purging.{unstaged}
-use Rattle.page_versions.proofs.Chaining.{purged-purged}
 use Rattle.page_versions.proofs.Paging.{Done, done_more}
 use Rattle.page_versions.proofs.moving.unstage_all.Goals as goal
 

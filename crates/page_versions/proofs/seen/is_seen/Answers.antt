@@ -1,4 +1,4 @@
-use Rattle.std.proofs.Common.{◌≡◌, ◌∙◌, ap, sym, refl, drop, add-one, arith, length, ◌≤◌}
+use Rattle.std.proofs.Common.{◌∙◌, ap, sym, refl, drop, add-one, arith, length, ◌≤◌}
 use Rattle.std.specs.List.{list_any}
 use Rattle.std.proofs.lemmas.List.{drop_all}
 use Rattle.page_versions.specs.Purging.{is_between}

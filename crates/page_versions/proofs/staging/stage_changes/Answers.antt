@@ -1,5 +1,5 @@
-use Rattle.std.proofs.Common.{◌≡◌, ◌+◌, false, take, get_or, refl, sym, ap, ◌∙◌, subst}
-use Rattle.std.proofs.lemmas.List.{take_more, take_all}
+use Rattle.std.proofs.Common.{◌≡◌, false, take, refl, sym, subst}
+use Rattle.std.proofs.lemmas.List.{take_all}
 use Rattle.page_bytes.specs.declared.ids.PageId.{PageId}
 use Rattle.page_bytes.specs.Changes.{change_of}
 use Rattle.page_versions.specs.ChainMap.{chain_in}

@@ -1,8 +1,7 @@
-use Rattle.std.proofs.Common.{◌≡◌, ◌∷◌, [], ◌++◌, Result, Ok, Err, OnOk, OnErr, cond, refl, sym, ap, ◌∙◌, subst}
+use Rattle.std.proofs.Common.{◌≡◌, ◌∷◌, [], ◌++◌, Result, Ok, Err, OnOk, OnErr, sym, ap, ◌∙◌, subst}
 use Rattle.std.specs.FinMap as map
-use Rattle.page_bytes.specs.declared.ids.PageId.{PageId}
 use Rattle.page_versions.specs.ChainMap.{ChainMap, chain_in}
-use Rattle.page_versions.specs.Inside.{staged_once, StagesUnder, is_page}
+use Rattle.page_versions.specs.Inside.{staged_once, StagesUnder}
 use Rattle.page_versions.proofs.Paging.{changed, chain_in-insert}
 use Rattle.page_versions.proofs.Stages.{stages_none, stages_listed, stages_one, unstaged-once, some-once}
 use Rattle.page_versions.proofs.staging.stage_one.Goals as goal

@@ -1,13 +1,9 @@
-use Rattle.std.proofs.Common.{◌≡◌, ◌≤◌, ◌<◌, ◌+◌, ℕ, true, false, cond, List, [], Option, Some, None, All, Contains, refl, sym, ap, ◌∙◌, subst, true≢false, arith, slice_set, slice_index_or, length, Result, Ok, Err, IfOk, OnErr}
-use Rattle.std.specs.FinMap as map
+use Rattle.std.proofs.Common.{◌≡◌, ℕ, List, Option, Some, None, All, refl, sym, ap, subst, slice_index_or, Result, Ok, Err, IfOk, OnErr}
 use Rattle.page_bytes.specs.declared.ids.PageId.{PageId}
-use Rattle.page_versions.specs.declared.version.Version.{Version}
 use Rattle.page_versions.specs.ChainMap.{ChainMap, chain_in}
-use Rattle.page_versions.specs.Chains.{version_at, needed, published}
-use Rattle.page_versions.specs.Kept.{Kept, chain_of, IsExact, IsNewestAt, IsKnownAt}
-use Rattle.page_versions.specs.Purging.{is_between, base, unstaged, purged, purged_base, with_slot}
-use Rattle.page_versions.specs.Inside.{IsSound, is_listed, IsLater}
-use Rattle.page_versions.proofs.Needing.{needed-seen, needed-newest, known_later}
+use Rattle.page_versions.specs.Kept.{Kept, chain_of, IsKnownAt}
+use Rattle.page_versions.specs.Purging.{is_between}
+use Rattle.page_versions.specs.Inside.{IsSound}
 use Rattle.page_versions.proofs.Sounding.{open_sound, any_more, opened_keeps, opened_later}
 use Rattle.slab.specs.Slab.{Slab, Updates}
 use Rattle.page_versions.proofs.versions.Versions.open_snapshot.Goals as goal

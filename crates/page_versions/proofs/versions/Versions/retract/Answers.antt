@@ -1,13 +1,11 @@
-use Rattle.std.proofs.Common.{◌≡◌, ◌≤◌, ◌<◌, ◌+◌, ℕ, true, false, cond, List, [], Option, Some, None, All, Contains, refl, sym, ap, ◌∙◌, subst, true≢false, arith, slice_set, length}
-use Rattle.std.specs.FinMap as map
+use Rattle.std.proofs.Common.{◌≡◌, ℕ, cond, Some, Contains, subst, arith}
 use Rattle.page_bytes.specs.declared.ids.PageId.{PageId}
-use Rattle.page_versions.specs.declared.version.Version.{Version}
-use Rattle.page_versions.specs.ChainMap.{ChainMap, chain_in}
-use Rattle.page_versions.specs.Chains.{version_at, needed, published}
-use Rattle.page_versions.specs.Kept.{Kept, chain_of, IsExact, IsNewestAt, IsKnownAt}
-use Rattle.page_versions.specs.Purging.{base, unstaged, purged, purged_base, with_slot}
-use Rattle.page_versions.specs.Inside.{IsSound, is_listed, IsLater}
-use Rattle.page_versions.proofs.Needing.{needed-seen, needed-newest, known_later}
+use Rattle.page_versions.specs.ChainMap.{chain_in}
+use Rattle.page_versions.specs.Chains.{version_at, published}
+use Rattle.page_versions.specs.Kept.{Kept, chain_of, IsNewestAt}
+use Rattle.page_versions.specs.Purging.{base}
+use Rattle.page_versions.specs.Inside.{is_listed}
+use Rattle.page_versions.proofs.Needing.{known_later}
 use Rattle.page_versions.proofs.Sounding.{retract_chains, retract_seen, retract_sound, base-base}
 use Rattle.page_versions.proofs.versions.Versions.retract.Goals as goal
 
