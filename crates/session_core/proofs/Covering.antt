@@ -1,8 +1,8 @@
 -- What runs in an open updating transaction has its locks.
-use Rattle.std.proofs.Common.{◌≡◌, ℕ, ◌==◌, Bool, true, false, not, ◌&&◌, ◌||◌, true≢false, List, [], ◌∷◌, ◌++◌, Option, None, Some, IsTrue, refl, sym, ap, subst, ◌∙◌, arith}
+use Rattle.std.proofs.Common.{◌≡◌, ℕ, ◌==◌, Bool, true, false, not, ◌&&◌, ◌||◌, true≢false, List, [], ◌∷◌, ◌++◌, Option, None, Some, IsTrue, refl, sym, ap, subst, ◌∙◌}
 use Rattle.std.specs.Prelude.{if◌then◌else◌}
 use mathlib.Core.Logic.{◌⊎◌, inl, inr}
-use Rattle.std.proofs.lemmas.Bool.{eqb-true, ne_eqb, eq-eqb}
+use Rattle.std.proofs.lemmas.Bool.{eqb-true, eq-eqb}
 use Rattle.std.proofs.lemmas.Slice.Eq.{bytes_eq-Decides}
 use Rattle.std.specs.Str.{bytes_eq}
 use Rattle.xq_ast.specs.declared.call.Call.{Call}
@@ -18,14 +18,14 @@ use Rattle.session_core.specs.declared.event.Reply.{Reply}
 use Rattle.session_core.specs.declared.event.Says.{Says}
 use Rattle.session_core.specs.declared.event.Says.TheVariants as says
 use Rattle.session_core.specs.declared.event.State.{State}
-use Rattle.session_core.specs.declared.event.State.TheVariants.{Idle, Updating, Reading, InDoubt}
+use Rattle.session_core.specs.declared.event.State.TheVariants.{Updating, InDoubt}
 use Rattle.session_core.specs.declared.event.Event.{Event}
 use Rattle.session_core.specs.declared.event.Event.TheVariants.{Began, Granted, Refused, Answered, Committed, Ended, RolledBack, Doubt, Settled, Left}
 use Rattle.session_core.specs.History.{AtEach, session_of, last_of}
 use Rattle.session_core.specs.Transactions.{Transaction, Ran, open_of, open_behind, with_locks, with_reply, with_doubt, begun, is_without_run, says_run, ran_by, ran, ran_all}
 use Rattle.session_core.specs.States.{state, state_with, state_in}
 use Rattle.session_core.specs.Locks.{LocksAt, IsAnsweredWithLocks, AreGranted, RanGranted}
-use Rattle.session_core.specs.Refusals.{RefusalsAt, IsBehindSettling, is_apart, refused_in, work_of}
+use Rattle.session_core.specs.Refusals.{RefusalsAt, IsBehindSettling, is_apart}
 use Rattle.session_core.proofs.Holding.{has_name, has_name-append, has_exclusive-append}
 
 -- ---- needs that some locks cover
@@ -212,7 +212,7 @@ apart_code (codes.Pyx why line) e = absurd (true≢false (sym e))
 apart_code (codes.Spent kind number) e = refl
 apart_code (codes.Damaged commit ordinal page) e = absurd (true≢false (sym e))
 
-apart_not_run : (answer : Says) → is_apart answer ≡ true → says_run answer ≡ false
+pub apart_not_run : (answer : Says) → is_apart answer ≡ true → says_run answer ≡ false
 apart_not_run (says.Error code) e = ap not (apart_code code e)
 apart_not_run says.Done e = absurd (true≢false (sym e))
 apart_not_run (says.Lines all) e = absurd (true≢false (sym e))
@@ -232,7 +232,7 @@ shown_not_run answer (inr refused) = ap says_run refused
 abbrev ran_if : Call → Says → Bool → Bool → List Ran
 ran_if call answer b c = if b then (if c then record { call = call; says = answer } ∷ [] else []) else []
 
-none_ran : (call : Option Call) (answer : Says) → says_run answer ≡ false → ran_by call answer ≡ []
+pub none_ran : (call : Option Call) (answer : Says) → says_run answer ≡ false → ran_by call answer ≡ []
 none_ran None answer e = refl
 none_ran (Some call) answer e = elim (is_statement call) as (λ b. ran_if call answer b (says_run answer) ≡ []) [
   | true ↦ ap (ran_if call answer true) e

@@ -1,8 +1,7 @@
 -- A journal that is legal so far grows by one event.
-use Rattle.std.proofs.Common.{◌≡◌, ℕ, ◌+◌, ◌==◌, Bool, true, false, true≢false, List, [], ◌∷◌, ◌++◌, reverse, length, take, Option, None, Some, IsTrue, refl, sym, ap, subst, ◌∙◌, arith}
+use Rattle.std.proofs.Common.{◌≡◌, ℕ, ◌==◌, Bool, true, false, true≢false, List, [], ◌∷◌, ◌++◌, Option, None, Some, refl, sym, ap, subst, ◌∙◌}
 use Rattle.std.specs.Prelude.{if◌then◌else◌}
-use mathlib.Core.Logic.{◌⊎◌, inl, inr}
-use Rattle.std.proofs.lemmas.Bool.{eqb-true, eqb-false, eq-eqb}
+use Rattle.std.proofs.lemmas.Bool.{eqb-true, eqb-false}
 use Rattle.std.proofs.lemmas.List.{reverse-append}
 use Rattle.std.proofs.Math.Seq.{take-length}
 use Rattle.xq_ast.specs.declared.need.Need.{Need}
@@ -15,7 +14,7 @@ use Rattle.session_core.specs.declared.event.Reply.{Reply}
 use Rattle.session_core.specs.declared.event.Event.{Event}
 use Rattle.session_core.specs.declared.event.Event.TheVariants.{Began, Granted, Refused, Answered, Committed, Ended, RolledBack, Doubt, Settled, Left}
 use Rattle.session_core.specs.History.{AtEach, past_of}
-use Rattle.session_core.specs.Transactions.{Base, Transaction, Ran, open_of, open_behind, begun, with_locks, with_reply, with_doubt, updating, where_updating, commits, committed_by, commit_count, ran, ran_all, run_calls, serial, after, newest, AnsweredInTurn}
+use Rattle.session_core.specs.Transactions.{Base, Transaction, Ran, open_of, open_behind, begun, with_locks, with_reply, with_doubt, updating, where_updating, commits, committed_by, ran, ran_all, run_calls, serial, newest, AnsweredInTurn}
 use Rattle.session_core.specs.Locks.{LocksAt}
 use Rattle.session_core.specs.Replies.{AllInTurn, RunsNext, SerialAt, SnapshotsAt, UnfinishedAt, UnfinishedAtEnd}
 use Rattle.session_core.specs.Refusals.{RefusalsAt}
@@ -23,8 +22,8 @@ use Rattle.session_core.specs.Settling.{SettlingAt}
 use Rattle.session_core.specs.Marks.{MarksAt}
 use Rattle.session_core.specs.Legal.{SoFar}
 use Rattle.session_core.specs.Steps.{IsNextReply, IsNext, IsStep}
-use Rattle.session_core.proofs.Holding.{has_name, locks_in, locks_of, all_apart}
-use Rattle.session_core.proofs.Covering.{CoveredIn, covered, ran_all-one}
+use Rattle.session_core.proofs.Holding.{locks_of, all_apart}
+use Rattle.session_core.proofs.Covering.{covered, ran_all-one}
 use Rattle.session_core.proofs.Turning.{beside_commit, AreApartLocks}
 
 pub past-more : (journal : List Event) (e : Event) → past_of (journal ++ e ∷ []) ≡ e ∷ past_of journal

@@ -1,23 +1,21 @@
 -- The locks of open updating transactions: what they cover, and that those of two sessions do not conflict.
-use Rattle.std.proofs.Common.{◌≡◌, ℕ, ◌==◌, Bool, true, false, ◌&&◌, ◌||◌, true≢false, List, [], ◌∷◌, ◌++◌, Option, None, Some, refl, sym, ap, subst, ◌∙◌, arith}
+use Rattle.std.proofs.Common.{◌≡◌, ℕ, ◌==◌, Bool, true, false, ◌&&◌, ◌||◌, true≢false, List, [], ◌∷◌, ◌++◌, Option, None, Some, refl, sym, ap, subst, ◌∙◌}
 use Rattle.std.specs.Prelude.{if◌then◌else◌}
 use mathlib.Core.Logic.{◌⊎◌, inl, inr}
 use Rattle.std.proofs.lemmas.Bool.{eqb-true, ne_eqb}
 use Rattle.std.proofs.lemmas.Slice.Eq.{bytes_eq-Decides}
 use Rattle.std.specs.Str.{bytes_eq}
-use Rattle.xq_ast.specs.declared.call.Call.{Call}
-use Rattle.xq_ast.specs.declared.call.Call.TheVariants.{ShowDocuments}
 use Rattle.xq_ast.specs.declared.need.LockMode.{LockMode}
 use Rattle.xq_ast.specs.declared.need.LockMode.TheVariants.{S, X}
 use Rattle.xq_ast.specs.declared.need.Need.{Need}
-use Rattle.xml_model.specs.Needs.{needs, is_exclusive, has_exclusive}
+use Rattle.xml_model.specs.Needs.{is_exclusive, has_exclusive}
 use Rattle.session_core.specs.declared.event.BeginKind.{BeginKind}
 use Rattle.session_core.specs.declared.event.BeginKind.TheVariants as kinds
 use Rattle.session_core.specs.declared.event.Reply.{Reply}
 use Rattle.session_core.specs.declared.event.Event.{Event}
 use Rattle.session_core.specs.declared.event.Event.TheVariants.{Began, Granted, Refused, Answered, Committed, Ended, RolledBack, Doubt, Settled, Left}
 use Rattle.session_core.specs.Transactions.{Transaction, open_of, open_behind, with_locks, with_reply, with_doubt, begun}
-use Rattle.session_core.specs.States.{stronger, strongest, held, held_with, held_in, conflicts, blocks}
+use Rattle.session_core.specs.States.{stronger, strongest, held_with, held_in, conflicts}
 use Rattle.session_core.specs.Locks.{IsFree, AllFree, LocksAt}
 use Rattle.session_core.specs.History.{AtEach}
 
@@ -177,7 +175,7 @@ pub and_parts : (a b : Bool) → (a && b) ≡ true → (a ≡ true) × (b ≡ tr
 and_parts true b e = (refl, e)
 and_parts false b e = absurd (true≢false (sym e))
 
-same_name : (a b : List ℕ) → bytes_eq a b ≡ true → a ≡ b
+pub same_name : (a b : List ℕ) → bytes_eq a b ≡ true → a ≡ b
 same_name a b e = (bytes_eq-Decides a b).0 e
 
 -- a name that is asked for with X is not held by another session

@@ -3,6 +3,11 @@ pub mod Holding
 pub mod Covering
 pub mod Turning
 pub mod Growing
+pub mod Tying
+pub mod Stepping
+pub mod Adding
+pub mod Asking
+pub mod Cores
 mod WorkedCalls
 mod WorkedStatements
 mod ReaderBesideLoader

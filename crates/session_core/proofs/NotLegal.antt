@@ -1,6 +1,6 @@
 -- Journals that differ from a legal one in just what a clause forbids. The scripts may be any: the clause alone
 -- refuses them.
-use Rattle.std.proofs.Common.{◌≡◌, ℕ, ◌≤◌, Bool, true, false, true≢false, List, [], ◌∷◌, Option, None, Some, is_some, refl, sym, ap, ◌∙◌, subst, arith}
+use Rattle.std.proofs.Common.{◌≤◌, Bool, true, false, true≢false, [], ◌∷◌, Some, is_some, refl, sym, ap, ◌∙◌, arith}
 use Rattle.xq_ast.specs.declared.call.Call.{Call}
 use Rattle.xq_ast.specs.declared.call.Call.TheVariants.{Checkpoint, Load, Export}
 use Rattle.xq_ast.specs.declared.code.Code.TheVariants as codes_of
@@ -8,16 +8,15 @@ use Rattle.xml_model.specs.Forest.{no_documents}
 use Rattle.session_core.specs.declared.event.BeginKind.TheVariants as kinds
 use Rattle.session_core.specs.declared.event.Reply.{Reply}
 use Rattle.session_core.specs.declared.event.State.{State}
-use Rattle.session_core.specs.declared.event.State.TheVariants.{Idle, Updating}
+use Rattle.session_core.specs.declared.event.State.TheVariants.{Idle}
 use Rattle.session_core.specs.declared.event.Says.{Says}
 use Rattle.session_core.specs.declared.event.Says.TheVariants as says
-use Rattle.session_core.specs.declared.event.Event.{Event}
-use Rattle.session_core.specs.declared.event.Event.TheVariants.{Began, Granted, Refused, Answered, Committed, Ended, RolledBack, Doubt}
+use Rattle.session_core.specs.declared.event.Event.TheVariants.{Began, Granted, Refused, Answered, Committed, RolledBack, Doubt}
 use Rattle.session_core.specs.Transactions.{Base}
 use Rattle.session_core.specs.Closes.{Scripts}
 use Rattle.session_core.specs.Legal.{Legal}
-use Rattle.session_core.proofs.WorkedCalls.{d, element, begin, begin_read, commit, load, export, shared, exclusive}
-use Rattle.session_core.proofs.WorkedStatements.{export_before, export_behind, load_says}
+use Rattle.session_core.proofs.WorkedCalls.{d, element, begin_read, commit, shared, exclusive}
+use Rattle.session_core.proofs.WorkedStatements.{export_before, export_behind}
 
 abbrev B : Base
 B = record { commit = 0; generation = 1; forest = no_documents }

@@ -1,5 +1,5 @@
 -- A worked history: one session loads a document and commits; another reads before and behind that commit.
-use Rattle.std.proofs.Common.{◌≡◌, ℕ, ◌==◌, Bool, true, false, List, [], ◌∷◌, Option, None, Some, Result, Ok, Err, length, zero, suc, true≢false, refl, sym, ap, subst, arith}
+use Rattle.std.proofs.Common.{◌≡◌, ℕ, ◌==◌, false, List, [], ◌∷◌, None, Some, Ok, length, zero, suc, true≢false, refl, sym, ap, subst, arith}
 use mathlib.Core.Logic.{inl, inr}
 use Rattle.xq_ast.specs.declared.call.Call.{Call}
 use Rattle.xq_ast.specs.declared.call.Call.TheVariants.{Begin, BeginRead, Commit, Load, Export}
@@ -15,15 +15,14 @@ use Rattle.session_core.specs.History.{past_of, AtEach}
 use Rattle.session_core.specs.Transactions.{Base, updating, open_of, newest}
 use Rattle.session_core.specs.States.{state, state_with, is_open}
 use Rattle.session_core.specs.Locks.{LocksAt}
-use Rattle.session_core.specs.Replies.{SerialAt, SnapshotsAt, UnfinishedAt, UnfinishedAtEnd, RunsNext, AllInTurn}
-use Rattle.session_core.specs.Refusals.{RefusalsAt}
+use Rattle.session_core.specs.Replies.{SerialAt, SnapshotsAt, RunsNext, AllInTurn}
 use Rattle.session_core.specs.Settling.{SettlingAt}
 use Rattle.session_core.specs.Marks.{MarksAt}
-use Rattle.session_core.specs.Closes.{Scripts, ClosesAt, ClosesAtEnd, TextRefusalsAt, calls_of, closed_of}
+use Rattle.session_core.specs.Closes.{Scripts, calls_of, closed_of}
 use Rattle.session_core.specs.Legal.{Legal, IsClosed, IsUnfinished, IsOrdered}
 use Rattle.session_core.proofs.Sessions.{◌⊳◌, by_session, free_where_none}
 use Rattle.session_core.proofs.WorkedStatements.{load_says, export_before, export_behind}
-use Rattle.session_core.proofs.WorkedCalls.{d, element, begin, begin_read, commit, load, export, begin_is, begin_read_is, commit_is, load_is, export_is, shared, exclusive}
+use Rattle.session_core.proofs.WorkedCalls.{d, element, begin, begin_read, commit, load, export, begin_is, begin_read_is, commit_is, load_is, export_is, exclusive}
 
 -- nothing is there, the commit number is 0
 abbrev pub B : Base

@@ -1,5 +1,5 @@
 -- Facts of each place of a journal, and of each session of one in which two sessions act.
-use Rattle.std.proofs.Common.{◌≡◌, ℕ, ◌==◌, Option, None, Bool, true, false, List, [], ◌∷◌, refl, sym, ap, subst}
+use Rattle.std.proofs.Common.{◌≡◌, ℕ, ◌==◌, None, true, false, List, refl, sym, ap, subst}
 use Rattle.std.proofs.lemmas.Bool.{eqb-true}
 use Rattle.xq_ast.specs.declared.need.Need.{Need}
 use Rattle.session_core.specs.declared.event.Event.{Event}

@@ -1,27 +1,25 @@
 -- A worked history: a commit in doubt is settled with no by its own session's next call.
-use Rattle.std.proofs.Common.{◌≡◌, ℕ, zero, suc, ◌<◌, ◌==◌, Bool, true, false, true≢false, List, [], ◌∷◌, length, Option, None, Some, Result, Ok, Err, refl, sym, ap, subst, arith}
+use Rattle.std.proofs.Common.{◌≡◌, ℕ, zero, suc, ◌==◌, false, true≢false, List, [], ◌∷◌, length, None, Some, Ok, refl, sym, ap, subst, arith}
 use mathlib.Core.Logic.{inl, inr}
 use Rattle.xq_ast.specs.declared.call.Call.{Call}
-use Rattle.xq_ast.specs.declared.call.Call.TheVariants.{Begin, BeginRead, Commit, Rollback, Checkpoint, Create, Load, Export}
+use Rattle.xq_ast.specs.declared.call.Call.TheVariants.{Begin, Commit, Create}
 use Rattle.xq_ast.specs.declared.code.Mark.{Mark}
 use Rattle.xq_ast.specs.declared.code.Code.TheVariants as codes_of
-use Rattle.xq_ast.specs.declared.need.LockMode.TheVariants.{S, X}
 use Rattle.xml_model.specs.Forest.{no_documents}
 use Rattle.session_core.specs.declared.event.BeginKind.TheVariants as kinds
 use Rattle.session_core.specs.declared.event.Reply.{Reply}
 use Rattle.session_core.specs.declared.event.Says.{Says}
 use Rattle.session_core.specs.declared.event.Says.TheVariants as says
 use Rattle.session_core.specs.declared.event.Event.{Event}
-use Rattle.session_core.specs.declared.event.Event.TheVariants.{Began, Granted, Refused, Answered, Committed, Ended, RolledBack, Doubt, Settled, Left}
+use Rattle.session_core.specs.declared.event.Event.TheVariants.{Began, Granted, Answered, Doubt, Settled}
 use Rattle.session_core.specs.History.{past_of, AtEach}
 use Rattle.session_core.specs.Transactions.{Base, updating, open_of, newest}
-use Rattle.session_core.specs.States.{state, state_with, is_open, blocks}
+use Rattle.session_core.specs.States.{state, state_with, is_open}
 use Rattle.session_core.specs.Locks.{LocksAt}
-use Rattle.session_core.specs.Replies.{SerialAt, SnapshotsAt, UnfinishedAt, RunsNext, AllInTurn}
-use Rattle.session_core.specs.Refusals.{RefusalsAt}
+use Rattle.session_core.specs.Replies.{SerialAt, SnapshotsAt, RunsNext, AllInTurn}
 use Rattle.session_core.specs.Settling.{SettlingAt}
 use Rattle.session_core.specs.Marks.{MarksAt}
-use Rattle.session_core.specs.Closes.{Scripts, ClosesAt, ClosesAtEnd, TextRefusalsAt, calls_of, closed_of}
+use Rattle.session_core.specs.Closes.{Scripts, ClosesAtEnd, calls_of, closed_of}
 use Rattle.session_core.specs.Legal.{Legal, IsClosed, IsUnfinished, IsOrdered}
 use Rattle.session_core.proofs.Sessions.{◌⊳◌, by_session, free_where_none}
 use Rattle.session_core.proofs.WorkedCalls.{d, begin, commit, create, begin_is, commit_is, create_is, exclusive}

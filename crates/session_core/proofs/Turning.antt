@@ -1,12 +1,9 @@
 -- Calls whose locks keep others out are answered alike before and behind what the others do.
-use Rattle.std.proofs.Common.{◌≡◌, ℕ, ◌==◌, Bool, true, false, ◌&&◌, ◌||◌, true≢false, List, [], ◌∷◌, ◌++◌, length, take, Option, None, Some, refl, sym, ap, subst, ◌∙◌, arith}
-use Rattle.std.specs.Prelude.{if◌then◌else◌}
+use Rattle.std.proofs.Common.{◌≡◌, ℕ, Bool, true, false, ◌&&◌, ◌||◌, true≢false, List, [], ◌∷◌, Option, None, Some, refl, sym, ap, subst, ◌∙◌}
 use Rattle.std.specs.FinMap as forests
 use mathlib.Core.Logic.{◌⊎◌, inl, inr}
 use Rattle.std.proofs.lemmas.Slice.Eq.{bytes_eq-Decides}
 use Rattle.std.specs.Str.{bytes_eq}
-use Rattle.xq_ast.specs.declared.call.Call.{Call}
-use Rattle.xq_ast.specs.declared.call.Call.TheVariants.{ShowDocuments}
 use Rattle.xq_ast.specs.declared.need.Need.{Need}
 use Rattle.xml_model.specs.Forest.{Forest}
 use Rattle.xml_model.specs.Needs.{needs, is_exclusive, has_exclusive, AgreeAt}
@@ -17,7 +14,7 @@ use Rattle.session_core.specs.declared.event.BeginKind.TheVariants as kinds
 use Rattle.session_core.specs.Transactions.{Transaction, Ran, run_calls, ran_all, serial, updating, where_updating, says_of, AnsweredInTurn}
 use Rattle.session_core.specs.Replies.{AllInTurn}
 use Rattle.session_core.proofs.Holding.{has_name, locks_by, locks_in, and_parts}
-use Rattle.session_core.proofs.Covering.{IsHeld, AreHeld, IsCovered, AllCovered, CoveredBy, CoveredIn}
+use Rattle.session_core.proofs.Covering.{AreHeld, IsCovered, AllCovered, CoveredBy, CoveredIn}
 
 false_or_true : (b : Bool) → (b ≡ true) ⊎ (b ≡ false)
 false_or_true true = inl refl

@@ -9,3 +9,7 @@ pub mod Marks
 pub mod Closes
 pub mod Legal
 pub mod Steps
+pub mod Table
+pub mod Kept
+pub mod Ties
+pub mod Unsettled

@@ -1,7 +1,6 @@
 -- The clause `marks` of a legal history: a failing device raised its count of faults.
-use Rattle.std.specs.Prelude.{◌≡◌, ℕ, ◌<◌, ◌≤◌, Bool, true, false, IsTrue, List, [], ◌∷◌, Option, Some, None, IfSome, ◌⊎◌}
+use Rattle.std.specs.Prelude.{◌≡◌, ◌<◌, ◌≤◌, Bool, true, false, IsTrue, List, [], ◌∷◌, Option, Some, None, IfSome, ◌⊎◌}
 use Rattle.xq_ast.specs.declared.call.Call.{Call}
-use Rattle.xq_ast.specs.declared.call.Call.TheVariants.{Begin, BeginRead, Commit, Rollback, Checkpoint, ShowDocuments, Create, Drop, Load, Export}
 use Rattle.xq_ast.specs.declared.code.Mark.{Mark}
 use Rattle.xq_ast.specs.declared.code.Code.{Code}
 use Rattle.xq_ast.specs.declared.code.Code.TheVariants as codes
@@ -11,7 +10,7 @@ use Rattle.session_core.specs.declared.event.State.TheVariants.{Idle, Updating, 
 use Rattle.session_core.specs.declared.event.Says.{Says}
 use Rattle.session_core.specs.declared.event.Says.TheVariants as says
 use Rattle.session_core.specs.declared.event.Event.{Event}
-use Rattle.session_core.specs.declared.event.Event.TheVariants.{Began, Granted, Refused, Answered, Committed, Ended, RolledBack, Doubt, Settled, Left}
+use Rattle.session_core.specs.declared.event.Event.TheVariants.{Answered, Doubt}
 use Rattle.session_core.specs.States.{state}
 use Rattle.session_core.specs.Refusals.{refused_in, work_of}
 use Rattle.session_core.specs.Settling.{last_number, writes_store}

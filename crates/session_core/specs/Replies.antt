@@ -1,5 +1,5 @@
 -- The clauses `serial`, `snapshots` and `unfinished` of a legal history: which documents the replies tell.
-use Rattle.std.specs.Prelude.{◌≡◌, ℕ, ◌+◌, ◌-◌, Bool, true, false, List, [], ◌∷◌, Option, Some, None}
+use Rattle.std.specs.Prelude.{◌≡◌, ℕ, ◌+◌, ◌-◌, true, false, List, [], ◌∷◌}
 use Rattle.xml_model.specs.Forest.{Forest}
 use Rattle.session_core.specs.declared.event.BeginKind.TheVariants as kinds
 use Rattle.session_core.specs.declared.event.State.{State}

@@ -1,13 +1,12 @@
 -- The clause `settling` of a legal history: commits in doubt, checkpoints, and numbers at their last value.
-use Rattle.std.specs.Prelude.{◌≡◌, ℕ, ◌+◌, ◌-◌, ◌^◌, ◌≤◌, ◌==◌, Bool, true, false, not, if◌then◌else◌, IsTrue, List, [], ◌∷◌, Option, Some, None, ◌⊎◌}
+use Rattle.std.specs.Prelude.{◌≡◌, ℕ, ◌+◌, ◌-◌, ◌^◌, ◌≤◌, ◌==◌, Bool, true, false, IsTrue, List, [], ◌∷◌, Option, Some, None, ◌⊎◌}
 use Rattle.xq_ast.specs.declared.call.Call.{Call}
 use Rattle.xq_ast.specs.declared.call.Call.TheVariants.{Begin, BeginRead, Commit, Rollback, Checkpoint, ShowDocuments, Create, Drop, Load, Export}
 use Rattle.xq_ast.specs.declared.code.SpentKind.{SpentKind}
 use Rattle.xq_ast.specs.declared.code.SpentKind.TheVariants as spent
-use Rattle.xq_ast.specs.declared.code.Code.{Code}
 use Rattle.xq_ast.specs.declared.code.Code.TheVariants as codes
 use Rattle.session_core.specs.declared.event.State.{State}
-use Rattle.session_core.specs.declared.event.State.TheVariants.{Idle, Updating, Reading, InDoubt}
+use Rattle.session_core.specs.declared.event.State.TheVariants.{Idle, Updating, InDoubt}
 use Rattle.session_core.specs.declared.event.Says.{Says}
 use Rattle.session_core.specs.declared.event.Says.TheVariants as says
 use Rattle.session_core.specs.declared.event.Event.{Event}

@@ -1,0 +1,48 @@
+-- What the type of a `Core` keeps: its journal is legal so far, and all else that it holds is what the journal tells.
+use Rattle.std.specs.Prelude.{◌≡◌, ℕ, ◌+◌, ◌≤◌, ◌<◌, true, List, [], ◌∷◌, length, Option, Some, None}
+use Rattle.std.specs.FinMap as fin
+use Rattle.xml_model.specs.Forest.{Forest}
+use Rattle.doc_locks.specs.Names.{Locks}
+use Rattle.doc_locks.specs.Locks.{mode_held}
+use Rattle.session_core.specs.declared.event.BeginKind.TheVariants as kinds
+use Rattle.session_core.specs.declared.event.Event.{Event}
+use Rattle.session_core.specs.History.{past_of}
+use Rattle.session_core.specs.Transactions.{Base, Transaction, open_of, commits, commit_count, ran_all, run_calls, newest}
+use Rattle.session_core.specs.States.{state, held, in_doubt}
+use Rattle.session_core.specs.Settling.{last_number}
+use Rattle.session_core.specs.Legal.{SoFar}
+use Rattle.session_core.specs.Table.{States, entry_of}
+
+-- the forest before some transactions, and behind each of them
+abbrev pub forests_of : Forest → List Transaction → List Forest
+forests_of F [] = F ∷ []
+forests_of F (t ∷ more) = F ∷ forests_of (run_calls F (ran_all t.replies)) more
+
+-- a session's commit is in doubt: its transaction is open still, and this is the forest behind it
+pub record IsDoubt (B : Base) (past : List Event) (whose : ℕ) (forest : Forest) : Type 0 where
+  pub in_doubt_is : in_doubt past ≡ Some whose
+  pub transaction : Transaction
+  pub open_is : open_of whose past ≡ Some transaction
+  pub kind_is : transaction.kind ≡ kinds.Updating
+  pub marked : transaction.in_doubt ≡ true
+  pub forest_is : forest ≡ run_calls (newest B past) (ran_all transaction.replies)
+  pub left : B.commit + commit_count past < last_number
+
+abbrev pub DoubtIs : Base → List Event → Option (ℕ × Forest) → Type 0
+DoubtIs B past None = in_doubt past ≡ None
+DoubtIs B past (Some d) = IsDoubt B past d.0 d.1
+
+-- the table of states, the locks, the forests and the commit in doubt are what the events tell
+pub record Ties (B : Base) (past : List Event) (states : States) (locks : Locks) (forests : List Forest) (doubt : Option (ℕ × Forest)) : Type 0 where
+  pub states_are : (s : ℕ) → fin.get states s ≡ entry_of (state s past)
+  pub locks_are : (s : ℕ) (name : List ℕ) → mode_held locks s name ≡ held s name past
+  pub forests_are : forests ≡ forests_of B.forest (commits past)
+  pub doubt_is : DoubtIs B past doubt
+
+-- besides, there is room in the journal for the event that ends each transaction
+pub record IsCore (B : Base) (journal : List Event) (capacity : ℕ) (states : States) (opened : ℕ) (number : ℕ) (locks : Locks) (forests : List Forest) (doubt : Option (ℕ × Forest)) : Type 0 where
+  pub legal : SoFar B journal
+  pub ties : Ties B (past_of journal) states locks forests doubt
+  pub opened_is : opened ≡ fin.len states
+  pub room : length journal + opened ≤ capacity
+  pub number_is : number ≡ B.commit + commit_count (past_of journal)
