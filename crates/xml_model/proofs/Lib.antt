@@ -9,3 +9,4 @@ pub mod ReadIsValid
 mod Rows
 pub mod TextAgain
 pub mod TextLines
+pub mod Sorting

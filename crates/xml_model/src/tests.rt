@@ -238,3 +238,56 @@ fn documents_are_kept_by_name(rt: HostRuntime) -> Result<(), Fail> {
     assert_eq!(rt; docs.get(&other).is_some(), true);
     Ok(())
 }
+
+#[test]
+fn copies_share_documents(rt: HostRuntime) -> Result<(), Fail> {
+    let alloc = rt.alloc();
+    let name = Str::of(alloc, "d")?;
+    let other = Str::of(alloc, "e")?;
+    let third = Str::of(alloc, "f")?;
+    let mut docs = DocMap::new(alloc);
+    docs.insert(name.copy()?, every_kind(alloc)?)?;
+    docs.insert(other.copy()?, every_kind(alloc)?)?;
+    let copy = docs.copy()?;
+    docs.remove(&name);
+    docs.insert(
+        other.copy()?,
+        Doc {
+            kids: Items::new(alloc),
+        },
+    )?;
+    docs.insert(third.copy()?, every_kind(alloc)?)?;
+    for (asked, before, now) in [
+        (&name, Some(3), None),
+        (&other, Some(3), Some(0)),
+        (&third, None, Some(3)),
+    ] {
+        let text = asked.as_str();
+        let kept = copy.get(asked).map(|doc| doc.kids.as_slice().len());
+        assert_eq!(rt; kept, before, "of {text}");
+        let changed = docs.get(asked).map(|doc| doc.kids.as_slice().len());
+        assert_eq!(rt; changed, now, "of {text}");
+    }
+    Ok(())
+}
+
+#[test]
+fn names_are_in_byte_order(rt: HostRuntime) -> Result<(), Fail> {
+    let alloc = rt.alloc();
+    let mut docs = DocMap::new(alloc);
+    for name in ["b", "a b", "é", "a", "B", "ab"] {
+        docs.insert(
+            Str::of(alloc, name)?,
+            Doc {
+                kids: Items::new(alloc),
+            },
+        )?;
+    }
+    let names = docs.names()?;
+    let wanted = ["B", "a", "a b", "ab", "b", "é"];
+    assert_eq!(rt; names.len(), wanted.len());
+    for (name, want) in names.as_slice().iter().zip(&wanted) {
+        assert_eq!(rt; name.as_str(), *want);
+    }
+    Ok(())
+}
