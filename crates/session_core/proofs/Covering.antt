@@ -54,7 +54,7 @@ second_true false b e = e
 both_true : (a b : Bool) → a ≡ true → b ≡ true → (a && b) ≡ true
 both_true a b x y = ap (λ c. c && b) x ∙ y
 
-held_if : (asked locks : List Need) → Covers locks asked → AreHeld asked locks
+pub held_if : (asked locks : List Need) → Covers locks asked → AreHeld asked locks
 held_if [] locks covers = tt
 held_if (n ∷ more) locks covers = (
   (covers.0 n.name (first_true _ _ (itself n.name)), λ exclusive. covers.1 n.name (first_true _ _ (both_true _ _ exclusive (itself n.name)))),
@@ -162,7 +162,7 @@ other_event s asked (Settled by t stands) old other held = ended (t == s)
     ended false = held
 
 -- the session's newest event grants these needs: its locks cover them
-last_held : (past : List Event) (s : ℕ) (asked : List Need) → last_of s past ≡ Some (Granted s asked) → LastHeldIn asked (open_of s past)
+pub last_held : (past : List Event) (s : ℕ) (asked : List Need) → last_of s past ≡ Some (Granted s asked) → LastHeldIn asked (open_of s past)
 last_held [] s asked is = tt
 last_held (e ∷ past) s asked is = by_whose (last_held past s asked) (session_of e == s) refl is
   where

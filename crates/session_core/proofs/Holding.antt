@@ -77,7 +77,7 @@ held_by : (name : List ℕ) (t : Transaction) (kind : BeginKind) → held_in nam
 held_by name t kinds.Updating = refl
 held_by name t (kinds.Reading n) = refl
 
-held_is : (name : List ℕ) (o : Option Transaction) → held_with name o ≡ mode_by (has_exclusive name (locks_in o)) (has_name name (locks_in o))
+pub held_is : (name : List ℕ) (o : Option Transaction) → held_with name o ≡ mode_by (has_exclusive name (locks_in o)) (has_name name (locks_in o))
 held_is name None = refl
 held_is name (Some t) = held_by name t t.kind ∙ strongest_is name (locks_by t t.kind)
 

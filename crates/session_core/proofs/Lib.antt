@@ -8,6 +8,9 @@ pub mod Stepping
 pub mod Adding
 pub mod Asking
 pub mod Cores
+pub mod Answering
+pub mod Beside
+pub mod Runs
 mod WorkedCalls
 mod WorkedStatements
 mod ReaderBesideLoader

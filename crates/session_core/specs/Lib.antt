@@ -13,3 +13,5 @@ pub mod Table
 pub mod Kept
 pub mod Ties
 pub mod Unsettled
+pub mod Answering
+pub mod Runs

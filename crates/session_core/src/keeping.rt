@@ -99,6 +99,13 @@ impl Core {
         self.states.state(session)
     }
 
+    /// The newest commit number. Takes no memory.
+    pub fn newest(&self) -> u64
+        ensures { result ≡ newest_number self.now.base (past self.now) }
+    {
+        self.newest
+    }
+
     /// Begins an updating transaction.
     pub fn begin_update(&mut self, session: u32) -> Result<(), NoMemory>
         requires idle { state_of session (past self.old) ≡ State.Idle }

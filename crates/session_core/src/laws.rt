@@ -6,6 +6,7 @@ ghost use Rattle.session_core.specs.History.{past_of};
 ghost use Rattle.session_core.specs.Legal.{SoFar};
 ghost use Rattle.session_core.specs.Steps.{IsStep};
 ghost use Rattle.session_core.specs.Transactions.{Base};
+ghost use Rattle.session_core.specs.Answering.{AnswersKeepLegal};
 
 /// A journal without events is legal so far.
 pub fn an_empty_journal_is_legal()
@@ -17,4 +18,11 @@ pub fn an_empty_journal_is_legal()
 /// of all transactions.
 pub fn a_legal_journal_grows()
     ensures { (B : Base) (journal : List Event) (e : Event) → SoFar B journal → IsStep B e (past_of journal) → SoFar B (journal ++ e ∷ []) }
+{}
+
+/// A journal that is legal so far is legal with one right answer more, where its session's last
+/// event lets an answer follow. What is right is told by the session's state and by the documents
+/// that its transaction sees, and not by what other sessions do.
+pub fn right_answers_keep_a_journal_legal()
+    ensures { AnswersKeepLegal }
 {}

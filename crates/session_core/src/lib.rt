@@ -3,7 +3,8 @@
 //! The definitions that the product's promise rests on stand here: events (`History`),
 //! transactions and the serial order (`Transactions`), states and locks (`States`), and the legal
 //! history with its eight clauses (`Legal`). `a_legal_journal_grows` carries the theorem on strict
-//! locking: what one event must meet (`Steps`) for the whole journal to stay legal.
+//! locking: what one event must meet (`Steps`) for the whole journal to stay legal. What a call is
+//! answered (`Answering`) keeps it legal too, by `right_answers_keep_a_journal_legal`.
 //!
 //! A `Core` runs sessions over documents in memory. Contracts see it as a journal over its base
 //! (`Kept`). Its type keeps the journal legal so far, whole: each call asks for what its event must
@@ -20,7 +21,9 @@ mod states;
 
 pub use event::{BeginKind, Event, Journal, Reply, Says, State};
 pub use keeping::Core;
-pub use laws::{a_legal_journal_grows, an_empty_journal_is_legal};
+pub use laws::{
+    a_legal_journal_grows, an_empty_journal_is_legal, right_answers_keep_a_journal_legal,
+};
 
 #[cfg(test)]
 mod tests;
