@@ -4,4 +4,9 @@ pub mod EventText
 pub mod ScriptLines
 pub mod OrderNumbers
 pub mod Spelled
+pub mod OneLine
+pub mod Quoted
+pub mod EventRows
+pub mod TextTells
 pub mod SpelledOrder
+pub mod Few

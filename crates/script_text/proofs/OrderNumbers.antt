@@ -12,7 +12,7 @@ use Rattle.script_text.specs.declared.fault.Stop.TheVariants as stops
 use Rattle.script_text.specs.ScriptEnds.{with_more, Lists}
 
 -- neither holds where not one of two holds
-neither : (a b : Bool) → (a || b) ≡ false → (a ≡ false) × (b ≡ false)
+pub neither : (a b : Bool) → (a || b) ≡ false → (a ≡ false) × (b ≡ false)
 neither false b e = (refl, e)
 neither true b e = cc
 
@@ -29,7 +29,7 @@ pub split_words-one : (text : List ℕ) → has_space text ≡ false → split_w
 split_words-one [] none = refl
 split_words-one (b ∷ bs) none = let parts = neither (nat_eq b 32) (has_space bs) none in rw parts.0 (ap (in_front b) (split_words-one bs parts.1))
 
-not_true : (t : Bool) → (t ≡ true → ⊥) → t ≡ false
+pub not_true : (t : Bool) → (t ≡ true → ⊥) → t ≡ false
 not_true true no_way = absurd (no_way refl)
 not_true false no_way = refl
 

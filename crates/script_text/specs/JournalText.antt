@@ -1,5 +1,5 @@
 -- The text of a journal: one line an event, and behind an answer its lines.
-use Rattle.std.specs.Prelude.{ℕ, ◌<◌, ◌^◌, ◌==◌, None, Bool, true, false, if◌then◌else◌, List, [], ◌∷◌, ◌++◌, length, codes}
+use Rattle.std.specs.Prelude.{ℕ, ◌<◌, ◌^◌, ◌==◌, None, Bool, true, false, if◌then◌else◌, List, [], ◌∷◌, ◌++◌, length, codes, IsUtf8}
 use Rattle.std.specs.Fmt.{decimal}
 use Rattle.xq_ast.specs.CodeText.{code_text, InRange, no_mark, without_mark}
 use Rattle.xq_ast.specs.declared.need.LockMode.{LockMode}
@@ -89,18 +89,22 @@ told (Answered s reply) = Answered s (record { call = None; says = told_answer r
 told (Doubt s n mark) = Doubt s n no_mark
 told e = e
 
-abbrev pub ArePlain : List Line → Type 0
-ArePlain [] = Unit {0}
-ArePlain (line ∷ more) = IsPlain line × ArePlain more
+-- UTF-8 without a newline
+abbrev pub IsOneLine : List ℕ → Type 0
+IsOneLine bytes = IsUtf8 bytes × IsPlain bytes
 
-abbrev pub HavePlainNames : List Need → Type 0
-HavePlainNames [] = Unit {0}
-HavePlainNames (n ∷ more) = IsPlain n.name × HavePlainNames more
+abbrev pub AreLines : List Line → Type 0
+AreLines [] = Unit {0}
+AreLines (line ∷ more) = IsOneLine line × AreLines more
 
--- the answer has a line: Done, lines without newlines, or an error
+abbrev pub HaveNames : List Need → Type 0
+HaveNames [] = Unit {0}
+HaveNames (n ∷ more) = IsOneLine n.name × HaveNames more
+
+-- the answer has a line: Done, lines of UTF-8 without newlines, or an error
 abbrev pub IsAnswer : Says → Type 0
 IsAnswer says.Done = Unit {0}
-IsAnswer (says.Lines all) = ArePlain all × (length all < 2 ^ 64)
+IsAnswer (says.Lines all) = AreLines all × (length all < 2 ^ 64)
 IsAnswer (says.Error code) = InRange code
 IsAnswer _ = ⊥
 
@@ -111,12 +115,12 @@ IsKind (Reading n) = n < 2 ^ 64
 abbrev pub IsSession : ℕ → Type 0
 IsSession s = s < 2 ^ 32
 
--- an event as programs print them: numbers of sessions have 32 bits and others 64, no name and no line of an answer
--- has a newline, and a grant has needs
+-- an event as programs print them: numbers of sessions have 32 bits and others 64, names and lines of an answer
+-- are UTF-8 without a newline, and a grant has needs
 abbrev pub IsPrinted : Event → Type 0
 IsPrinted (Began s kind) = IsSession s × IsKind kind
-IsPrinted (Granted s needs) = IsSession s × (0 < length needs) × HavePlainNames needs
-IsPrinted (Refused s name holder needs) = IsSession s × IsPlain name × IsSession holder
+IsPrinted (Granted s needs) = IsSession s × (0 < length needs) × HaveNames needs
+IsPrinted (Refused s name holder needs) = IsSession s × IsOneLine name × IsSession holder
 IsPrinted (Answered s reply) = IsSession s × IsAnswer reply.says
 IsPrinted (Committed s n) = IsSession s × (n < 2 ^ 64)
 IsPrinted (Ended s) = IsSession s

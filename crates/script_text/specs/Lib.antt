@@ -1,3 +1,6 @@
+pub mod JournalRead
+pub mod JournalRows
+pub mod JournalSteps
 pub mod JournalText
 pub mod Pieces
 pub mod ScriptEnds

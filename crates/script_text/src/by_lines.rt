@@ -1,5 +1,6 @@
 // Scripts, read from their bytes.
-ghost use Rattle.std.specs.Prelude.{◌≡◌, Result};
+ghost use Rattle.std.specs.Prelude.{◌≡◌, ◌≤◌, Result, IfOk, length};
+ghost use Rattle.script_text.specs.declared.limits.TheConstants.{SESSIONS_MAX};
 ghost use Rattle.xml_model.specs.Pyx.{split_lines};
 ghost use Rattle.script_text.specs.Scripts as spec;
 ghost use Rattle.script_text.specs.ScriptEnds.{Gives};
@@ -22,8 +23,7 @@ fn read_lines(alloc: Global, sessions: u64, bytes: &[u8]) -> Result<Reading, Scr
     Ok(reading)
 }
 
-/// The script that the bytes spell, or the first refusal.
-pub fn read_script(alloc: Global, bytes: &[u8]) -> Result<Script, ScriptFault>
+fn read_bytes(alloc: Global, bytes: &[u8]) -> Result<Script, ScriptFault>
     ensures { Gives result (spec.script (split_lines bytes.now)) }
 {
     let mut reading = read_lines(alloc, count_sessions(bytes), bytes)?;
@@ -32,4 +32,15 @@ pub fn read_script(alloc: Global, bytes: &[u8]) -> Result<Script, ScriptFault>
         sessions: reading.ended,
         order: reading.order,
     })
+}
+
+/// The script that the bytes spell, or the first refusal. It has 64 sessions at most.
+pub fn read_script(alloc: Global, bytes: &[u8]) -> Result<Script, ScriptFault>
+    ensures script { Gives result (spec.script (split_lines bytes.now)) }
+    ensures few { IfOk result (λ script. length script.sessions ≤ SESSIONS_MAX) }
+{
+    match read_bytes(alloc, bytes) {
+        Ok(script) => Ok(script),
+        Err(fault) => Err(fault),
+    }
 }

@@ -4,10 +4,15 @@
 //! A script is the calls of each session, and an order of sessions; a call is its text and, of a
 //! LOAD, its PYX lines. `write_journal` writes the text of a journal (`JournalText`): one line an
 //! event, and behind an answer its lines. It takes no memory and goes to the sink in large pieces.
+//! `read_journal` gives the journal that bytes are the text of, or none where they are the text of
+//! no journal as programs print them; a text determines its journal but for what it does not tell.
 #![tactic(auto)]
 
 mod by_lines;
 mod fault;
+mod journal_parts;
+mod journal_read;
+mod journal_rows;
 mod kinds;
 mod laws;
 mod limits;
@@ -20,11 +25,14 @@ mod write;
 
 pub use by_lines::read_script;
 pub use fault::{RefusedScript, ScriptFault, ScriptRefusal};
-pub use laws::scripts_are_read_again;
+pub use journal_read::read_journal;
+pub use laws::{a_text_tells_its_journal, scripts_are_read_again};
 pub use limits::{CALLS_MAX, SESSIONS_MAX};
 pub use session_calls::{CallTextList, CallTextListList, NumberList, Script};
 pub use write::write_journal;
 
+#[cfg(test)]
+mod journal_tests;
 #[cfg(test)]
 mod script_tests;
 #[cfg(test)]
