@@ -1,0 +1,12 @@
+use Rattle.std.proofs.Common.{◌≡◌, ◌+◌, ◌/◌, ◌≤◌, length}
+use Rattle.text_pages.specs.Putting.{pieces_put_in, put_in}
+use Rattle.text_pages.proofs.putting.put_text.Given as goal
+
+abbrev pub invariant-loop-left : goal.invariant-loop-left
+invariant-loop-left l = record {
+  put : pieces_put_in l.left l.work l.space l.next l.bytes ≡ put_in l.initial.work l.space l.bytes;
+  within : l.left ≤ (length l.bytes + 4073) / 4074;
+}
+
+abbrev pub decreases-loop-left : goal.decreases-loop-left
+decreases-loop-left l = l.left

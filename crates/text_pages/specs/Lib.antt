@@ -1,0 +1,9 @@
+pub mod Slots
+pub mod Finding
+pub mod Answers
+pub mod Inside
+pub mod Putting
+pub mod Taking
+pub mod Reading
+pub mod Meaning
+pub mod Keeping
