@@ -1,0 +1,9 @@
+pub mod Laying
+pub mod Entries
+pub mod Statements
+pub mod Lines
+pub mod Tying
+pub mod Closing
+pub mod Calling
+pub mod Texts
+pub mod Untouched

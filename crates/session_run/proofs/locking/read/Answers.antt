@@ -1,0 +1,13 @@
+use Rattle.session_core.specs.Answering as answers
+use Rattle.session_core.specs.Kept.{past}
+use Rattle.session_run.specs.Changes.{changes_of_entries}
+use Rattle.session_run.proofs.Calling.{read_right}
+use Rattle.session_run.proofs.locking.read.Goals as goal
+
+pub answer-requires-clause-right : goal.answer-requires-clause-right
+answer-requires-clause-right c =
+    read_right c.args.core.now.base c.args.session (past c.args.core.now) (changes_of_entries c.args.changes.now.docs.entries) c.requires.ready.tied
+    c.args.call c.in-Ok.effect c.forest.result.now c.forest.ensures c.requires.reading c.requires.statement c.requires.passes c.in-Ok.ensures
+
+pub answer_unchanged-requires-clause-right : goal.answer_unchanged-requires-clause-right
+answer_unchanged-requires-clause-right c = answers.IsRightAnswer.lacks_memory

@@ -1,0 +1,32 @@
+use Rattle.std.proofs.Common.{None, refl, subst, sym, ap, ◌∙◌}
+use Rattle.session_core.specs.declared.event.Says.TheVariants as says
+use Rattle.session_core.specs.Answering.{IsRightAnswer}
+use Rattle.session_core.specs.Kept.{past, with_event}
+use Rattle.session_core.proofs.Beside.{none_in_doubt}
+use Rattle.session_run.specs.Answers.{answered}
+use Rattle.session_run.specs.Changes.{changes_of_entries}
+use Rattle.session_run.proofs.Closing.{on_ok, ready_unrun}
+use Rattle.session_run.proofs.Texts.{called_read, called_end, right_end}
+use Rattle.session_run.proofs.running.run_text.Goals as goal
+
+pub run_call-requires-clause-certain : goal.run_call-requires-clause-certain
+run_call-requires-clause-certain c = none_in_doubt c.args.core.now.base (past c.args.core.now) c.legal.ensures.settling c.requires.ready.settled c.args.session
+
+pub answer-requires-clause-right : goal.answer-requires-clause-right
+answer-requires-clause-right c =
+    subst (λ code. IsRightAnswer c.args.core.now.base c.args.session (past c.args.core.now) None (says.Error code)) (sym c.code.ensures)
+    (right_end c.args.core.now.base c.args.session (past c.args.core.now) c.in-Err.end (none_in_doubt c.args.core.now.base (past c.args.core.now) c.legal.ensures.settling c.requires.ready.settled c.args.session))
+
+pub returns-in-Ok-clause-closed : goal.returns-in-Ok-clause-closed
+returns-in-Ok-clause-closed c =
+    on_ok c.run_call.result (called_read c.args.session c.args.text.now c.in-Ok.call c.in-Ok.ensures.found c.args.core.now c.run_call.new.core) c.run_call.ensures.closed
+
+pub returns-in-Err-clause-closed : goal.returns-in-Err-clause-closed
+returns-in-Err-clause-closed c =
+    on_ok c.answer.result (λ grown. called_end c.args.session c.args.text.now c.args.core.now c.answer.new.core c.in-Err.end c.in-Err.ensures.refused
+    (grown ∙ ap (λ code. with_event (answered c.args.session None (says.Error code)) c.args.core.now) c.code.ensures)) c.answer.ensures.ok
+
+pub returns-in-Err-clause-ready : goal.returns-in-Err-clause-ready
+returns-in-Err-clause-ready c =
+    on_ok c.answer.result (λ grown. ready_unrun c.args.session None (says.Error c.code.result) c.args.core.now c.answer.new.core grown refl c.requires.ready.settled
+    (changes_of_entries c.args.changes.now.docs.entries) c.requires.ready.tied) c.answer.ensures.ok

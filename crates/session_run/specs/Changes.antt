@@ -1,0 +1,43 @@
+-- What an open transaction has changed: names with the document that each has now, or none where it is dropped.
+use Rattle.std.specs.Prelude.{ℕ, List, [], ◌∷◌, map as list_map, string_bytes, Option, None, Some}
+use Rattle.std.specs.Coded.{Coded, coded_ℕ, coded_list, coded_option}
+use Rattle.std.specs.Arc.{arc_value}
+use Rattle.std.specs.declared.string.String.{String}
+use Rattle.std.specs.declared.sync.Arc.{Arc}
+use Rattle.std.specs.FinMap as map
+use Rattle.std.specs.Ordering.{nat_cmp}
+use Rattle.std.specs.Cmp.Lexicographic.{slice_cmp}
+use Rattle.xml_model.specs.declared.node.Doc.{Doc}
+use Rattle.xml_model.specs.contracts.node.Doc as the_doc
+use Rattle.xml_model.specs.Forest.{Forest}
+
+abbrev pub ChangeMap : Type 0
+ChangeMap = map.FinMap (slice_cmp nat_cmp) (Option Doc)
+
+abbrev pub no_changes : ChangeMap
+no_changes = map.empty
+
+-- the forest in which a name has this document, or none
+abbrev pub with_document : List ℕ → Option Doc → Forest → Forest
+with_document name (Some doc) F = map.insert F name doc
+with_document name None F = map.remove F name
+
+abbrev pub with_documents : List (List ℕ × Option Doc) → Forest → Forest
+with_documents [] F = F
+with_documents (e ∷ es) F = with_document e.0 e.1 (with_documents es F)
+
+-- the forest with the changes laid over it
+abbrev pub laid_over : ChangeMap → Forest → Forest
+laid_over changes F = with_documents (map.entries changes) F
+
+-- ---- how changes are kept: entries of texts and shared documents
+
+abbrev pub changes_code : Coded ChangeMap
+changes_code = map.code (coded_list coded_ℕ) (coded_option the_doc.the_row.coded)
+
+abbrev pub unshared : {Z : Type 0} → Option (Arc Doc Z) → Option Doc
+unshared None = None
+unshared (Some shared) = Some (arc_value shared)
+
+abbrev pub changes_of_entries : {A Z : Type 0} → List (String A × Option (Arc Doc Z)) → ChangeMap
+changes_of_entries es = map.from_entries (list_map (λ e. (string_bytes e.0, unshared e.1)) es)

@@ -1,0 +1,46 @@
+//! Answers.
+ghost use Rattle.std.specs.Prelude.{◌≡◌, [], Some, None, OnOk, OnErr};
+ghost use Rattle.session_core.specs.Answering.{IsRightAnswer};
+ghost use Rattle.session_core.specs.Kept.{with_event, past, Follows};
+ghost use Rattle.session_core.specs.States.{in_doubt};
+ghost use Rattle.session_core.specs.Transactions.{ran_by};
+ghost use Rattle.session_run.specs.Answers.{answered};
+ghost use Rattle.session_run.specs.Called.{AddsClosing};
+ghost use Rattle.session_run.specs.Tied.{StaysReady};
+
+use session_core::{Core, Reply, Says};
+use xq_ast::{Call, NoMemory};
+
+/// Adds a right answer.
+pub(crate) fn answer(
+    core: &mut Core,
+    session: u32,
+    call: Option<Call>,
+    says: Says,
+) -> Result<(), NoMemory>
+    requires right { IsRightAnswer core.old.base session (past core.old) call says }
+    requires follows { Follows (answered session call says) (past core.old) }
+    ensures ok { OnOk result (core.new ≡ with_event (answered session call says) core.old) }
+    ensures err { OnErr result (core.new ≡ core.old) }
+{
+    core.legal();
+    core.post(session, Reply { call, says })
+}
+
+/// Answers a call that changes nothing.
+pub(crate) fn answer_unchanged(
+    core: &mut Core,
+    session: u32,
+    call: Call,
+    says: Says,
+) -> Result<(), NoMemory>
+    requires right { IsRightAnswer core.old.base session (past core.old) (Some call) says }
+    requires follows { Follows (answered session (Some call) says) (past core.old) }
+    requires unchanged { ran_by (Some call) says ≡ [] }
+    requires settled { in_doubt (past core.old) ≡ None }
+    ensures closed { OnOk result (AddsClosing session call core.old core.new) }
+    ensures ready { OnOk result (StaysReady session core.old core.new) }
+    ensures err { OnErr result (core.new ≡ core.old) }
+{
+    answer(core, session, Some(call), says)
+}

@@ -1,0 +1,153 @@
+//! Statements in a transaction: their locks, their answers and their changes.
+ghost use Rattle.std.specs.Prelude.{◌≡◌, Some, None, IsTrue, OnOk, OnErr};
+ghost use Rattle.xml_model.specs.Needs.{needs as needs_of};
+ghost use Rattle.xml_model.specs.Statement.{is_statement};
+ghost use Rattle.session_core.specs.History.{last_of};
+ghost use Rattle.session_core.specs.Kept.{past};
+ghost use Rattle.session_core.specs.Refusals.{refused_in, work_of};
+ghost use Rattle.session_core.specs.States.{state as state_of, in_doubt, is_open, is_reading};
+ghost use Rattle.session_core.specs.Transactions.{newest};
+ghost use Rattle.session_run.specs.Called.{AddsClosing, ClosesRead, LeavesRead};
+ghost use Rattle.session_run.specs.Changes.{changes_of_entries};
+ghost use Rattle.session_run.specs.Effects.{IsEffect};
+ghost use Rattle.session_run.specs.Tied.{IsTied, IsReady};
+ghost use Rattle.session_core.specs.declared.event.Event.TheVariants as events;
+
+use crate::answering::{answer, answer_unchanged};
+use crate::changes::Changes;
+use crate::statement::{Effect, run};
+use doc_locks::AskEnd;
+use session_core::{Core, Says, State};
+use std::alloc::Global;
+use xml_model::needs;
+use xq_ast::{Call, Code, NoMemory};
+
+fn read(
+    alloc: Global,
+    core: &mut Core,
+    session: u32,
+    changes: &Changes,
+    call: Call,
+) -> Result<(), NoMemory>
+    requires ready { IsReady session (changes_of_entries changes.now.docs.entries) core.old }
+    requires reading { IsTrue (is_reading (state_of session (past core.old))) }
+    requires statement { IsTrue (is_statement call) }
+    requires passes { refused_in (state_of session (past core.old)) (work_of call) ≡ None }
+    ensures closed { OnOk result (AddsClosing session call core.old core.new) }
+    ensures ready { OnOk result (IsReady session (changes_of_entries changes.now.docs.entries) core.new) }
+    ensures err { OnErr result (core.new ≡ core.old) }
+{
+    match run(alloc, core.forest(session), changes, &call) {
+        Ok(effect) => answer(core, session, Some(call), effect.says),
+        Err(_) => answer_unchanged(core, session, call, Says::Error(Code::NoMemory)),
+    }
+}
+
+// Answers a statement, and keeps its change.
+fn keep(
+    core: &mut Core,
+    session: u32,
+    changes: &mut Changes,
+    call: Call,
+    effect: Effect,
+) -> Result<(), NoMemory>
+    requires effect { IsEffect call (changes_of_entries changes.old.docs.entries) (newest core.old.base (past core.old)) effect }
+    requires tied { IsTied core.old.base session (changes_of_entries changes.old.docs.entries) (past core.old) }
+    requires settled { in_doubt (past core.old) ≡ None }
+    requires updating { state_of session (past core.old) ≡ State.Updating }
+    requires granted { last_of session (past core.old) ≡ Some (events.Granted session (needs_of call)) }
+    requires statement { IsTrue (is_statement call) }
+    requires passes { refused_in State.Updating (work_of call) ≡ None }
+    ensures closed { OnOk result (AddsClosing session call core.old core.new) }
+    ensures ready { OnOk result (IsReady session (changes_of_entries changes.new.docs.entries) core.new) }
+    ensures err { OnErr result (core.new ≡ core.old) }
+    ensures same { OnErr result (changes.new.docs.entries ≡ changes.old.docs.entries) }
+{
+    if changes.reserve().is_err() {
+        return answer_unchanged(core, session, call, Says::Error(Code::NoMemory));
+    }
+    let Effect { says, change } = effect;
+    answer(core, session, Some(call), says)?;
+    if let Some(change) = change {
+        changes.put(change);
+    }
+    Ok(())
+}
+
+// Runs a statement whose locks were granted.
+fn run_granted(
+    alloc: Global,
+    core: &mut Core,
+    session: u32,
+    changes: &mut Changes,
+    call: Call,
+) -> Result<(), NoMemory>
+    requires tied { IsTied core.old.base session (changes_of_entries changes.old.docs.entries) (past core.old) }
+    requires settled { in_doubt (past core.old) ≡ None }
+    requires updating { state_of session (past core.old) ≡ State.Updating }
+    requires granted { last_of session (past core.old) ≡ Some (events.Granted session (needs_of call)) }
+    requires statement { IsTrue (is_statement call) }
+    requires passes { refused_in State.Updating (work_of call) ≡ None }
+    ensures closed { OnOk result (AddsClosing session call core.old core.new) }
+    ensures ready { OnOk result (IsReady session (changes_of_entries changes.new.docs.entries) core.new) }
+    ensures err { OnErr result (core.new ≡ core.old) }
+    ensures same { OnErr result (changes.new.docs.entries ≡ changes.old.docs.entries) }
+{
+    match run(alloc, core.forest(session), changes, &call) {
+        Ok(effect) => keep(core, session, changes, call, effect),
+        Err(_) => answer_unchanged(core, session, call, Says::Error(Code::NoMemory)),
+    }
+}
+
+// Asks for the locks of a statement, and runs it where they are granted.
+fn update(
+    alloc: Global,
+    core: &mut Core,
+    session: u32,
+    changes: &mut Changes,
+    call: Call,
+) -> Result<(), NoMemory>
+    requires ready { IsReady session (changes_of_entries changes.old.docs.entries) core.old }
+    requires updating { state_of session (past core.old) ≡ State.Updating }
+    requires statement { IsTrue (is_statement call) }
+    requires passes { refused_in State.Updating (work_of call) ≡ None }
+    ensures closed { OnOk result (ClosesRead session call core.old core.new) }
+    ensures ready { OnOk result (IsReady session (changes_of_entries changes.new.docs.entries) core.new) }
+    ensures err { OnErr result (LeavesRead session call core.old core.new) }
+    ensures same { OnErr result (changes.new.docs.entries ≡ changes.old.docs.entries) }
+{
+    let Ok(needed) = needs(alloc, &call) else {
+        return answer_unchanged(core, session, call, Says::Error(Code::NoMemory));
+    };
+    match core.ask(session, &needed) {
+        Ok(()) => run_granted(alloc, core, session, changes, call),
+        Err(AskEnd::Held { .. }) => Ok(()),
+        Err(AskEnd::NoMemory) => {
+            answer_unchanged(core, session, call, Says::Error(Code::NoMemory))
+        }
+    }
+}
+
+/// Runs a statement that the state lets pass.
+pub(crate) fn run_statement(
+    alloc: Global,
+    core: &mut Core,
+    session: u32,
+    changes: &mut Changes,
+    call: Call,
+) -> Result<(), NoMemory>
+    requires ready { IsReady session (changes_of_entries changes.old.docs.entries) core.old }
+    requires inside { IsTrue (is_open (state_of session (past core.old))) }
+    requires statement { IsTrue (is_statement call) }
+    requires passes { refused_in (state_of session (past core.old)) (work_of call) ≡ None }
+    ensures closed { OnOk result (ClosesRead session call core.old core.new) }
+    ensures ready { OnOk result (IsReady session (changes_of_entries changes.new.docs.entries) core.new) }
+    ensures err { OnErr result (LeavesRead session call core.old core.new) }
+    ensures same { OnErr result (changes.new.docs.entries ≡ changes.old.docs.entries) }
+{
+    if core.state(session) == State::Updating {
+        update(alloc, core, session, changes, call)
+    } else {
+        read(alloc, core, session, changes, call)
+    }
+}

@@ -1,0 +1,91 @@
+//! A call, by its text and its session's state.
+ghost use Rattle.std.specs.Prelude.{◌≡◌, ◌≢◌, None, OnOk, OnErr};
+ghost use Rattle.session_core.specs.Kept.{past};
+ghost use Rattle.session_core.specs.Refusals.{refused_in, work_of};
+ghost use Rattle.session_core.specs.declared.event.State.TheVariants as states;
+ghost use Rattle.session_core.specs.States.{state as state_of};
+ghost use Rattle.session_run.specs.Called.{ClosesRead, IsCalled, IsUnclosed, LeavesRead};
+ghost use Rattle.session_run.specs.Changes.{changes_of_entries};
+ghost use Rattle.session_run.specs.Tied.{IsReady};
+
+use crate::answering::{answer, answer_unchanged};
+use crate::changes::Changes;
+use crate::locking::run_statement;
+use crate::table::refusal;
+use crate::transaction::{begin, begin_read, finish};
+use session_core::{Core, Says};
+use std::alloc::Global;
+use xq_ast::{Call, CallText, NoMemory};
+use xq_parse::parse_call;
+
+// Runs a call that the state lets pass.
+fn run_passed(
+    alloc: Global,
+    core: &mut Core,
+    session: u32,
+    changes: &mut Changes,
+    call: Call,
+) -> Result<(), NoMemory>
+    requires ready { IsReady session (changes_of_entries changes.old.docs.entries) core.old }
+    requires certain { state_of session (past core.old) ≢ states.InDoubt }
+    requires passes { refused_in (state_of session (past core.old)) (work_of call) ≡ None }
+    ensures closed { OnOk result (ClosesRead session call core.old core.new) }
+    ensures ready { OnOk result (IsReady session (changes_of_entries changes.new.docs.entries) core.new) }
+    ensures err { OnErr result (LeavesRead session call core.old core.new) }
+    ensures same { OnErr result (changes.new.docs.entries ≡ changes.old.docs.entries) }
+{
+    match call {
+        Call::Begin => begin(core, session),
+        Call::BeginRead => begin_read(core, session),
+        Call::Commit => finish(alloc, core, session, changes),
+        Call::Rollback => {
+            core.roll_back(session);
+            changes.clear();
+            Ok(())
+        }
+        Call::Checkpoint => answer_unchanged(core, session, Call::Checkpoint, Says::Done),
+        statement => run_statement(alloc, core, session, changes, statement),
+    }
+}
+
+/// Runs a call by the session's state.
+pub(crate) fn run_call(
+    alloc: Global,
+    core: &mut Core,
+    session: u32,
+    changes: &mut Changes,
+    call: Call,
+) -> Result<(), NoMemory>
+    requires ready { IsReady session (changes_of_entries changes.old.docs.entries) core.old }
+    requires certain { state_of session (past core.old) ≢ states.InDoubt }
+    ensures closed { OnOk result (ClosesRead session call core.old core.new) }
+    ensures ready { OnOk result (IsReady session (changes_of_entries changes.new.docs.entries) core.new) }
+    ensures err { OnErr result (LeavesRead session call core.old core.new) }
+    ensures same { OnErr result (changes.new.docs.entries ≡ changes.old.docs.entries) }
+{
+    if let Some(code) = refusal(core.state(session), &call) {
+        return answer_unchanged(core, session, call, Says::Error(code));
+    }
+    run_passed(alloc, core, session, changes, call)
+}
+
+/// Reads a call's text and runs the call.
+pub(crate) fn run_text(
+    alloc: Global,
+    core: &mut Core,
+    session: u32,
+    changes: &mut Changes,
+    text: &CallText,
+) -> Result<(), NoMemory>
+    requires ready { IsReady session (changes_of_entries changes.old.docs.entries) core.old }
+    ensures closed { OnOk result (IsCalled session text.now core.old core.new) }
+    ensures ready { OnOk result (IsReady session (changes_of_entries changes.new.docs.entries) core.new) }
+    ensures err { OnErr result (IsUnclosed session text.now core.old core.new) }
+    ensures same { OnErr result (changes.new.docs.entries ≡ changes.old.docs.entries) }
+{
+    core.legal();
+    match parse_call(alloc, text) {
+        Ok(call) => run_call(alloc, core, session, changes, call),
+        Err(end) => answer(core, session, None, Says::Error(end.code())),
+    }
+}

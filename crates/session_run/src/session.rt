@@ -1,0 +1,91 @@
+//! A session and its calls.
+ghost use Rattle.std.specs.Prelude.{◌≡◌, ◌≢◌, ℕ, false, None, IsTrue, OnOk, OnErr};
+ghost use Rattle.session_core.specs.declared.event.Event.TheVariants as events;
+ghost use Rattle.session_core.specs.Kept.{with_event, past};
+ghost use Rattle.session_core.specs.States.{state as state_of, is_open};
+ghost use Rattle.session_run.specs.Called.{IsCalled, IsUnclosed, IsUntouched};
+ghost use Rattle.session_run.specs.Changes.{no_changes, changes_of_entries};
+ghost use Rattle.session_run.specs.Tied.{IsReady};
+
+use crate::changes::Changes;
+use crate::running::run_text;
+use session_core::{Core, State};
+use std::alloc::Global;
+use std::marker::Model;
+use xq_ast::{CallText, NoMemory};
+
+/// One session: its number and the changes of its open transaction.
+#[derive(Drop)]
+pub struct Session {
+    alloc: Global,
+    number: u32,
+    changes: Changes,
+}
+
+impl Model for Session {
+    ghost use Rattle.session_run.specs.Sessions.{Seat, seat_code, seat_of};
+    ghost use Rattle.session_run.specs.Changes.{changes_of_entries};
+
+    ghost Value = { Seat };
+
+    ghost coded = { seat_code };
+
+    ghost view = { λ s. seat_of s.number (changes_of_entries s.changes.docs.entries) };
+}
+
+impl Session {
+    ghost use Rattle.session_run.specs.Sessions.{seat_of};
+
+    /// A session that has made no call. Takes no memory.
+    pub fn of(alloc: Global, number: u32) -> Session
+        ensures { result ≡ seat_of number no_changes }
+    {
+        Session {
+            alloc,
+            number,
+            changes: Changes::new(alloc),
+        }
+    }
+
+    /// The session's number.
+    pub fn number(&self) -> u32
+        ensures { result ≡ self.now.number }
+    {
+        self.number
+    }
+
+    /// Makes one call, whose events are added to the journal. `NoMemory` says that the call is not
+    /// closed.
+    pub fn call_on(&mut self, core: &mut Core, call: &CallText) -> Result<(), NoMemory>
+        requires { IsReady self.old.number self.old.changes core.old }
+        ensures ok { OnOk result (IsCalled self.old.number call.now core.old core.new) }
+        ensures ready { OnOk result (IsReady self.new.number self.new.changes core.new) }
+        ensures others { (t : ℕ) → t ≢ self.old.number → IsUntouched t core.old core.new }
+        ensures number { self.new.number ≡ self.old.number }
+        ensures err { OnErr result (IsUnclosed self.old.number call.now core.old core.new) }
+        ensures same { OnErr result (self.new ≡ self.old) }
+    {
+        let called = run_text(self.alloc, core, self.number, &mut self.changes, call);
+        core.legal();
+        called
+    }
+
+    /// The session's script has ended: an open transaction is rolled back. Takes no memory.
+    pub fn leave_on(&mut self, core: &mut Core)
+        requires { IsReady self.old.number self.old.changes core.old }
+        ensures left { IsTrue (is_open (state_of self.old.number (past core.old))) → core.new ≡ with_event (events.Left self.old.number) core.old }
+        ensures closed { is_open (state_of self.old.number (past core.old)) ≡ false → core.new ≡ core.old }
+        ensures ready { IsReady self.new.number self.new.changes core.new }
+        ensures others { (t : ℕ) → t ≢ self.old.number → IsUntouched t core.old core.new }
+        ensures number { self.new.number ≡ self.old.number }
+    {
+        match core.state(self.number) {
+            State::Updating | State::Reading(_) => {
+                core.left(self.number);
+                self.changes.clear();
+            }
+            State::Idle | State::InDoubt => {}
+        }
+        core.legal();
+    }
+}

@@ -1,0 +1,195 @@
+//! One statement over the documents that a session sees.
+ghost use Rattle.std.specs.Prelude.{◌≡◌, IfOk, map as list_map, ◌∷◌, length, nat_lt, None};
+ghost use Rattle.xml_model.specs.Statement.{answer_of};
+ghost use Rattle.xml_model.specs.Pyx.{read, text_of};
+ghost use Rattle.session_core.specs.Transactions.{says_of};
+ghost use Rattle.session_run.specs.Changes.{changes_of_entries};
+ghost use Rattle.session_run.specs.Effects.{IsEffect, IsPut, Spells};
+
+use crate::changes::{Change, Changes};
+use pyx_text::{PyxFault, PyxReader, lines_of};
+use session_core::Says;
+use std::alloc::Global;
+use std::sync::Arc;
+use xml_model::{Doc, DocMap, REPLY_BYTES_MAX};
+use xq_ast::{Call, Code, Items, NoMemory, Sequence, Str, StrList};
+
+/// What a statement says, and the change that it makes, if any.
+#[derive(Drop)]
+pub(crate) struct Effect {
+    pub says: Says,
+    pub change: Option<Change>,
+}
+
+fn refused(code: Code) -> Effect
+    ensures says { result.says ≡ Says.Error code }
+    ensures change { result.change ≡ None }
+{
+    Effect {
+        says: Says::Error(code),
+        change: None,
+    }
+}
+
+// Whether the lines with their newlines have more bytes than an answer may have.
+fn is_too_long(lines: &StrList) -> bool
+    ensures { result ≡ nat_lt REPLY_BYTES_MAX (length (text_of lines.now)) }
+{
+    let mut room = REPLY_BYTES_MAX;
+    for line in lines.as_slice() {
+        let bytes = line.len() as u64;
+        if bytes >= room {
+            return true;
+        }
+        room -= bytes + 1;
+    }
+    false
+}
+
+fn answer_with(lines: StrList) -> Says
+    ensures { result ≡ says_of (answer_of lines) }
+{
+    if is_too_long(&lines) {
+        Says::Error(Code::ReplyTooLong)
+    } else {
+        Says::Lines(lines)
+    }
+}
+
+fn read_lines(alloc: Global, lines: &StrList) -> Result<Doc, PyxFault>
+    ensures { Spells result (read lines.now) }
+{
+    let mut reader = PyxReader::new(alloc);
+    for line in lines.as_slice() {
+        if let Err(fault) = reader.line(line) {
+            return Err(fault);
+        }
+    }
+    reader.end()
+}
+
+// The name gets a document.
+fn put(alloc: Global, name: &Str, doc: Doc) -> Result<Effect, NoMemory>
+    ensures { IfOk result (IsPut name.now doc) }
+{
+    let after = Arc::new(alloc, doc)?;
+    Ok(Effect {
+        says: Says::Done,
+        change: Some(Change {
+            name: name.copy()?,
+            after: Some(after),
+        }),
+    })
+}
+
+fn create(alloc: Global, base: &DocMap, changes: &Changes, name: &Str) -> Result<Effect, NoMemory>
+    ensures { IfOk result (IsEffect (Call.Create name.now) (changes_of_entries changes.now.docs.entries) base.now) }
+{
+    match changes.seen(base, name) {
+        Some(_) => Ok(refused(Code::Exists)),
+        None => put(
+            alloc,
+            name,
+            Doc {
+                kids: Items::new(alloc),
+            },
+        ),
+    }
+}
+
+fn load(
+    alloc: Global,
+    base: &DocMap,
+    changes: &Changes,
+    name: &Str,
+    lines: &StrList,
+) -> Result<Effect, NoMemory>
+    ensures { IfOk result (IsEffect (Call.Load name.now lines.now) (changes_of_entries changes.now.docs.entries) base.now) }
+{
+    match changes.seen(base, name) {
+        Some(_) => Ok(refused(Code::Exists)),
+        None => match read_lines(alloc, lines) {
+            Ok(doc) => put(alloc, name, doc),
+            Err(PyxFault::Refused(line)) => Ok(refused(Code::Pyx {
+                why: line.why,
+                line: line.line,
+            })),
+            Err(PyxFault::NoMemory) => Err(NoMemory),
+        },
+    }
+}
+
+fn take_away(base: &DocMap, changes: &Changes, name: &Str) -> Result<Effect, NoMemory>
+    ensures { IfOk result (IsEffect (Call.Drop name.now) (changes_of_entries changes.now.docs.entries) base.now) }
+{
+    match changes.seen(base, name) {
+        Some(_) => Ok(Effect {
+            says: Says::Done,
+            change: Some(Change {
+                name: name.copy()?,
+                after: None,
+            }),
+        }),
+        None => Ok(refused(Code::FODC0002)),
+    }
+}
+
+fn export(alloc: Global, base: &DocMap, changes: &Changes, name: &Str) -> Result<Effect, NoMemory>
+    ensures { IfOk result (IsEffect (Call.Export name.now) (changes_of_entries changes.now.docs.entries) base.now) }
+{
+    match changes.seen(base, name) {
+        Some(doc) => Ok(Effect {
+            says: answer_with(lines_of(alloc, doc)?),
+            change: None,
+        }),
+        None => Ok(refused(Code::FODC0002)),
+    }
+}
+
+// A mark before each name.
+fn marked(alloc: Global, names: &StrList) -> Result<StrList, NoMemory>
+    ensures { IfOk result (λ lines. lines ≡ list_map (λ name. 61 ∷ name) names.now) }
+{
+    let mut lines = Sequence::new(alloc);
+    for name in names.as_slice() {
+        let mut line = Str::of(alloc, "=")?;
+        line.push_str(name.as_str())?;
+        lines.push(line)?;
+    }
+    Ok(lines)
+}
+
+fn show(alloc: Global, base: &DocMap, changes: &Changes) -> Result<Effect, NoMemory>
+    ensures { IfOk result (IsEffect Call.ShowDocuments (changes_of_entries changes.now.docs.entries) base.now) }
+{
+    let names = changes.laid_over(alloc, base)?.names()?;
+    Ok(Effect {
+        says: answer_with(marked(alloc, &names)?),
+        change: None,
+    })
+}
+
+/// What the call says over these documents with the changes laid over them, and what it changes.
+/// A call that is no statement is done and changes nothing.
+pub(crate) fn run(
+    alloc: Global,
+    base: &DocMap,
+    changes: &Changes,
+    call: &Call,
+) -> Result<Effect, NoMemory>
+    ensures { IfOk result (IsEffect call.now (changes_of_entries changes.now.docs.entries) base.now) }
+{
+    match call {
+        Call::Create { name } => create(alloc, base, changes, name),
+        Call::Load { name, pyx } => load(alloc, base, changes, name, pyx),
+        Call::Drop { name } => take_away(base, changes, name),
+        Call::Export { name } => export(alloc, base, changes, name),
+        Call::ShowDocuments => show(alloc, base, changes),
+        Call::Begin | Call::BeginRead | Call::Commit | Call::Rollback | Call::Checkpoint => {
+            Ok(Effect {
+                says: Says::Done,
+                change: None,
+            })
+        }
+    }
+}

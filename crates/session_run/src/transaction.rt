@@ -1,0 +1,112 @@
+//! Calls that begin and end a transaction.
+ghost use Rattle.std.specs.Prelude.{◌≡◌, None, IsTrue, OnOk, OnErr};
+ghost use Rattle.session_core.specs.Kept.{with_event, past, next_number, HasCommitLeft};
+ghost use Rattle.session_core.specs.States.{state as state_of, in_doubt, is_open};
+ghost use Rattle.session_run.specs.Called.{AddsClosing};
+ghost use Rattle.session_run.specs.Changes.{changes_of_entries};
+ghost use Rattle.session_run.specs.Tied.{IsBetweenCalls, IsReady, StaysReady};
+ghost use Rattle.session_core.specs.declared.event.Event.TheVariants as events;
+
+use crate::answering::answer_unchanged;
+use crate::changes::Changes;
+use session_core::{Core, Says, State};
+use std::alloc::Global;
+use xq_ast::{Call, Code, NoMemory, SpentKind};
+
+/// BEGIN: an updating transaction.
+pub(crate) fn begin(core: &mut Core, session: u32) -> Result<(), NoMemory>
+    requires idle { state_of session (past core.old) ≡ State.Idle }
+    requires between { IsBetweenCalls session (past core.old) }
+    requires settled { in_doubt (past core.old) ≡ None }
+    ensures closed { OnOk result (AddsClosing session Call.Begin core.old core.new) }
+    ensures ready { OnOk result (StaysReady session core.old core.new) }
+    ensures err { OnErr result (core.new ≡ core.old) }
+{
+    match core.begin_update(session) {
+        Ok(()) => Ok(()),
+        Err(_) => answer_unchanged(core, session, Call::Begin, Says::Error(Code::NoMemory)),
+    }
+}
+
+/// BEGIN READ-ONLY.
+pub(crate) fn begin_read(core: &mut Core, session: u32) -> Result<(), NoMemory>
+    requires idle { state_of session (past core.old) ≡ State.Idle }
+    requires between { IsBetweenCalls session (past core.old) }
+    requires settled { in_doubt (past core.old) ≡ None }
+    ensures closed { OnOk result (AddsClosing session Call.BeginRead core.old core.new) }
+    ensures ready { OnOk result (StaysReady session core.old core.new) }
+    ensures err { OnErr result (core.new ≡ core.old) }
+{
+    match core.begin_read(session) {
+        Ok(_) => Ok(()),
+        Err(_) => answer_unchanged(core, session, Call::BeginRead, Says::Error(Code::NoMemory)),
+    }
+}
+
+// Commits the newest documents with the changes laid over them.
+fn commit_changes(
+    alloc: Global,
+    core: &mut Core,
+    session: u32,
+    changes: &Changes,
+) -> Result<(), NoMemory>
+    requires ready { IsReady session (changes_of_entries changes.now.docs.entries) core.old }
+    requires updating { state_of session (past core.old) ≡ State.Updating }
+    requires left { HasCommitLeft core.old.base (past core.old) }
+    ensures ok { OnOk result (core.new ≡ with_event (events.Committed session (next_number core.old.base (past core.old))) core.old) }
+    ensures err { OnErr result (core.new ≡ core.old) }
+{
+    let docs = changes.laid_over(alloc, core.forest(session))?;
+    core.commit(session, docs)?;
+    Ok(())
+}
+
+fn commit(
+    alloc: Global,
+    core: &mut Core,
+    session: u32,
+    changes: &mut Changes,
+) -> Result<(), NoMemory>
+    requires ready { IsReady session (changes_of_entries changes.old.docs.entries) core.old }
+    requires updating { state_of session (past core.old) ≡ State.Updating }
+    ensures closed { OnOk result (AddsClosing session Call.Commit core.old core.new) }
+    ensures ready { OnOk result (IsReady session (changes_of_entries changes.new.docs.entries) core.new) }
+    ensures err { OnErr result (core.new ≡ core.old) }
+    ensures same { OnErr result (changes.new.docs.entries ≡ changes.old.docs.entries) }
+{
+    if core.newest() == u64::MAX {
+        let spent = Code::Spent {
+            kind: SpentKind::Commit,
+            number: u64::MAX,
+        };
+        return answer_unchanged(core, session, Call::Commit, Says::Error(spent));
+    }
+    match commit_changes(alloc, core, session, changes) {
+        Ok(()) => {
+            changes.clear();
+            Ok(())
+        }
+        Err(_) => answer_unchanged(core, session, Call::Commit, Says::Error(Code::NoMemory)),
+    }
+}
+
+/// Ends the transaction by COMMIT.
+pub(crate) fn finish(
+    alloc: Global,
+    core: &mut Core,
+    session: u32,
+    changes: &mut Changes,
+) -> Result<(), NoMemory>
+    requires ready { IsReady session (changes_of_entries changes.old.docs.entries) core.old }
+    requires inside { IsTrue (is_open (state_of session (past core.old))) }
+    ensures closed { OnOk result (AddsClosing session Call.Commit core.old core.new) }
+    ensures ready { OnOk result (IsReady session (changes_of_entries changes.new.docs.entries) core.new) }
+    ensures err { OnErr result (core.new ≡ core.old) }
+    ensures same { OnErr result (changes.new.docs.entries ≡ changes.old.docs.entries) }
+{
+    if core.state(session) == State::Updating {
+        return commit(alloc, core, session, changes);
+    }
+    core.end_read(session);
+    Ok(())
+}
