@@ -1,22 +1,16 @@
 //! The program `xdb`: `xdb FOLDER WORDS`.
 //!
-//! `tool` does what the words say over any source and sink, and its contract says what comes of it:
-//! with status 0 the canonical text of the document that the input spells is written; each other status
-//! comes exactly where the contract says. `main` passes it the words, standard input and standard output.
+//! `main` passes the words behind the folder, standard input and standard output to `tool` of `xdb_top`, whose contract
+//! says what comes of them, writes the fault to standard error where there is one, and ends with the status.
 #![tactic(auto)]
 
-mod fault;
-mod input;
-#[cfg(test)]
-mod tests;
-mod tool;
-
 use byte_edge::{StdSink, StdSource};
-use fault::TopFault;
+use clap::{Arg, ArgAction, Command};
+use std::alloc::{AllocError, Global};
 use std::env;
 use std::io::ErrorKind;
 use std::process::ExitCode;
-use tool::{TopEnd, end_of, tool};
+use xdb_top::{TopEnd, TopFault, end_of, tool};
 
 /// The words behind the folder. A word that is not UTF-8 makes a faulty command line.
 fn words_of(rt: &HostRuntime) -> Result<Vec<String>, TopFault> {
@@ -38,14 +32,34 @@ fn run(rt: &HostRuntime) -> TopEnd {
             let mut sink = StdSink::of(rt.stdout());
             tool(rt.alloc(), &words, &mut source, &mut sink)
         }
-        Err(fault) => end_of(Some(fault)),
+        Err(fault) => end_of(rt.alloc(), Some(fault)),
+    }
+}
+
+/// How the program is called.
+fn usage(alloc: Global) -> Result<String, AllocError> {
+    let folder = Arg::new(alloc, "FOLDER").action(ArgAction::Set);
+    let words = Arg::new(alloc, "WORDS").action(ArgAction::Append);
+    Command::new(alloc, "xdb")
+        .arg(folder)?
+        .arg(words)?
+        .render_usage()
+}
+
+/// Writes the fault to standard error and, where the words are no command, how the program is called.
+fn complain(rt: &HostRuntime, fault: TopFault) {
+    let _ = eprintln!(rt; "xdb: {fault}");
+    if fault == TopFault::BadWords
+        && let Ok(text) = usage(rt.alloc())
+    {
+        let _ = eprintln!(rt; "{text}");
     }
 }
 
 fn main(rt: HostRuntime) -> ExitCode {
     let end = run(&rt);
     if let Some(fault) = end.fault {
-        let _ = eprintln!(rt; "xdb: {fault}");
+        complain(&rt, fault);
     }
     ExitCode::from(end.status)
 }

@@ -1,4 +1,0 @@
-pub mod Input
-pub mod Ends
-pub mod Tool
-pub mod Parts

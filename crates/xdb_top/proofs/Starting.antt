@@ -1,0 +1,54 @@
+-- The seats before any call, and what an empty journal is.
+use Rattle.std.proofs.Common.{◌≡◌, ◌≢◌, ℕ, zero, suc, ◌+◌, ◌<◌, ◌≤◌, ◌⊎◌, inl, inr, eqb, true, false, true≢false, List, [], ◌∷◌, ◌++◌, length, slice_get, get_or, None, Some, refl, sym, ap, subst, ◌∙◌, arith, length-append}
+use Rattle.std.proofs.lemmas.Option.{slice_get_within, slice_get-get_or, get_or_from_slice_get}
+use Rattle.std.proofs.lemmas.List.{get_or_push, get_or_append_left}
+use Rattle.std.proofs.lemmas.Bool.Decides.{eqb_tells}
+use Rattle.session_core.specs.Closes.{Scripts}
+use Rattle.session_core.specs.Kept.{Kept, past}
+use Rattle.session_run.specs.Changes.{no_changes}
+use Rattle.session_run.specs.Sessions.{seat_of}
+use Rattle.script_text.specs.declared.session_calls.Script.{Script}
+use Rattle.xdb_top.specs.declared.play.Seat.{Seat}
+use Rattle.xdb_top.specs.Turns.{one_by_one}
+use Rattle.xdb_top.specs.Played.{IsPlayed}
+use Rattle.xdb_top.specs.Playing.{IsSeated, IsPlaying, HasPlayed, AreNewSeats, start_kept, IsPlayedWhole}
+
+abbrev pub new_seat : ℕ → Seat
+new_seat i = record { session = seat_of (i + 1) no_changes; made = 0 }
+
+pub no_seats : (seats : List Seat) → seats ≡ [] → AreNewSeats 0 seats
+no_seats seats none = subst (AreNewSeats 0) (sym none) (record { as_many = refl; each = λ i seat got. absurd (let out = slice_get_within [] i seat got in omega (arith, out)) })
+
+pub one_seat_more : (n : ℕ) (seats : List Seat) → AreNewSeats n seats → AreNewSeats (n + 1) (seats ++ new_seat n ∷ [])
+one_seat_more n seats are = record {
+  as_many = length-append seats (new_seat n ∷ []) ∙ omega (arith, are.as_many);
+  each = λ i seat got. by_place i seat got (eqb_tells i n);
+}
+  where
+    by_place : (i : ℕ) (seat : Seat) → slice_get (seats ++ new_seat n ∷ []) i ≡ Some seat → ((eqb i n ≡ true) × (i ≡ n)) ⊎ ((eqb i n ≡ false) × (i ≢ n))
+        → (seat.session ≡ seat_of (i + 1) no_changes) × (seat.made ≡ 0)
+    by_place i seat got (inl (test, same)) =
+        let last : seat ≡ new_seat n = sym (get_or_from_slice_get (seats ++ new_seat n ∷ []) i seat seat got) ∙ get_or_push seats (new_seat n) seat i (are.as_many ∙ sym same) in
+        (ap (λ s. s.session) last ∙ ap (λ k. seat_of (k + 1) no_changes) (sym same), ap (λ s. s.made) last)
+    by_place i seat got (inr (test, other)) =
+        let below = slice_get_within (seats ++ new_seat n ∷ []) i seat got in
+        let within : i < length seats = omega (arith, below, length-append seats (new_seat n ∷ []), are.as_many, other) in
+        are.each i seat (slice_get-get_or seats i seat within ∙ ap Some (sym (get_or_append_left seats (new_seat n ∷ []) seat i within) ∙ get_or_from_slice_get (seats ++ new_seat n ∷ []) i seat seat got))
+
+pub nothing_played_yet : (P : Scripts) → IsPlayed P []
+nothing_played_yet P = record { closes = tt; texts = tt; leaves = tt; stays = λ s has. absurd (true≢false (sym has)); ends = λ s all. refl }
+
+pub starts : (P : Scripts) (seats : List Seat) → AreNewSeats (length P) seats → IsPlaying P start_kept seats
+starts P seats are = record {
+  base = refl;
+  played = nothing_played_yet P;
+  as_many = are.as_many;
+  seated = λ i seat got. record {
+    number = ap (λ s. s.number) (are.each i seat got).0;
+    made = (are.each i seat got).1;
+    ready = record { tied = ap (λ s. s.changes) (are.each i seat got).0; between = tt; settled = refl };
+  };
+}
+
+pub whole : (script : Script) (k : Kept) (seats : List Seat) → HasPlayed script.sessions (script.order ++ one_by_one 1 script.sessions) start_kept k seats → IsPlayedWhole script k
+whole script k seats played = record { base = played.playing.base; played = played.playing.played; in_turn = played.turns }

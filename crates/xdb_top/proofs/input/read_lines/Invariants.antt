@@ -1,0 +1,11 @@
+use Rattle.std.proofs.Common.{◌≡◌, length, IsOk}
+use denote.Text.{Utf8}
+use denote.Shadow.{shadow}
+use Rattle.xml_model.specs.Pyx.{after, split_lines, ◌>>=◌}
+use Rattle.xdb_top.proofs.input.read_lines.Given as goal
+
+abbrev pub invariant-loop-first : goal.invariant-loop-first
+invariant-loop-first l = shadow (Utf8 l.rest) × IsOk l.reader × ((l.reader >>= after (split_lines l.rest)) ≡ (l.initial.reader >>= after (split_lines l.text)))
+
+abbrev pub decreases-loop-first : goal.decreases-loop-first
+decreases-loop-first l = length l.rest

@@ -1,0 +1,6 @@
+use Rattle.std.proofs.Common.{take}
+use Rattle.xdb_top.specs.Playing.{HasPlayed}
+use Rattle.xdb_top.proofs.play.play_order.Given as goal
+
+abbrev pub invariant-loop-number : goal.invariant-loop-number
+invariant-loop-number l = HasPlayed l.sessions (take l.number-index l.order) l.initial.core l.core l.seats

@@ -1,0 +1,7 @@
+pub mod Input
+pub mod Ends
+pub mod Turns
+pub mod Played
+pub mod Playing
+pub mod Tool
+pub mod Parts

@@ -1,0 +1,21 @@
+//! The tool's commands over any source and sink.
+//!
+//! `tool` does what the words say, and its contract says what comes of it, whatever source and sink are:
+//! each status comes exactly where the contract says. `pyx` writes the canonical text of the document that
+//! the input spells. `play` runs the calls of a script in the stated order over documents in memory and writes
+//! the journal, which is one legal history of the script's sessions. Nothing is written with a status
+//! other than 0, but a prefix with 5.
+#![tactic(auto)]
+
+mod command;
+mod commands;
+mod fault;
+mod input;
+mod laws;
+mod play;
+#[cfg(test)]
+mod tests;
+
+pub use commands::{TopEnd, end_of, tool};
+pub use fault::{INPUT_BYTES_MAX, InputFault, InputRefusal, TopFault};
+pub use laws::{all_calls_have_their_turn, played_scripts_are_legal};
