@@ -1,35 +1,12 @@
 -- How the answers of a call's parts make up its own.
-use Rattle.std.proofs.Common.{◌≡◌, ℕ, inr, Option, Some, None, Result, Ok, Err, sym, subst}
+use Rattle.std.proofs.Common.{◌≡◌, ℕ, Option, Some, None, Ok}
 use Rattle.page_bytes.specs.declared.end.PageEnd.{PageEnd}
-use Rattle.page_bytes.specs.declared.end.PageEnd.TheVariants.{NoMemory}
 use Rattle.page_bytes.specs.declared.ids.Space.{Space}
 use Rattle.page_bytes.specs.Refusal.{fresh_refusal}
-use Rattle.page_bytes.specs.Work.{Work}
-use Rattle.indirection.specs.Writing.{next_in, with_new}
-use Rattle.indirection.specs.Adding.{unless, new_in}
-use Rattle.indirection.specs.Reading.{and_then}
-use Rattle.indirection.specs.Answers.{Answers}
-
--- a value was asked for where one was given
-pub answered : {X : Type 0} (s : Result (X × Work) PageEnd) (x : X) (w : Work) → Answers s (Ok x) w → s ≡ Ok (x, w)
-answered (Ok p) x w is = λ i. Ok (sym is.0 i, sym is.1 i)
-answered (Err e) x w is = absurd is
-
--- want of memory may always be answered
-pub spent : {X : Type 0} (s : Result (X × Work) PageEnd) (e : PageEnd) (w : Work) → e ≡ NoMemory → Answers s (Err e) w
-spent (Ok p) e w is = is
-spent (Err end) e w is = inr is
-
--- a refusal stays
-pub refused : {X Y : Type 0} (s : Result (X × Work) PageEnd) (f : X × Work → Result (Y × Work) PageEnd) (e : PageEnd) (w w' : Work)
-    → Answers s (Err e) w → Answers (and_then s f) (Err e) w'
-refused (Ok p) f e w w' is = spent (f p) e w' is
-refused (Err end) f e w w' is = is
-
--- and a value is gone on with
-pub went_on : {X Y : Type 0} (s : Result (X × Work) PageEnd) (f : X × Work → Result (Y × Work) PageEnd) (x : X) (w : Work) (r : Result Y PageEnd) (w' : Work)
-    → Answers s (Ok x) w → Answers (f (x, w)) r w' → Answers (and_then s f) r w'
-went_on s f x w r w' is more = subst (λ t. Answers (and_then t f) r w') (sym (answered s x w is)) more
+use Rattle.page_bytes.specs.Work.{Work, next_in}
+use Rattle.indirection.specs.Writing.{with_new}
+use Rattle.page_bytes.specs.Answers.{unless, Answers}
+use Rattle.indirection.specs.Adding.{new_in}
 
 unless_answered : {X : Type 0} (refusal : Option PageEnd) (p : X × Work) (x : X) (w : Work) → Answers (unless refusal p) (Ok x) w → w ≡ p.1
 unless_answered (Some e) p x w is = absurd is

@@ -11,9 +11,10 @@ use Rattle.page_bytes.specs.PageNumber.{page_number}
 use Rattle.page_bytes.specs.Known.{is_there}
 use Rattle.page_bytes.specs.Work.{Work}
 use Rattle.indirection.specs.Forms.{leaf_index, entry_index, first_free, highest}
-use Rattle.indirection.specs.Reading.{page_of}
+use Rattle.page_bytes.specs.Links.{page_in}
 use Rattle.indirection.specs.Writing.{with_number, with_entry_in}
-use Rattle.indirection.specs.Meaning.{seen, bytes, leaf_number, IsTable, page_at, place_at, leaf_count, directory_count, NodeNumbers, is_listed, EntryMeans, IsFreeList, MeansNumbers, with_address, without_number}
+use Rattle.page_bytes.specs.Seen.{seen, bytes}
+use Rattle.indirection.specs.Meaning.{leaf_number, IsTable, page_at, place_at, leaf_count, directory_count, NodeNumbers, is_listed, EntryMeans, IsFreeList, MeansNumbers, with_address, without_number}
 use Rattle.indirection.proofs.Meanings.{get-with, get-without, page_at-written, place_at-written, page_at-kept, place_at-kept, IsFreeList-kept, means_after}
 use Rattle.indirection.proofs.Writings.{entered_table, entered_stays, entered_writes, entered_head, headed_table, headed_field, headed_written, headed_page, headed_place}
 
@@ -52,7 +53,7 @@ means_address to there listed page place some free number at page_small at_small
     subst (λ (e : Option Addr × ℕ × ℕ). EntryMeans e.0 listed e.1 e.2) (λ i. (sym some i, sym number i, sym at i)) fields
 
 module _ (w : Work) (all : PageId → Option (List ℕ)) (space : Space) (m : NodeNumbers) (means : MeansNumbers (seen w.now all space) m)
-    (h : ℕ) (positive : 0 < h) (inside : h ≤ m.highest) (there : IsTrue (is_there w.now (page_of space (leaf_number (seen w.now all space) (leaf_index h))))) where
+    (h : ℕ) (positive : 0 < h) (inside : h ≤ m.highest) (there : IsTrue (is_there w.now (page_in space (leaf_number (seen w.now all space) (leaf_index h))))) where
   abbrev leaves : ℕ
   leaves = leaf_count m.highest
 
@@ -138,7 +139,7 @@ module _ (w : Work) (all : PageId → Option (List ℕ)) (space : Space) (m : No
         (written_free (page_number to) to.at (first_free (bytes (seen w.now all space) 0)) m.free entry_was.3 (λ x listed. listed) means.free))
 
     -- the number is free, and the first that is given again
-    pub means_removed : IsTrue (is_there (with_entry_in w space (leaf_number (seen w.now all space) (leaf_index h)) (entry_index h) 0 (first_free (bytes (seen w.now all space) 0))).now (page_of space 0))
+    pub means_removed : IsTrue (is_there (with_entry_in w space (leaf_number (seen w.now all space) (leaf_index h)) (entry_index h) 0 (first_free (bytes (seen w.now all space) 0))).now (page_in space 0))
         → first_free (bytes (seen w.now all space) 0) < 256 ^ 4
         → MeansNumbers (seen (with_number 4 (with_entry_in w space (leaf_number (seen w.now all space) (leaf_index h)) (entry_index h) 0 (first_free (bytes (seen w.now all space) 0))) space 0 34 h).now all space) (without_number m h)
     means_removed head_there small =

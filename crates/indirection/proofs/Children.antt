@@ -5,22 +5,25 @@ use Rattle.page_bytes.specs.declared.ids.PageId.{PageId}
 use Rattle.page_bytes.specs.Fields.{field, with_field}
 use Rattle.page_bytes.specs.Head.{next_page, LAST_PAGE}
 use Rattle.page_bytes.specs.Known.{is_there}
-use Rattle.page_bytes.specs.Work.{Work, with_fresh}
+use Rattle.page_bytes.specs.Work.{Work, with_fresh, next_in}
 use Rattle.page_bytes.proofs.FieldLaws.{field-written}
 use Rattle.indirection.specs.Forms.{LEAF_KIND, DIRECTORY_KIND, root, link, link_at}
-use Rattle.indirection.specs.Reading.{page_of}
-use Rattle.indirection.specs.Writing.{next_in, with_new, with_child}
-use Rattle.indirection.specs.Meaning.{seen, bytes, IsPage, IsNumbered, root_number, directory_number, leaf_number, IsTable}
-use Rattle.indirection.proofs.Fields.{order, length-with_field, field_apart, kind_kept}
-use Rattle.indirection.proofs.Pages.{there_with_page, written_there, there_with_new}
-use Rattle.indirection.proofs.Seen.{seen-written, seen-beside, seen-first}
+use Rattle.page_bytes.specs.Links.{page_in}
+use Rattle.indirection.specs.Writing.{with_new, with_child}
+use Rattle.page_bytes.specs.Seen.{seen, bytes}
+use Rattle.indirection.specs.Meaning.{IsPage, IsNumbered, root_number, directory_number, leaf_number, IsTable}
+use Rattle.indirection.proofs.Entries.{order}
+use Rattle.page_bytes.proofs.WrittenFields.{length-with_field, field_apart, kind_kept}
+use Rattle.page_bytes.proofs.PageWrites.{there_with_page, written_there}
+use Rattle.indirection.proofs.NewKinds.{there_with_new}
+use Rattle.page_bytes.proofs.SeenPages.{seen-written, seen-beside, seen-first}
 use Rattle.indirection.proofs.Steps.{Keeping, MakesPage, IsBeside, IsTable-kept, directory_stays, leaf_stays, new_beside, page_made, leaves_beside, root_linked, LinksDirectory, directory_linked, head_same, root_same, leaf_bytes_same, new_directory, LinksLeaf, leaf_linked, new_leaf, head_as_before, leaf_bytes_as_before}
 use Rattle.indirection.proofs.NewPages.{made, made_field}
 
 -- a workspace in which the table stands, with the leaves and the fields of the head that it began with
 pub record Stands (all : PageId → Option (List ℕ)) (space : Space) (begun : ℕ → Option (List ℕ)) (old : ℕ) (w : Work) (roots directories leaves : ℕ) : Type 0 where
   pub table : IsTable (seen w.now all space) roots directories leaves
-  pub there : IsTrue (is_there w.now (page_of space 0))
+  pub there : IsTrue (is_there w.now (page_in space 0))
   pub fields : (n to : ℕ) → 26 ≤ to → field n to (bytes (seen w.now all space) 0) ≡ field n to (bytes begun 0)
   pub leaf_bytes : (l : ℕ) → l < old → bytes (seen w.now all space) (leaf_number (seen w.now all space) l) ≡ bytes begun (leaf_number begun l)
   pub leaf_numbers : old ≤ leaves
@@ -73,7 +76,7 @@ module _ (all : PageId → Option (List ℕ)) (space : Space) (begun : ℕ → O
   pub mid_stands : Stands all space begun old (with_new kind w space) roots directories leaves
   mid_stands = record {
     table = IsTable-kept (seen w.now all space) (seen (with_new kind w space).now all space) roots directories leaves s.table mid_keeps s.rooted s.placed;
-    there = there_with_new kind w space (page_of space 0) s.there;
+    there = there_with_new kind w space (page_in space 0) s.there;
     fields = λ m to behind. made_field w all space kind s.table.head s.there s.table.next more m to (omega (arith, behind)) ∙ s.fields m to behind;
     leaf_bytes = λ l below.
         let inside : l < leaves = let few = s.leaf_numbers in omega (arith, few, below) in
@@ -105,7 +108,7 @@ module _ (all : PageId → Option (List ℕ)) (space : Space) (begun : ℕ → O
   root_bytes : bytes (seen (with_child DIRECTORY_KIND w space 0 18).now all space) 0 ≡ with_field 8 (bytes (seen (with_new DIRECTORY_KIND w space).now all space) 0) 18 (next_in w space)
   root_bytes =
       seen-written (with_new DIRECTORY_KIND w space) all space 0 _
-      ∙ ap (λ (b : List ℕ). with_field 8 b 18 (next_in w space)) (sym (seen-first (with_new DIRECTORY_KIND w space).now all space 0 (there_with_new DIRECTORY_KIND w space (page_of space 0) s.there)))
+      ∙ ap (λ (b : List ℕ). with_field 8 b 18 (next_in w space)) (sym (seen-first (with_new DIRECTORY_KIND w space).now all space 0 (there_with_new DIRECTORY_KIND w space (page_in space 0) s.there)))
 
   pub rooted_number : root_number (seen (with_child DIRECTORY_KIND w space 0 18).now all space) ≡ next_in w space
   unfolding root_number
@@ -124,7 +127,7 @@ module _ (all : PageId → Option (List ℕ)) (space : Space) (begun : ℕ → O
             (ap (λ l. slice_index l 0) root_bytes ∙ kind_kept 8 b 18 n (omega arith) (omega (arith, long)) ∙ mid.table.head.0, ap length root_bytes ∙ length-with_field 8 b 18 n (omega (arith, long)) ∙ long)
             rooted_number
             (ap next_page root_bytes ∙ field_apart 8 2 8 b 18 n (inl (omega arith)) (omega (arith, long)));
-        there = there_with_page v (page_of space 0) (page_of space 0) _ mid.there;
+        there = there_with_page v (page_in space 0) (page_in space 0) _ mid.there;
         fields = λ m to behind. ap (field m to) root_bytes ∙ field_apart m to 8 b 18 n (inr (omega (arith, behind))) (omega (arith, long)) ∙ mid.fields m to behind;
         leaf_bytes = λ l below. absurd (omega (arith, below));
         leaf_numbers = omega arith;
@@ -132,13 +135,13 @@ module _ (all : PageId → Option (List ℕ)) (space : Space) (begun : ℕ → O
         placed = λ l below. absurd (omega (arith, below));
       }
 
-  pub rooted_there : IsTrue (is_there (with_child DIRECTORY_KIND w space 0 18).now (page_of space (next_in w space)))
-  rooted_there = there_with_page (with_new DIRECTORY_KIND w space) (page_of space 0) (page_of space (next_in w space)) _ (written_there (with_fresh w space) (page_of space (next_in w space)) _)
+  pub rooted_there : IsTrue (is_there (with_child DIRECTORY_KIND w space 0 18).now (page_in space (next_in w space)))
+  rooted_there = there_with_page (with_new DIRECTORY_KIND w space) (page_in space 0) (page_in space (next_in w space)) _ (written_there (with_fresh w space) (page_in space (next_in w space)) _)
 
 -- a new directory page
 module _ (all : PageId → Option (List ℕ)) (space : Space) (begun : ℕ → Option (List ℕ)) (old : ℕ) (w : Work) (directories leaves : ℕ)
     (s : Stands all space begun old w 1 directories leaves) (more : next_page (bytes (seen w.now all space) 0) < LAST_PAGE) (below : directories < 511)
-    (root_there : IsTrue (is_there w.now (page_of space (root_number (seen w.now all space))))) where
+    (root_there : IsTrue (is_there w.now (page_in space (root_number (seen w.now all space))))) where
   abbrev pub directed : Work
   directed = with_child DIRECTORY_KIND w space (root_number (seen w.now all space)) (link_at directories)
 
@@ -146,7 +149,7 @@ module _ (all : PageId → Option (List ℕ)) (space : Space) (begun : ℕ → O
       ≡ with_field 8 (bytes (seen (with_new DIRECTORY_KIND w space).now all space) (root_number (seen w.now all space))) (link_at directories) (next_in w space)
   parent_bytes =
       let r = root_number (seen w.now all space) in let v = with_new DIRECTORY_KIND w space in
-      seen-written v all space r _ ∙ ap (λ (b : List ℕ). with_field 8 b (link_at directories) (next_in w space)) (sym (seen-first v.now all space r (there_with_new DIRECTORY_KIND w space (page_of space r) root_there)))
+      seen-written v all space r _ ∙ ap (λ (b : List ℕ). with_field 8 b (link_at directories) (next_in w space)) (sym (seen-first v.now all space r (there_with_new DIRECTORY_KIND w space (page_in space r) root_there)))
 
   links : LinksDirectory (seen (with_new DIRECTORY_KIND w space).now all space) (seen directed.now all space) directories (next_in w space)
   links =
@@ -175,7 +178,7 @@ module _ (all : PageId → Option (List ℕ)) (space : Space) (begun : ℕ → O
       let apart = mid_beside all space begun old w 1 directories leaves s DIRECTORY_KIND more in let numbered = mid_numbered all space begun old w 1 directories leaves s DIRECTORY_KIND more in
       let page = (mid_made all space begun old w 1 directories leaves s DIRECTORY_KIND more).page in record {
         table = directory_linked (seen v.now all space) (seen directed.now all space) directories leaves n mid.table mid.placed apart numbered page links;
-        there = there_with_page v (page_of space (root_number (seen w.now all space))) (page_of space 0) _ mid.there;
+        there = there_with_page v (page_in space (root_number (seen w.now all space))) (page_in space 0) _ mid.there;
         fields = λ m to behind. ap (field m to) (head_same (seen v.now all space) (seen directed.now all space) directories leaves n mid.table mid.placed apart numbered page links) ∙ mid.fields m to behind;
         leaf_bytes = λ l less. leaf_bytes_same (seen v.now all space) (seen directed.now all space) directories leaves n mid.table mid.placed apart numbered page links l (let few = mid.leaf_numbers in omega (arith, few, less)) ∙ mid.leaf_bytes l less;
         leaf_numbers = s.leaf_numbers;
@@ -190,13 +193,13 @@ module _ (all : PageId → Option (List ℕ)) (space : Space) (begun : ℕ → O
       (mid_beside all space begun old w 1 directories leaves s DIRECTORY_KIND more) (mid_numbered all space begun old w 1 directories leaves s DIRECTORY_KIND more) (mid_made all space begun old w 1 directories leaves s DIRECTORY_KIND more).page links
       ∙ mid_root all space begun old w 1 directories leaves s DIRECTORY_KIND more
 
-  pub directed_there : IsTrue (is_there directed.now (page_of space (next_in w space)))
-  directed_there = there_with_page (with_new DIRECTORY_KIND w space) (page_of space (root_number (seen w.now all space))) (page_of space (next_in w space)) _ (written_there (with_fresh w space) (page_of space (next_in w space)) _)
+  pub directed_there : IsTrue (is_there directed.now (page_in space (next_in w space)))
+  directed_there = there_with_page (with_new DIRECTORY_KIND w space) (page_in space (root_number (seen w.now all space))) (page_in space (next_in w space)) _ (written_there (with_fresh w space) (page_in space (next_in w space)) _)
 
 -- a new leaf
 module _ (all : PageId → Option (List ℕ)) (space : Space) (begun : ℕ → Option (List ℕ)) (old : ℕ) (w : Work) (directories leaves : ℕ)
     (s : Stands all space begun old w 1 directories leaves) (more : next_page (bytes (seen w.now all space) 0) < LAST_PAGE) (room : (l : ℕ) → l < leaves + 1 → l / 511 < directories)
-    (above_there : IsTrue (is_there w.now (page_of space (directory_number (seen w.now all space) (leaves / 511))))) where
+    (above_there : IsTrue (is_there w.now (page_in space (directory_number (seen w.now all space) (leaves / 511))))) where
   abbrev pub leafed : Work
   leafed = with_child LEAF_KIND w space (directory_number (seen w.now all space) (leaves / 511)) (link_at (leaves % 511))
 
@@ -204,7 +207,7 @@ module _ (all : PageId → Option (List ℕ)) (space : Space) (begun : ℕ → O
       ≡ with_field 8 (bytes (seen (with_new LEAF_KIND w space).now all space) (directory_number (seen w.now all space) (leaves / 511))) (link_at (leaves % 511)) (next_in w space)
   above_bytes =
       let r = directory_number (seen w.now all space) (leaves / 511) in let v = with_new LEAF_KIND w space in
-      seen-written v all space r _ ∙ ap (λ (b : List ℕ). with_field 8 b (link_at (leaves % 511)) (next_in w space)) (sym (seen-first v.now all space r (there_with_new LEAF_KIND w space (page_of space r) above_there)))
+      seen-written v all space r _ ∙ ap (λ (b : List ℕ). with_field 8 b (link_at (leaves % 511)) (next_in w space)) (sym (seen-first v.now all space r (there_with_new LEAF_KIND w space (page_in space r) above_there)))
 
   leaf_links : LinksLeaf (seen (with_new LEAF_KIND w space).now all space) (seen leafed.now all space) leaves (next_in w space)
   leaf_links =
@@ -234,7 +237,7 @@ module _ (all : PageId → Option (List ℕ)) (space : Space) (begun : ℕ → O
       let apart = mid_beside all space begun old w 1 directories leaves s LEAF_KIND more in let numbered = mid_numbered all space begun old w 1 directories leaves s LEAF_KIND more in
       let page = (mid_made all space begun old w 1 directories leaves s LEAF_KIND more).page in record {
         table = leaf_linked (seen v.now all space) (seen leafed.now all space) directories leaves n mid.table room apart numbered page leaf_links;
-        there = there_with_page v (page_of space (directory_number (seen w.now all space) (leaves / 511))) (page_of space 0) _ mid.there;
+        there = there_with_page v (page_in space (directory_number (seen w.now all space) (leaves / 511))) (page_in space 0) _ mid.there;
         fields = λ m to behind. ap (field m to) (head_as_before (seen v.now all space) (seen leafed.now all space) directories leaves n mid.table room apart numbered page leaf_links) ∙ mid.fields m to behind;
         leaf_bytes = λ l less. leaf_bytes_as_before (seen v.now all space) (seen leafed.now all space) directories leaves n mid.table room apart numbered page leaf_links l (let few = mid.leaf_numbers in omega (arith, few, less)) ∙ mid.leaf_bytes l less;
         leaf_numbers = let few = s.leaf_numbers in omega (arith, few);
@@ -242,5 +245,5 @@ module _ (all : PageId → Option (List ℕ)) (space : Space) (begun : ℕ → O
         placed = room;
       }
 
-  pub leafed_there : IsTrue (is_there leafed.now (page_of space (next_in w space)))
-  leafed_there = there_with_page (with_new LEAF_KIND w space) (page_of space (directory_number (seen w.now all space) (leaves / 511))) (page_of space (next_in w space)) _ (written_there (with_fresh w space) (page_of space (next_in w space)) _)
+  pub leafed_there : IsTrue (is_there leafed.now (page_in space (next_in w space)))
+  leafed_there = there_with_page (with_new LEAF_KIND w space) (page_in space (directory_number (seen w.now all space) (leaves / 511))) (page_in space (next_in w space)) _ (written_there (with_fresh w space) (page_in space (next_in w space)) _)

@@ -15,13 +15,14 @@ use Rattle.indirection.specs.declared.forms.Leaf.{Leaf}
 use Rattle.indirection.specs.declared.forms.Numbers.{Numbers}
 use Rattle.indirection.specs.declared.forms.Entry.TheVariants.{Taken, Free}
 use Rattle.indirection.specs.Forms.{leaf_index, entry_index, first_free, highest}
-use Rattle.indirection.specs.Reading.{and_then, page_of}
+use Rattle.page_bytes.specs.Links.{and_then, page_in}
 use Rattle.indirection.specs.Finding.{numbers_in, found_in}
 use Rattle.indirection.specs.Writing.{with_number, with_entry_in}
 use Rattle.indirection.specs.Adding.{taken_leaf, taken_in, changed_in, removed_in}
-use Rattle.indirection.specs.Answers.{Answers, IsStop}
-use Rattle.indirection.specs.Meaning.{seen, bytes, root_number, leaf_number, page_at, place_at, NodeNumbers, is_listed, EntryMeans, IsFreeList, MeansNumbers, with_address, without_number, IsRefused}
-use Rattle.indirection.proofs.Pages.{there_with_page}
+use Rattle.page_bytes.specs.Answers.{Answers, IsStop}
+use Rattle.page_bytes.specs.Seen.{seen, bytes}
+use Rattle.indirection.specs.Meaning.{root_number, leaf_number, page_at, place_at, NodeNumbers, is_listed, EntryMeans, IsFreeList, MeansNumbers, with_address, without_number, IsRefused}
+use Rattle.page_bytes.proofs.PageWrites.{there_with_page}
 use Rattle.indirection.proofs.Findings.{Needs, Gives, gives_then, out_or_in, means_numbers-is, means_found-is}
 use Rattle.indirection.proofs.Changing.{means_changed, means_removed}
 
@@ -63,12 +64,12 @@ module _ (w : Work) (all : PageId → Option (List ℕ)) (space : Space) (m : No
 
   -- the leaf of a number that is there
   taken-is : (a : Addr) → map.get m.taken h ≡ Some a → Gives w.now (taken_in w.now space (record { root = root_number (seen w.now all space); first_free = first_free (bytes (seen w.now all space) 0); highest = highest (bytes (seen w.now all space) 0) }) h)
-      (leaf_number (seen w.now all space) (leaf_index h)) (IsTrue (is_there w.now (page_of space (leaf_number (seen w.now all space) (leaf_index h)))) × (0 < h) × (h ≤ m.highest))
+      (leaf_number (seen w.now all space) (leaf_index h)) (IsTrue (is_there w.now (page_in space (leaf_number (seen w.now all space) (leaf_index h)))) × (0 < h) × (h ≤ m.highest))
   taken-is a taken = out_or_in h (highest (bytes (seen w.now all space) 0))
       (λ out is. absurd (some_none a (sym taken ∙ (means.outside h (⊎_elim (λ none. inl none) (λ past. let same = means.highest in inr (omega (arith, same, past))) out)).0)))
       (λ positive inside is.
       let below : h ≤ m.highest = let same = means.highest in omega (arith, same, inside) in
-      subst (λ b. Gives w.now (if b then Err (Damaged (head_of space)) else and_then (found_in w.now space (root_number (seen w.now all space)) h) (λ leaf. taken_leaf space leaf.number leaf.entry)) (leaf_number (seen w.now all space) (leaf_index h)) (IsTrue (is_there w.now (page_of space (leaf_number (seen w.now all space) (leaf_index h)))) × (0 < h) × (h ≤ m.highest))) (sym is)
+      subst (λ b. Gives w.now (if b then Err (Damaged (head_of space)) else and_then (found_in w.now space (root_number (seen w.now all space)) h) (λ leaf. taken_leaf space leaf.number leaf.entry)) (leaf_number (seen w.now all space) (leaf_index h)) (IsTrue (is_there w.now (page_in space (leaf_number (seen w.now all space) (leaf_index h)))) × (0 < h) × (h ≤ m.highest))) (sym is)
       (gives_then w.now (found_in w.now space (root_number (seen w.now all space)) h) (λ (leaf : Leaf). taken_leaf space leaf.number leaf.entry) _ (leaf_number (seen w.now all space) (leaf_index h)) (means_found-is w.now all space m means h positive below)
       (λ there. inl (
         is_taken (leaf_number (seen w.now all space) (leaf_index h)) (is_listed m.free h) (page_at (seen w.now all space) h) (place_at (seen w.now all space) h)
@@ -122,7 +123,7 @@ module _ (w : Work) (all : PageId → Option (List ℕ)) (space : Space) (m : No
           → MatchResult r (λ done. IsSome (map.get m.taken h) × MeansNumbers (seen w'.now all space) (with_address m h to)) (λ end. IsRefused w.now space (map.get m.taken h) end)
       at (Some a) is = ended w.now (changed_in w space h to) tt
           (with_entry_in w space (leaf_number (seen w.now all space) (leaf_index h)) (entry_index h) (page_number to) to.at)
-          (IsTrue (is_there w.now (page_of space (leaf_number (seen w.now all space) (leaf_index h)))) × (0 < h) × (h ≤ m.highest)) r w'
+          (IsTrue (is_there w.now (page_in space (leaf_number (seen w.now all space) (leaf_index h)))) × (0 < h) × (h ≤ m.highest)) r w'
           (λ done v. IsSome (map.get m.taken h) × MeansNumbers (seen v.now all space) (with_address m h to)) (λ end. (map.get m.taken h ≡ None) × (end ≡ Damaged (head_of space)))
           (gives_then w.now (numbers_in w.now space) (λ (numbers : Numbers). and_then (taken_in w.now space numbers h) (λ leaf. Ok (tt, with_entry_in w space leaf (entry_index h) (page_number to) to.at)))
           _ (tt, with_entry_in w space (leaf_number (seen w.now all space) (leaf_index h)) (entry_index h) (page_number to) to.at) (means_numbers-is w.now all space m means) (λ head_there.
@@ -146,7 +147,7 @@ module _ (w : Work) (all : PageId → Option (List ℕ)) (space : Space) (m : No
           → MatchResult r (λ done. IsSome (map.get m.taken h) × MeansNumbers (seen w'.now all space) (without_number m h)) (λ end. IsRefused w.now space (map.get m.taken h) end)
       at (Some a) is = ended w.now (removed_in w space h) tt
           (with_number 4 (with_entry_in w space (leaf_number (seen w.now all space) (leaf_index h)) (entry_index h) 0 (first_free (bytes (seen w.now all space) 0))) space 0 34 h)
-          (IsTrue (is_there w.now (page_of space 0)) × (IsTrue (is_there w.now (page_of space (leaf_number (seen w.now all space) (leaf_index h)))) × (0 < h) × (h ≤ m.highest))) r w'
+          (IsTrue (is_there w.now (page_in space 0)) × (IsTrue (is_there w.now (page_in space (leaf_number (seen w.now all space) (leaf_index h)))) × (0 < h) × (h ≤ m.highest))) r w'
           (λ done v. IsSome (map.get m.taken h) × MeansNumbers (seen v.now all space) (without_number m h)) (λ end. (map.get m.taken h ≡ None) × (end ≡ Damaged (head_of space)))
           (gives_then w.now (numbers_in w.now space) (λ (numbers : Numbers). and_then (taken_in w.now space numbers h) (λ leaf. Ok (tt, with_number 4 (with_entry_in w space leaf (entry_index h) 0 numbers.first_free) space 0 34 h)))
           _ _ (means_numbers-is w.now all space m means) (λ head_there.
@@ -156,7 +157,7 @@ module _ (w : Work) (all : PageId → Option (List ℕ)) (space : Space) (m : No
           (λ there. (
             ap is_some is,
             means_removed w all space m means h there.1.1 there.1.2 there.1.0 a is
-                (there_with_page w (page_of space (leaf_number (seen w.now all space) (leaf_index h))) (page_of space 0) _ there.0)
+                (there_with_page w (page_in space (leaf_number (seen w.now all space) (leaf_index h))) (page_in space 0) _ there.0)
                 (let low = free_small m.free (first_free (bytes (seen w.now all space) 0)) (λ x listed. listed) means.free in let most = means.most in omega (arith, low, most)),
           ))
       at None is = refused_or_needs w.now (removed_in w space h) (Damaged (head_of space)) r w'

@@ -15,10 +15,12 @@ use Rattle.indirection.specs.declared.forms.Numbers.{Numbers}
 use Rattle.indirection.specs.declared.forms.Entry.{Entry}
 use Rattle.indirection.specs.declared.forms.Entry.TheVariants.{Taken, Free}
 use Rattle.indirection.specs.Forms.{MOST_NUMBERS, LEAF_KIND, DIRECTORY_KIND, leaf_index, entry_index, first_free, highest, link, entry_page, entry_place}
-use Rattle.indirection.specs.Reading.{and_then, page_of, or_damaged, asked, tested, is_number_head, head_in, linked}
+use Rattle.page_bytes.specs.Links.{and_then, page_in, or_damaged, asked, tested}
+use Rattle.indirection.specs.Reading.{is_number_head, head_in, linked}
 use Rattle.indirection.specs.Finding.{directory_in, leaf_in, entry_of, found_in, numbers_in, address_of, address_in}
-use Rattle.indirection.specs.Meaning.{seen, bytes, IsPage, root_number, directory_number, leaf_number, IsTable, page_at, place_at, leaf_count, directory_count, NodeNumbers, is_listed, EntryMeans, MeansNumbers}
-use Rattle.indirection.specs.Answers.{GivesOrNeeds}
+use Rattle.page_bytes.specs.Seen.{seen, bytes}
+use Rattle.indirection.specs.Meaning.{IsPage, root_number, directory_number, leaf_number, IsTable, page_at, place_at, leaf_count, directory_count, NodeNumbers, is_listed, EntryMeans, MeansNumbers}
+use Rattle.page_bytes.specs.Answers.{GivesOrNeeds}
 use Rattle.indirection.proofs.Steps.{kinds_apart}
 
 -- a page is needed of which nothing is known
@@ -50,22 +52,22 @@ module _ (k : Known) (all : PageId → Option (List ℕ)) (space : Space) where
   pages = seen k all space
 
   pub head-is : IsPage (seen k all space) 2 0 → 0 < next_page (bytes (seen k all space) 0) → highest (bytes (seen k all space) 0) ≤ MOST_NUMBERS
-      → Gives k (head_in k space) (bytes (seen k all space) 0) (IsTrue (is_there k (page_of space 0)))
+      → Gives k (head_in k space) (bytes (seen k all space) 0) (IsTrue (is_there k (page_in space 0)))
   unfolding bytes
   head-is page next most =
-      let id = page_of space 0 in
+      let id = page_in space 0 in
       page_found id id k (map.get k.pages id) (not (map.contains_key k.whole space || map.contains_key k.freed id)) (all id) 2 is_number_head refl (omega arith) page.0 (passes (bytes (seen k all space) 0) page.0 next most)
     where
       passes : (b : List ℕ) → slice_index b 0 ≡ 2 → 0 < next_page b → highest b ≤ MOST_NUMBERS → is_number_head b ≡ true
       passes b is next most = grind (arith, nat_tests)
 
   pub linked-is : (kind from n : ℕ) → 0 < kind → n ≢ 0 → IsPage (seen k all space) kind n
-      → Gives k (linked k space kind from n) (bytes (seen k all space) n) (IsTrue (is_there k (page_of space n)))
+      → Gives k (linked k space kind from n) (bytes (seen k all space) n) (IsTrue (is_there k (page_in space n)))
   unfolding bytes
   linked-is kind from n positive past page =
-      let id = page_of space n in
-      subst (λ t. Gives k (if t then Err (Damaged (page_of space from)) else and_then (asked k (page_of space from) id) (λ b. tested id (slice_index b 0 == kind) b)) (bytes (seen k all space) n) (IsTrue (is_there k id))) (sym (not_zero n past))
-      (page_found id (page_of space from) k (map.get k.pages id) (not (map.contains_key k.whole space || map.contains_key k.freed id)) (all id) kind (λ b. slice_index b 0 == kind) refl positive page.0 (eq-eqb (slice_index (bytes (seen k all space) n) 0) kind page.0))
+      let id = page_in space n in
+      subst (λ t. Gives k (if t then Err (Damaged (page_in space from)) else and_then (asked k (page_in space from) id) (λ b. tested id (slice_index b 0 == kind) b)) (bytes (seen k all space) n) (IsTrue (is_there k id))) (sym (not_zero n past))
+      (page_found id (page_in space from) k (map.get k.pages id) (not (map.contains_key k.whole space || map.contains_key k.freed id)) (all id) kind (λ b. slice_index b 0 == kind) refl positive page.0 (eq-eqb (slice_index (bytes (seen k all space) n) 0) kind page.0))
     where
       not_zero : (n : ℕ) → n ≢ 0 → (n == 0) ≡ false
       not_zero n past = grind (arith, nat_tests)
@@ -75,7 +77,7 @@ module _ (k : Known) (all : PageId → Option (List ℕ)) (space : Space) where
   numbers_seen = record { root = root_number (seen k all space); first_free = first_free (bytes (seen k all space) 0); highest = highest (bytes (seen k all space) 0) }
 
   pub numbers-is : IsPage (seen k all space) 2 0 → 0 < next_page (bytes (seen k all space) 0) → highest (bytes (seen k all space) 0) ≤ MOST_NUMBERS
-      → Gives k (numbers_in k space) (record { root = root_number (seen k all space); first_free = first_free (bytes (seen k all space) 0); highest = highest (bytes (seen k all space) 0) }) (IsTrue (is_there k (page_of space 0)))
+      → Gives k (numbers_in k space) (record { root = root_number (seen k all space); first_free = first_free (bytes (seen k all space) 0); highest = highest (bytes (seen k all space) 0) }) (IsTrue (is_there k (page_in space 0)))
   unfolding root_number
   numbers-is page next most = gives_then k (head_in k space) _ (bytes (seen k all space) 0) _ (head-is page next most) (λ there. inl (refl, there))
 
@@ -89,15 +91,15 @@ module _ (k : Known) (all : PageId → Option (List ℕ)) (space : Space) where
     leaf_past : (l : ℕ) → l < leaves → leaf_number (seen k all space) l ≢ 0
     leaf_past l below = kinds_apart (seen k all space) LEAF_KIND 2 (leaf_number (seen k all space) l) 0 (λ is. absurd (omega (arith, is))) (t.leaf l below).0 t.head
 
-    pub root-is : Gives k (linked k space DIRECTORY_KIND 0 (root_number (seen k all space))) (bytes (seen k all space) (root_number (seen k all space))) (IsTrue (is_there k (page_of space (root_number (seen k all space)))))
+    pub root-is : Gives k (linked k space DIRECTORY_KIND 0 (root_number (seen k all space))) (bytes (seen k all space) (root_number (seen k all space))) (IsTrue (is_there k (page_in space (root_number (seen k all space)))))
     root-is = linked-is DIRECTORY_KIND 0 (root_number (seen k all space)) (omega arith) root_past (t.root rooted).0
 
     pub directory-is : (from d : ℕ) → d < directories
-        → Gives k (linked k space DIRECTORY_KIND from (directory_number (seen k all space) d)) (bytes (seen k all space) (directory_number (seen k all space) d)) (IsTrue (is_there k (page_of space (directory_number (seen k all space) d))))
+        → Gives k (linked k space DIRECTORY_KIND from (directory_number (seen k all space) d)) (bytes (seen k all space) (directory_number (seen k all space) d)) (IsTrue (is_there k (page_in space (directory_number (seen k all space) d))))
     directory-is from d below = linked-is DIRECTORY_KIND from (directory_number (seen k all space) d) (omega arith) (directory_past d below) (t.directory d below).0
 
     pub leaf-is : (from l : ℕ) → l < leaves
-        → Gives k (linked k space LEAF_KIND from (leaf_number (seen k all space) l)) (bytes (seen k all space) (leaf_number (seen k all space) l)) (IsTrue (is_there k (page_of space (leaf_number (seen k all space) l))))
+        → Gives k (linked k space LEAF_KIND from (leaf_number (seen k all space) l)) (bytes (seen k all space) (leaf_number (seen k all space) l)) (IsTrue (is_there k (page_in space (leaf_number (seen k all space) l))))
     leaf-is from l below = linked-is LEAF_KIND from (leaf_number (seen k all space) l) (omega arith) (leaf_past l below) (t.leaf l below).0
 
     pub directory_in-is : (leaf : ℕ) → leaf / 511 < directories → Gives k (directory_in k space (root_number (seen k all space)) leaf) (directory_number (seen k all space) (leaf / 511)) (Unit {0})
@@ -118,7 +120,7 @@ module _ (k : Known) (all : PageId → Option (List ℕ)) (space : Space) where
     entry_of-is leaf page place sound = at (page == 0) (nat_lt place 65536) refl refl
       where
         at : (z s : Bool) → (page == 0) ≡ z → nat_lt place 65536 ≡ s
-            → (if z then Ok (Free place) else if s then Ok (Taken (record { layer = page / 256; page = page % 256; at = place })) else Err (Damaged (page_of space leaf))) ≡ Ok (if z then Free place else Taken (record { layer = page / 256; page = page % 256; at = place }))
+            → (if z then Ok (Free place) else if s then Ok (Taken (record { layer = page / 256; page = page % 256; at = place })) else Err (Damaged (page_in space leaf))) ≡ Ok (if z then Free place else Taken (record { layer = page / 256; page = page % 256; at = place }))
         at true s z_is s_is = refl
         at false true z_is s_is = refl
         at false false z_is s_is = let past = ltb-false place 65536 s_is in absurd (⊎_elim (λ zero_is. true≢false (sym (eq-eqb page 0 zero_is) ∙ z_is)) (λ small. absurd (omega (arith, past, small))) sound)
@@ -126,7 +128,7 @@ module _ (k : Known) (all : PageId → Option (List ℕ)) (space : Space) where
     pub found-is : (h : ℕ) → leaf_index h < leaves → leaf_index h / 511 < directories → (page_at (seen k all space) h ≡ 0) ⊎ (place_at (seen k all space) h < 65536)
         → Gives k (found_in k space (root_number (seen k all space)) h)
         (record { number = leaf_number (seen k all space) (leaf_index h); entry = if page_at (seen k all space) h == 0 then Free (place_at (seen k all space) h) else Taken (record { layer = page_at (seen k all space) h / 256; page = page_at (seen k all space) h % 256; at = place_at (seen k all space) h }) })
-        (IsTrue (is_there k (page_of space (leaf_number (seen k all space) (leaf_index h)))))
+        (IsTrue (is_there k (page_in space (leaf_number (seen k all space) (leaf_index h)))))
     unfolding page_at place_at
     found-is h below above sound =
         let p = seen k all space in let l = leaf_index h in let d = directory_number p (l / 511) in let n = leaf_number p l in let b = bytes p n in let i = entry_index h in
@@ -164,13 +166,13 @@ out_or_in h top {P = P} out inside = at (h == 0) (nat_lt top h) refl refl
         inside (positive h (λ none. true≢false (sym (eq-eqb h 0 none) ∙ zero_is))) (ltb-false top h less) (λ i. zero_is i || less i)
 
 module _ (k : Known) (all : PageId → Option (List ℕ)) (space : Space) (m : NodeNumbers) (means : MeansNumbers (seen k all space) m) where
-  pub means_numbers-is : Gives k (numbers_in k space) (record { root = root_number (seen k all space); first_free = first_free (bytes (seen k all space) 0); highest = highest (bytes (seen k all space) 0) }) (IsTrue (is_there k (page_of space 0)))
+  pub means_numbers-is : Gives k (numbers_in k space) (record { root = root_number (seen k all space); first_free = first_free (bytes (seen k all space) 0); highest = highest (bytes (seen k all space) 0) }) (IsTrue (is_there k (page_in space 0)))
   means_numbers-is = let top = means.highest in let most = means.most in numbers-is k all space means.table.head means.table.next (omega (arith, top, most))
 
   pub means_found-is : (h : ℕ) → 0 < h → h ≤ m.highest
       → Gives k (found_in k space (root_number (seen k all space)) h)
       (record { number = leaf_number (seen k all space) (leaf_index h); entry = if page_at (seen k all space) h == 0 then Free (place_at (seen k all space) h) else Taken (record { layer = page_at (seen k all space) h / 256; page = page_at (seen k all space) h % 256; at = place_at (seen k all space) h }) })
-      (IsTrue (is_there k (page_of space (leaf_number (seen k all space) (leaf_index h)))))
+      (IsTrue (is_there k (page_in space (leaf_number (seen k all space) (leaf_index h)))))
   means_found-is h positive inside =
       let leaves = leaf_count m.highest in let directories = directory_count leaves in
       found-is k all space directories directories leaves means.table (omega (arith, positive, inside)) h (omega (arith, positive, inside)) (omega (arith, positive, inside))

@@ -18,13 +18,15 @@ use Rattle.indirection.specs.declared.forms.Leaf.{Leaf}
 use Rattle.indirection.specs.declared.forms.Numbers.{Numbers}
 use Rattle.indirection.specs.declared.forms.Entry.TheVariants.{Taken, Free}
 use Rattle.indirection.specs.Forms.{MOST_NUMBERS, LEAF_KIND, leaf_index, entry_index, first_free, highest}
-use Rattle.indirection.specs.Reading.{and_then, page_of, linked}
+use Rattle.page_bytes.specs.Links.{and_then, page_in}
+use Rattle.indirection.specs.Reading.{linked}
 use Rattle.indirection.specs.Finding.{numbers_in, directory_in, leaf_in, found_in}
 use Rattle.indirection.specs.Writing.{with_number, with_entry_in}
 use Rattle.indirection.specs.Adding.{free_behind, reused_in, placed_in, grown_in, last_leaf, appended_in, added_in}
-use Rattle.indirection.specs.Answers.{Answers, IsStop}
-use Rattle.indirection.specs.Meaning.{seen, bytes, root_number, directory_number, leaf_number, page_at, place_at, leaf_count, directory_count, NodeNumbers, is_listed, EntryMeans, IsFreeList, MeansNumbers, next_number, highest_given, free_left, with_number_given, IsNotGiven}
-use Rattle.indirection.proofs.Pages.{there_with_page}
+use Rattle.page_bytes.specs.Answers.{Answers, IsStop}
+use Rattle.page_bytes.specs.Seen.{seen, bytes}
+use Rattle.indirection.specs.Meaning.{root_number, directory_number, leaf_number, page_at, place_at, leaf_count, directory_count, NodeNumbers, is_listed, EntryMeans, IsFreeList, MeansNumbers, next_number, highest_given, free_left, with_number_given, IsNotGiven}
+use Rattle.page_bytes.proofs.PageWrites.{there_with_page}
 use Rattle.indirection.proofs.Meanings.{page_at-written, place_at-written, page_at-kept, place_at-kept, IsFreeList-kept, means_after}
 use Rattle.indirection.proofs.Writings.{entered_table, entered_stays, entered_writes, entered_head, headed_table, headed_field, headed_written, headed_page, headed_place}
 use Rattle.indirection.proofs.Findings.{Gives, gives_then, directory_in-is, leaf_in-is, leaf-is, means_numbers-is, means_found-is}
@@ -67,14 +69,14 @@ module _ (w : Work) (all : PageId → Option (List ℕ)) (space : Space) (m : No
     abbrev after : NodeNumbers
     after = record { taken = map.insert m.taken h to; free = hs; highest = m.highest }
 
-    means_reused : 0 < h → h ≤ m.highest → IsTrue (is_there w.now (page_of space (leaf_number (seen w.now all space) (leaf_index h)))) → IsTrue (is_there w.now (page_of space 0))
+    means_reused : 0 < h → h ≤ m.highest → IsTrue (is_there w.now (page_in space (leaf_number (seen w.now all space) (leaf_index h)))) → IsTrue (is_there w.now (page_in space 0))
         → MeansNumbers (seen reused.now all space) after
     means_reused positive inside there head_there =
         let p = page_number to in let q = to.at in let next = place_at (seen w.now all space) h in
         let w1 = entry_written w all space m means h positive inside there p q in
         let leaves = leaf_count m.highest in let directories = directory_count leaves in
         let table = written_table w all space m means h positive inside there p q in
-        let head1 = there_with_page w (page_of space (leaf_number (seen w.now all space) (leaf_index h))) (page_of space 0) _ head_there in
+        let head1 = there_with_page w (page_in space (leaf_number (seen w.now all space) (leaf_index h))) (page_in space 0) _ head_there in
         let page_kept : (x : ℕ) → 0 < x → x ≤ m.highest → page_at (seen reused.now all space) x ≡ page_at (seen w1.now all space) x =
         λ x low up. headed_page w1 all space 34 next directories directories leaves (omega arith) (omega arith) table (λ one. one) (λ l below. omega (arith, below)) head1 x (omega (arith, low, up)) in
         let place_kept : (x : ℕ) → 0 < x → x ≤ m.highest → place_at (seen reused.now all space) x ≡ place_at (seen w1.now all space) x =
@@ -107,7 +109,7 @@ module _ (w : Work) (all : PageId → Option (List ℕ)) (space : Space) (m : No
   -- the number after the highest is given, in a leaf that has room
   module _ (none : m.free ≡ []) (v : Work)
       (s : Stands all space (seen w.now all space) (leaf_count m.highest) v (directory_count (leaf_count (m.highest + 1))) (directory_count (leaf_count (m.highest + 1))) (leaf_count (m.highest + 1)))
-      (there : IsTrue (is_there v.now (page_of space (leaf_number (seen v.now all space) (leaf_index (m.highest + 1)))))) (room : m.highest < MOST_NUMBERS) where
+      (there : IsTrue (is_there v.now (page_in space (leaf_number (seen v.now all space) (leaf_index (m.highest + 1)))))) (room : m.highest < MOST_NUMBERS) where
     abbrev last : ℕ
     last = m.highest + 1
 
@@ -131,7 +133,7 @@ module _ (w : Work) (all : PageId → Option (List ℕ)) (space : Space) (m : No
         let table = entered_table v all space h p q directories directories leaves s.table (λ one. one) placed below there in
         let stays = entered_stays v all space h p q directories directories leaves s.table (λ one. one) placed below there in
         let writes = entered_writes v all space h p q directories directories leaves s.table (λ one. one) placed below there in
-        let head1 = there_with_page v (page_of space (leaf_number (seen v.now all space) (leaf_index h))) (page_of space 0) _ s.there in
+        let head1 = there_with_page v (page_in space (leaf_number (seen v.now all space) (leaf_index h))) (page_in space 0) _ s.there in
         let page_kept : (x : ℕ) → 0 < x → x ≤ h → page_at (seen appended.now all space) x ≡ page_at (seen w1.now all space) x =
         λ x low up. headed_page w1 all space 38 h directories directories leaves (omega arith) (omega arith) table (λ one. one) placed head1 x (omega (arith, low, up)) in
         let place_kept : (x : ℕ) → 0 < x → x ≤ h → place_at (seen appended.now all space) x ≡ place_at (seen w1.now all space) x =
@@ -162,8 +164,8 @@ module _ (w : Work) (all : PageId → Option (List ℕ)) (space : Space) (m : No
   abbrev heading : ℕ → Numbers
   heading first = record { root = root_number (seen w.now all space); first_free = first; highest = m.highest }
 
-  heading-is : (first : ℕ) → first_free (bytes (seen w.now all space) 0) ≡ first → Gives w.now (numbers_in w.now space) (record { root = root_number (seen w.now all space); first_free = first; highest = m.highest }) (IsTrue (is_there w.now (page_of space 0)))
-  heading-is first is = subst (λ (n : Numbers). Gives w.now (numbers_in w.now space) n (IsTrue (is_there w.now (page_of space 0)))) (λ i. record { root = root_number (seen w.now all space); first_free = is i; highest = means.highest i }) (means_numbers-is w.now all space m means)
+  heading-is : (first : ℕ) → first_free (bytes (seen w.now all space) 0) ≡ first → Gives w.now (numbers_in w.now space) (record { root = root_number (seen w.now all space); first_free = first; highest = m.highest }) (IsTrue (is_there w.now (page_in space 0)))
+  heading-is first is = subst (λ (n : Numbers). Gives w.now (numbers_in w.now space) n (IsTrue (is_there w.now (page_in space 0)))) (λ i. record { root = root_number (seen w.now all space); first_free = is i; highest = means.highest i }) (means_numbers-is w.now all space m means)
 
   -- a number was given
   abbrev pub Given : NodeNo × Work → Type 0
@@ -176,9 +178,9 @@ module _ (w : Work) (all : PageId → Option (List ℕ)) (space : Space) (m : No
   behind : (leaf page place : ℕ) → page ≡ 0 → place ≤ m.highest → free_behind space m.highest leaf (if page == 0 then Free place else Taken (record { layer = page / 256; page = page % 256; at = place })) ≡ Ok place
   behind leaf page place none low =
       ap (λ b. free_behind space m.highest leaf (if b then Free place else Taken (record { layer = page / 256; page = page % 256; at = place }))) (eq-eqb page 0 none)
-      ∙ ap (λ b. if b then Err (Damaged (page_of space leaf)) else Ok place) (le-ltb m.highest place low)
+      ∙ ap (λ b. if b then Err (Damaged (page_in space leaf)) else Ok place) (le-ltb m.highest place low)
 
-  reused-is : (h : ℕ) (hs : List ℕ) → m.free ≡ h ∷ hs → IsTrue (is_there w.now (page_of space 0)) → Reaches w.now (reused_in w space (record { root = root_number (seen w.now all space); first_free = h; highest = m.highest }) to) Given
+  reused-is : (h : ℕ) (hs : List ℕ) → m.free ≡ h ∷ hs → IsTrue (is_there w.now (page_in space 0)) → Reaches w.now (reused_in w space (record { root = root_number (seen w.now all space); first_free = h; highest = m.highest }) to) Given
   reused-is h hs split head_there =
       let list = free_is h hs split in let first : first_free (bytes (seen w.now all space) 0) ≡ h = list.0 in
       let inside : h ≤ m.highest = let low = free_small w all space m means h m.free (first_free (bytes (seen w.now all space) 0)) (λ x listed. listed) means.free in omega (arith, low, first) in
@@ -208,9 +210,9 @@ module _ (w : Work) (all : PageId → Option (List ℕ)) (space : Space) (m : No
   -- the leaf of the number after the highest
   abbrev HasLast : ℕ × Work → Type 0
   HasLast p = Stands all space (seen w.now all space) (leaf_count m.highest) p.1 (directory_count (leaf_count (m.highest + 1))) (directory_count (leaf_count (m.highest + 1))) (leaf_count (m.highest + 1))
-      × (leaf_number (seen p.1.now all space) (leaf_index (m.highest + 1)) ≡ p.0) × IsTrue (is_there p.1.now (page_of space p.0))
+      × (leaf_number (seen p.1.now all space) (leaf_index (m.highest + 1)) ≡ p.0) × IsTrue (is_there p.1.now (page_in space p.0))
 
-  begins : IsTrue (is_there w.now (page_of space 0)) → Stands all space (seen w.now all space) (leaf_count m.highest) w (directory_count (leaf_count m.highest)) (directory_count (leaf_count m.highest)) (leaf_count m.highest)
+  begins : IsTrue (is_there w.now (page_in space 0)) → Stands all space (seen w.now all space) (leaf_count m.highest) w (directory_count (leaf_count m.highest)) (directory_count (leaf_count m.highest)) (leaf_count m.highest)
   begins there = record {
     table = means.table;
     there = there;
@@ -221,7 +223,7 @@ module _ (w : Work) (all : PageId → Option (List ℕ)) (space : Space) (m : No
     placed = λ l below. omega (arith, below);
   }
 
-  last-is : (first : ℕ) → IsTrue (is_there w.now (page_of space 0)) → m.highest < MOST_NUMBERS → Reaches w.now (last_leaf w space (record { root = root_number (seen w.now all space); first_free = first; highest = m.highest })) HasLast
+  last-is : (first : ℕ) → IsTrue (is_there w.now (page_in space 0)) → m.highest < MOST_NUMBERS → Reaches w.now (last_leaf w space (record { root = root_number (seen w.now all space); first_free = first; highest = m.highest })) HasLast
   last-is first there room = at (m.highest % 340 == 0) refl
     where
       whole : m.highest % 340 ≡ 0 → (p : ℕ × Work) → HasLeaf all space (seen w.now all space) (leaf_count m.highest) (m.highest / 340) p → HasLast p
@@ -273,7 +275,7 @@ module _ (w : Work) (all : PageId → Option (List ℕ)) (space : Space) (m : No
             ),
           ))
 
-  appended-is : m.free ≡ [] → m.highest < MOST_NUMBERS → (first : ℕ) → IsTrue (is_there w.now (page_of space 0)) → Reaches w.now (appended_in w space (record { root = root_number (seen w.now all space); first_free = first; highest = m.highest }) to) Given
+  appended-is : m.free ≡ [] → m.highest < MOST_NUMBERS → (first : ℕ) → IsTrue (is_there w.now (page_in space 0)) → Reaches w.now (appended_in w space (record { root = root_number (seen w.now all space); first_free = first; highest = m.highest }) to) Given
   appended-is none room first head_there =
       subst (λ b. Reaches w.now (if b then Err (Damaged (head_of space)) else and_then (last_leaf w space (record { root = root_number (seen w.now all space); first_free = first; highest = m.highest }))
       (λ (last : ℕ × Work). Ok (record { 0 = m.highest + 1 }, with_number 4 (with_entry_in last.1 space last.0 (m.highest % 340) (page_number to) to.at) space 0 38 (m.highest + 1)))) Given) (sym (not_most m.highest room))
@@ -286,9 +288,9 @@ module _ (w : Work) (all : PageId → Option (List ℕ)) (space : Space) (m : No
         (
           ap (next_number m.highest) (sym none),
           subst (λ (e : ℕ × ℕ). MeansNumbers (seen (with_number 4 (with_entry_in last.1 space e.0 e.1 (page_number to) to.at) space 0 38 (m.highest + 1)).now all space) (with_number_given m to)) (λ i. (has.1 i, index i))
-              (subst (λ n. MeansNumbers (seen (appended none last.1 has.0 (subst (λ n. IsTrue (is_there last.1.now (page_of space n))) (sym has.1) has.2) room).now all space) n)
+              (subst (λ n. MeansNumbers (seen (appended none last.1 has.0 (subst (λ n. IsTrue (is_there last.1.now (page_in space n))) (sym has.1) has.2) room).now all space) n)
               (λ i. record { taken = map.insert m.taken (next_number m.highest (sym none i)) to; free = free_left (sym none i); highest = highest_given m.highest (sym none i) })
-              (means_appended none last.1 has.0 (subst (λ n. IsTrue (is_there last.1.now (page_of space n))) (sym has.1) has.2) room)),
+              (means_appended none last.1 has.0 (subst (λ n. IsTrue (is_there last.1.now (page_in space n))) (sym has.1) has.2) room)),
         ),
       )))
     where
@@ -304,7 +306,7 @@ module _ (w : Work) (all : PageId → Option (List ℕ)) (space : Space) (m : No
   add_means r w' answer = at m.free refl (m.highest == MOST_NUMBERS) refl
     where
       begun_with : (first : ℕ) → first_free (bytes (seen w.now all space) 0) ≡ first
-          → (IsTrue (is_there w.now (page_of space 0)) → Reaches w.now (if first == 0 then appended_in w space (heading first) to else reused_in w space (heading first) to) Given)
+          → (IsTrue (is_there w.now (page_in space 0)) → Reaches w.now (if first == 0 then appended_in w space (heading first) to else reused_in w space (heading first) to) Given)
           → MatchResult r (λ number. Given (number, w')) (λ end. IsNotGiven w.now space m end)
       begun_with first is more = reached w.now (added_in w space to) r w' Given full
           (gives_reaches w.now (numbers_in w.now space) (λ (n : Numbers). if n.first_free == 0 then appended_in w space n to else reused_in w space n to) (heading first) Given (heading-is first is) more) answer

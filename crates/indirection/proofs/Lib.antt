@@ -1,8 +1,7 @@
-pub mod Pages
+pub mod NewKinds
 pub mod Answering
 pub mod Steps
-pub mod Seen
-pub mod Fields
+pub mod Entries
 pub mod Meanings
 pub mod Findings
 pub mod Writings
@@ -12,3 +11,4 @@ pub mod NewPages
 pub mod Children
 pub mod Reaching
 pub mod Giving
+pub mod OwnPages

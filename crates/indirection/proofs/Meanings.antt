@@ -7,8 +7,9 @@ use Rattle.std.specs.Cmp.{nat_cmp_total, unsigned_tied}
 use Rattle.std.specs.FinMap as map
 use Rattle.page_bytes.specs.declared.ids.Addr.{Addr}
 use Rattle.indirection.specs.Forms.{MOST_NUMBERS, leaf_index, entry_index, first_free, highest, entry_page, entry_place, with_entry}
-use Rattle.indirection.specs.Meaning.{bytes, leaf_number, IsTable, page_at, place_at, leaf_count, directory_count, NodeNumbers, is_listed, EntryMeans, IsFreeList, MeansNumbers}
-use Rattle.indirection.proofs.Fields.{entry_page-written, entry_place-written, entry_page-apart, entry_place-apart}
+use Rattle.page_bytes.specs.Seen.{bytes}
+use Rattle.indirection.specs.Meaning.{leaf_number, IsTable, page_at, place_at, leaf_count, directory_count, NodeNumbers, is_listed, EntryMeans, IsFreeList, MeansNumbers}
+use Rattle.indirection.proofs.Entries.{entry_page-written, entry_place-written, entry_page-apart, entry_place-apart}
 
 abbrev Pages : Type 0
 Pages = ℕ → Option (List ℕ)

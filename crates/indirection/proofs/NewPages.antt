@@ -5,30 +5,31 @@ use Rattle.page_bytes.specs.declared.ids.PageId.{PageId}
 use Rattle.page_bytes.specs.Fields.{field, with_field, with_bytes}
 use Rattle.page_bytes.specs.Head.{head_of, next_page, with_next_page, LAST_PAGE}
 use Rattle.page_bytes.specs.Known.{is_there}
-use Rattle.page_bytes.specs.Work.{Work, with_page, first_bytes, zeros, with_fresh}
+use Rattle.page_bytes.specs.Work.{Work, with_page, first_bytes, zeros, with_fresh, next_in}
 use Rattle.page_bytes.proofs.FieldLaws.{field-written, length-with_bytes, bytes_at-written, slice_index-bytes_at}
 use Rattle.indirection.specs.Forms.{root}
-use Rattle.indirection.specs.Reading.{page_of}
-use Rattle.indirection.specs.Writing.{next_in, with_new}
-use Rattle.indirection.specs.Meaning.{seen, bytes, IsPage}
-use Rattle.indirection.proofs.Fields.{length-with_field, field_apart, kind_kept}
-use Rattle.indirection.proofs.Seen.{seen-written, seen-beside, seen-first}
+use Rattle.page_bytes.specs.Links.{page_in}
+use Rattle.indirection.specs.Writing.{with_new}
+use Rattle.page_bytes.specs.Seen.{seen, bytes}
+use Rattle.indirection.specs.Meaning.{IsPage}
+use Rattle.page_bytes.proofs.WrittenFields.{length-with_field, field_apart, kind_kept}
+use Rattle.page_bytes.proofs.SeenPages.{seen-written, seen-beside, seen-first}
 use Rattle.indirection.proofs.Steps.{MakesPage}
 
-kind_written : (kind : ℕ) → (slice_index (with_bytes zeros 0 (kind ∷ [])) 0 ≡ kind) × (length (with_bytes zeros 0 (kind ∷ [])) ≡ 4096)
+pub kind_written : (kind : ℕ) → (slice_index (with_bytes zeros 0 (kind ∷ [])) 0 ≡ kind) × (length (with_bytes zeros 0 (kind ∷ [])) ≡ 4096)
 kind_written kind = (
   sym (slice_index-bytes_at (with_bytes zeros 0 (kind ∷ [])) 0) ∙ ap (λ l. slice_index l 0) (bytes_at-written zeros 0 (kind ∷ []) (omega arith)),
   length-with_bytes zeros 0 (kind ∷ []) (lit≤ tt),
 )
 
 -- a new page is made
-module _ (w : Work) (all : PageId → Option (List ℕ)) (space : Space) (kind : ℕ) (head : IsPage (seen w.now all space) 2 0) (there : IsTrue (is_there w.now (page_of space 0)))
+module _ (w : Work) (all : PageId → Option (List ℕ)) (space : Space) (kind : ℕ) (head : IsPage (seen w.now all space) 2 0) (there : IsTrue (is_there w.now (page_in space 0)))
     (positive : 0 < next_page (bytes (seen w.now all space) 0)) (more : next_page (bytes (seen w.now all space) 0) < LAST_PAGE) where
   next_is : next_in w space ≡ next_page (bytes (seen w.now all space) 0)
   next_is = sym (ap next_page (seen-first w.now all space 0 there))
 
   abbrev first : Work
-  first = with_page w (page_of space (next_in w space)) zeros
+  first = with_page w (page_in space (next_in w space)) zeros
 
   abbrev second : Work
   second = with_fresh w space

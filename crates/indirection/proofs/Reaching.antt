@@ -12,14 +12,17 @@ use Rattle.page_bytes.specs.Order.{page_cmp}
 use Rattle.page_bytes.specs.Head.{head_of, is_head, next_page, LAST_PAGE}
 use Rattle.page_bytes.specs.Known.{Known, is_there, is_unknown}
 use Rattle.page_bytes.specs.Refusal.{head_refusal}
-use Rattle.page_bytes.specs.Work.{Work, with_page, with_fresh, first_bytes, zeros}
+use Rattle.page_bytes.specs.Work.{Work, with_page, with_fresh, first_bytes, zeros, next_in}
 use Rattle.indirection.specs.Forms.{LEAF_KIND, DIRECTORY_KIND, link, link_at}
-use Rattle.indirection.specs.Reading.{and_then, page_of, linked}
-use Rattle.indirection.specs.Writing.{next_in, with_new, with_child}
-use Rattle.indirection.specs.Adding.{unless, child_in, root_for, directory_for, leaf_for, directed_in, grown_in}
-use Rattle.indirection.specs.Meaning.{seen, bytes, root_number, directory_number, leaf_number, directory_count}
-use Rattle.indirection.proofs.Pages.{page_cmp-total}
-use Rattle.indirection.proofs.Seen.{seen-first}
+use Rattle.page_bytes.specs.Links.{and_then, page_in}
+use Rattle.indirection.specs.Reading.{linked}
+use Rattle.indirection.specs.Writing.{with_new, with_child}
+use Rattle.page_bytes.specs.Answers.{unless}
+use Rattle.indirection.specs.Adding.{child_in, root_for, directory_for, leaf_for, directed_in, grown_in}
+use Rattle.page_bytes.specs.Seen.{seen, bytes}
+use Rattle.indirection.specs.Meaning.{root_number, directory_number, leaf_number, directory_count}
+use Rattle.page_bytes.proofs.Orders.{page_cmp-total}
+use Rattle.page_bytes.proofs.SeenPages.{seen-first}
 use Rattle.indirection.proofs.Findings.{Needs, Gives, root-is, directory-is}
 use Rattle.indirection.proofs.Children.{Stands, rooted_number, rooted_stands, one_root, directed_number, directed_stands, directed_root, leafed_number, leafed_stands, leafed_there}
 
@@ -55,8 +58,8 @@ unknown_page w id b q is =
 
 pub unknown_before : (kind : ℕ) (w : Work) (space : Space) (parent at : ℕ) (q : PageId) → IsTrue (is_unknown (with_child kind w space parent at).now q) → IsTrue (is_unknown w.now q)
 unknown_before kind w space parent at q is =
-    let n = page_of space (next_in w space) in
-    unknown_page w n zeros q (unknown_page (with_page w n zeros) (head_of space) _ q (unknown_page (with_fresh w space) n _ q (unknown_page (with_new kind w space) (page_of space parent) _ q is)))
+    let n = page_in space (next_in w space) in
+    unknown_page w n zeros q (unknown_page (with_page w n zeros) (head_of space) _ q (unknown_page (with_fresh w space) n _ q (unknown_page (with_new kind w space) (page_in space parent) _ q is)))
 
 -- whether a new page can be made
 head_allows : (id : PageId) (there : Option (List ℕ)) (out : Bool) → is_some there ≡ true → slice_index (unwrap_or there zeros) 0 ≡ 2 → 0 < next_page (unwrap_or there zeros) → next_page (unwrap_or there zeros) ≤ LAST_PAGE
@@ -92,7 +95,7 @@ module _ (all : PageId → Option (List ℕ)) (space : Space) (begun : ℕ → O
 
   -- a leaf was made
   abbrev pub HasLeaf : ℕ → ℕ × Work → Type 0
-  HasLeaf leaf p = Stands all space begun old p.1 1 (directory_count (leaf + 1)) (leaf + 1) × (leaf_number (seen p.1.now all space) leaf ≡ p.0) × IsTrue (is_there p.1.now (page_of space p.0))
+  HasLeaf leaf p = Stands all space begun old p.1 1 (directory_count (leaf + 1)) (leaf + 1) × (leaf_number (seen p.1.now all space) leaf ≡ p.0) × IsTrue (is_there p.1.now (page_in space p.0))
 
   leaf_for-is : (w : Work) (leaf : ℕ) → Stands all space begun old w 1 (directory_count (leaf + 1)) leaf
       → Reaches w.now (leaf_for w space (root_number (seen w.now all space)) (directory_number (seen w.now all space) (leaf / 511)) leaf) (HasLeaf leaf)
@@ -108,7 +111,7 @@ module _ (all : PageId → Option (List ℕ)) (space : Space) (begun : ℕ → O
 
       made : Reaches w.now (child_in w space LEAF_KIND (directory_number (seen w.now all space) (leaf / 511)) (link_at (leaf % 511)))
           (λ p. (p ≡ (next_in w space, with_child LEAF_KIND w space (directory_number (seen w.now all space) (leaf / 511)) (link_at (leaf % 511)))) × (next_page (bytes (seen w.now all space) 0) < LAST_PAGE))
-          → IsTrue (is_there w.now (page_of space (directory_number (seen w.now all space) (leaf / 511))))
+          → IsTrue (is_there w.now (page_in space (directory_number (seen w.now all space) (leaf / 511))))
           → Reaches w.now (child_in w space LEAF_KIND (directory_number (seen w.now all space) (leaf / 511)) (link_at (leaf % 511))) (HasLeaf leaf)
       made (inl given) there = inl (
         given.0,
@@ -134,7 +137,7 @@ module _ (all : PageId → Option (List ℕ)) (space : Space) (begun : ℕ → O
       (λ bytes. if leaf % 511 == 0 then child_in w space DIRECTORY_KIND (root_number (seen w.now all space)) (link_at (leaf / 511)) else Ok (link (leaf / 511) bytes, w)) (bytes (seen w.now all space) (root_number (seen w.now all space))) (HasDirectory w leaf)
       (root-is w.now all space 1 (directory_count leaf) leaf s.table (omega arith)) (λ there. at (leaf % 511 == 0) refl there)
     where
-      made : (d : ℕ) → d ≡ leaf / 511 → directory_count (leaf + 1) ≡ d + 1 → Stands all space begun old w 1 d leaf → IsTrue (is_there w.now (page_of space (root_number (seen w.now all space))))
+      made : (d : ℕ) → d ≡ leaf / 511 → directory_count (leaf + 1) ≡ d + 1 → Stands all space begun old w 1 d leaf → IsTrue (is_there w.now (page_in space (root_number (seen w.now all space))))
           → Reaches w.now (child_in w space DIRECTORY_KIND (root_number (seen w.now all space)) (link_at d)) (λ p. (p ≡ (next_in w space, with_child DIRECTORY_KIND w space (root_number (seen w.now all space)) (link_at d))) × (next_page (bytes (seen w.now all space) 0) < LAST_PAGE))
           → Reaches w.now (child_in w space DIRECTORY_KIND (root_number (seen w.now all space)) (link_at d)) (HasDirectory w leaf)
       made d place count s there (inl given) = inl (
@@ -151,7 +154,7 @@ module _ (all : PageId → Option (List ℕ)) (space : Space) (begun : ℕ → O
       )
       made d place count s there (inr stop) = inr stop
 
-      at : (b : Bool) → (leaf % 511 == 0) ≡ b → IsTrue (is_there w.now (page_of space (root_number (seen w.now all space))))
+      at : (b : Bool) → (leaf % 511 == 0) ≡ b → IsTrue (is_there w.now (page_in space (root_number (seen w.now all space))))
           → Reaches w.now (if b then child_in w space DIRECTORY_KIND (root_number (seen w.now all space)) (link_at (leaf / 511)) else Ok (link (leaf / 511) (bytes (seen w.now all space) (root_number (seen w.now all space))), w)) (HasDirectory w leaf)
       at true is there =
           let whole = eqb-true (leaf % 511) 0 is in let count : directory_count leaf ≡ leaf / 511 = omega (arith, whole) in let more : directory_count (leaf + 1) ≡ leaf / 511 + 1 = omega (arith, whole) in

@@ -3,7 +3,8 @@ use Rattle.std.proofs.Common.{◌≡◌, ◌≢◌, ℕ, ◌+◌, ◌/◌, ◌%�
 use Rattle.std.proofs.lemmas.Bool.{eqb-true, ltb-true, ltb-false}
 use Rattle.page_bytes.specs.Head.{next_page, LAST_PAGE}
 use Rattle.indirection.specs.Forms.{LEAF_KIND, DIRECTORY_KIND, root, link}
-use Rattle.indirection.specs.Meaning.{bytes, IsPage, IsNumbered, root_number, directory_number, leaf_number, IsTable}
+use Rattle.page_bytes.specs.Seen.{bytes}
+use Rattle.indirection.specs.Meaning.{IsPage, IsNumbered, root_number, directory_number, leaf_number, IsTable}
 
 abbrev Pages : Type 0
 Pages = ℕ → Option (List ℕ)

@@ -7,18 +7,20 @@ use Rattle.page_bytes.specs.Known.{is_there}
 use Rattle.page_bytes.specs.Work.{Work}
 use Rattle.page_bytes.proofs.FieldLaws.{field-written}
 use Rattle.indirection.specs.Forms.{LEAF_KIND, leaf_index, entry_index, with_entry}
-use Rattle.indirection.specs.Reading.{page_of}
+use Rattle.page_bytes.specs.Links.{page_in}
 use Rattle.indirection.specs.Writing.{with_number, with_entry_in}
-use Rattle.indirection.specs.Meaning.{seen, bytes, IsPage, leaf_number, IsTable, page_at, place_at}
-use Rattle.indirection.proofs.Fields.{length-with_field, field_apart, kind_kept, length-with_entry, kind-with_entry}
-use Rattle.indirection.proofs.Seen.{seen-written, seen-beside, seen-first}
+use Rattle.page_bytes.specs.Seen.{seen, bytes}
+use Rattle.indirection.specs.Meaning.{IsPage, leaf_number, IsTable, page_at, place_at}
+use Rattle.page_bytes.proofs.WrittenFields.{length-with_field, field_apart, kind_kept}
+use Rattle.indirection.proofs.Entries.{length-with_entry, kind-with_entry}
+use Rattle.page_bytes.proofs.SeenPages.{seen-written, seen-beside, seen-first}
 use Rattle.indirection.proofs.Steps.{Only, Keeping, IsTable-kept, leaf_stays, kinds_apart, leaf_written, head_written}
 use Rattle.indirection.proofs.Meanings.{WritesEntry}
 
 -- an entry is written in its leaf
 module _ (w : Work) (all : PageId → Option (List ℕ)) (space : Space) (h page place roots directories leaves : ℕ)
     (t : IsTable (seen w.now all space) roots directories leaves) (rooted : 0 < directories → 0 < roots) (placed : (l : ℕ) → l < leaves → l / 511 < directories)
-    (below : leaf_index h < leaves) (there : IsTrue (is_there w.now (page_of space (leaf_number (seen w.now all space) (leaf_index h))))) where
+    (below : leaf_index h < leaves) (there : IsTrue (is_there w.now (page_in space (leaf_number (seen w.now all space) (leaf_index h))))) where
   abbrev leaf : ℕ
   leaf = leaf_number (seen w.now all space) (leaf_index h)
 
@@ -56,7 +58,7 @@ module _ (w : Work) (all : PageId → Option (List ℕ)) (space : Space) (h page
 -- a field of the head behind the root is written
 module _ (w : Work) (all : PageId → Option (List ℕ)) (space : Space) (at x roots directories leaves : ℕ) (behind : 26 ≤ at) (inside : at + 4 ≤ 4096)
     (t : IsTable (seen w.now all space) roots directories leaves) (rooted : 0 < directories → 0 < roots) (placed : (l : ℕ) → l < leaves → l / 511 < directories)
-    (there : IsTrue (is_there w.now (page_of space 0))) where
+    (there : IsTrue (is_there w.now (page_in space 0))) where
   abbrev pub headed : Work
   headed = with_number 4 w space 0 at x
 

@@ -1,5 +1,5 @@
 -- What the calls that change numbers do, page by page.
-use Rattle.std.specs.Prelude.{ℕ, ◌+◌, ◌/◌, ◌%◌, ◌==◌, ◌||◌, nat_lt, Option, Some, None, Result, Ok, Err, if◌then◌else◌}
+use Rattle.std.specs.Prelude.{ℕ, ◌+◌, ◌/◌, ◌%◌, ◌==◌, ◌||◌, nat_lt, Result, Ok, Err, if◌then◌else◌}
 use Rattle.page_bytes.specs.declared.ids.Space.{Space}
 use Rattle.page_bytes.specs.declared.ids.NodeNo.{NodeNo}
 use Rattle.page_bytes.specs.declared.ids.Addr.{Addr}
@@ -9,19 +9,16 @@ use Rattle.page_bytes.specs.PageNumber.{page_number}
 use Rattle.page_bytes.specs.Head.{head_of}
 use Rattle.page_bytes.specs.Refusal.{fresh_refusal}
 use Rattle.page_bytes.specs.Known.{Known}
-use Rattle.page_bytes.specs.Work.{Work}
+use Rattle.page_bytes.specs.Work.{Work, next_in}
 use Rattle.indirection.specs.declared.forms.Entry.{Entry}
 use Rattle.indirection.specs.declared.forms.Entry.TheVariants.{Taken, Free}
 use Rattle.indirection.specs.Forms.{MOST_NUMBERS, LEAF_KIND, DIRECTORY_KIND, entry_index, root, highest, link, link_at}
-use Rattle.indirection.specs.Reading.{and_then, page_of, linked}
+use Rattle.page_bytes.specs.Links.{and_then, page_in}
+use Rattle.indirection.specs.Reading.{linked}
 use Rattle.indirection.specs.Finding.{numbers_in, directory_in, leaf_in, found_in}
-use Rattle.indirection.specs.Writing.{with_number, with_entry_in, next_in, with_new, with_child}
+use Rattle.indirection.specs.Writing.{with_number, with_entry_in, with_new, with_child}
 use Rattle.indirection.specs.declared.forms.Numbers.{Numbers}
-
--- a refusal, or else a value
-abbrev pub unless : {X : Type 0} → Option PageEnd → X → Result X PageEnd
-unless (Some e) x = Err e
-unless None x = Ok x
+use Rattle.page_bytes.specs.Answers.{unless}
 
 -- the leaf of a number that is a node's. Where it isn't, the head is damaged
 abbrev pub taken_leaf : Space → ℕ → Entry → Result ℕ PageEnd
@@ -51,7 +48,7 @@ removed_in w space h =
 -- damaged
 abbrev pub free_behind : Space → ℕ → ℕ → Entry → Result ℕ PageEnd
 free_behind space highest leaf (Taken to) = Err (Damaged (head_of space))
-free_behind space highest leaf (Free next) = if nat_lt highest next then Err (Damaged (page_of space leaf)) else Ok next
+free_behind space highest leaf (Free next) = if nat_lt highest next then Err (Damaged (page_in space leaf)) else Ok next
 
 -- the first free number is given again
 abbrev pub reused_in : Work → Space → Numbers → Addr → Result (NodeNo × Work) PageEnd

@@ -10,7 +10,8 @@ use Rattle.indirection.specs.declared.forms.Numbers.{Numbers}
 use Rattle.indirection.specs.declared.forms.Entry.{Entry}
 use Rattle.indirection.specs.declared.forms.Entry.TheVariants.{Taken, Free}
 use Rattle.indirection.specs.Forms.{LEAF_KIND, DIRECTORY_KIND, leaf_index, entry_index, root, first_free, highest, link, entry_page, entry_place}
-use Rattle.indirection.specs.Reading.{and_then, page_of, head_in, linked}
+use Rattle.page_bytes.specs.Links.{and_then, page_in}
+use Rattle.indirection.specs.Reading.{head_in, linked}
 
 -- the number of the directory page of a leaf, by the root
 abbrev pub directory_in : Known → Space → ℕ → ℕ → Result ℕ PageEnd
@@ -25,7 +26,7 @@ abbrev pub entry_of : Space → ℕ → ℕ → ℕ → Result Entry PageEnd
 entry_of space leaf page place =
     if page == 0 then Ok (Free place)
     else if nat_lt place 65536 then Ok (Taken (record { layer = page / 256; page = page % 256; at = place }))
-    else Err (Damaged (page_of space leaf))
+    else Err (Damaged (page_in space leaf))
 
 -- the leaf of a number with the number's entry
 abbrev pub found_in : Known → Space → ℕ → ℕ → Result Leaf PageEnd

@@ -3,5 +3,6 @@ pub mod Reading
 pub mod Finding
 pub mod Writing
 pub mod Adding
-pub mod Answers
 pub mod Meaning
+pub mod Owned
+pub mod Inside

@@ -1,27 +1,17 @@
 -- What the pages of a document mean as node numbers: a map from numbers to addresses, and the free numbers in the order
 -- in which they are given again. Each number up to the highest is either a node's or free.
-use Rattle.std.specs.Prelude.{◌≡◌, ◌≢◌, ℕ, ◌+◌, ◌/◌, ◌%◌, ◌<◌, ◌≤◌, ◌⊎◌, ◌==◌, ◌||◌, Bool, true, false, List, [], ◌∷◌, length, slice_index, Option, Some, None, unwrap_or, if◌then◌else◌}
+use Rattle.std.specs.Prelude.{◌≡◌, ◌≢◌, ℕ, ◌+◌, ◌/◌, ◌%◌, ◌<◌, ◌≤◌, ◌⊎◌, ◌==◌, ◌||◌, Bool, true, false, List, [], ◌∷◌, length, slice_index, Option, Some, None}
 use Rattle.std.specs.Ordering.{nat_cmp}
 use Rattle.std.specs.FinMap as map
 use Rattle.page_bytes.specs.declared.ids.Space.{Space}
-use Rattle.page_bytes.specs.declared.ids.PageId.{PageId}
 use Rattle.page_bytes.specs.declared.ids.Addr.{Addr}
 use Rattle.page_bytes.specs.declared.end.PageEnd.{PageEnd}
 use Rattle.page_bytes.specs.declared.end.PageEnd.TheVariants.{Damaged, Spent}
 use Rattle.page_bytes.specs.Head.{head_of, next_page, LAST_PAGE}
-use Rattle.page_bytes.specs.Known.{Known, is_unknown}
+use Rattle.page_bytes.specs.Known.{Known}
 use Rattle.indirection.specs.Forms.{MOST_NUMBERS, LEAF_KIND, DIRECTORY_KIND, leaf_index, entry_index, root, first_free, highest, link, entry_page, entry_place}
-use Rattle.indirection.specs.Reading.{page_of}
-use Rattle.indirection.specs.Answers.{IsStop}
-
--- what is there of a space's pages, by their numbers: what is known, and where nothing is known the pages of any map of
--- which that is a part
-abbrev pub seen : Known → (PageId → Option (List ℕ)) → Space → ℕ → Option (List ℕ)
-seen k all space n = if is_unknown k (page_of space n) then all (page_of space n) else map.get k.pages (page_of space n)
-
--- the bytes of a page, which has none where it isn't there
-unfoldable pub bytes : (ℕ → Option (List ℕ)) → ℕ → List ℕ
-bytes pages n = unwrap_or (pages n) []
+use Rattle.page_bytes.specs.Answers.{IsStop}
+use Rattle.page_bytes.specs.Seen.{bytes}
 
 -- a page of 4,096 bytes, of a kind
 abbrev pub IsPage : (ℕ → Option (List ℕ)) → ℕ → ℕ → Type 0

@@ -1,11 +1,13 @@
 //! What the calls on node numbers do, page by page.
-ghost use Rattle.std.specs.Prelude.{◌≡◌, ◌<◌, ◌≤◌, OnOk, IfOk, IfErr, IsTrue};
-ghost use Rattle.page_bytes.specs.Known.{is_there};
+ghost use Rattle.std.specs.Prelude.{◌≡◌, ℕ, ◌<◌, ◌≤◌, List, Option, OnOk, IfOk};
+ghost use Rattle.page_bytes.specs.declared.ids.PageId.{PageId};
 ghost use Rattle.page_bytes.specs.PageNumber.{page_number};
-ghost use Rattle.indirection.specs.Reading.{page_of};
+ghost use Rattle.page_bytes.specs.Own.{KeepsToOwn};
 ghost use Rattle.indirection.specs.Finding.{address_in};
 ghost use Rattle.indirection.specs.Adding.{taken_in, changed_in, removed_in, free_behind, reused_in, appended_in, added_in};
-ghost use Rattle.indirection.specs.Answers.{Answers};
+ghost use Rattle.indirection.specs.Owned.{number_pages};
+ghost use Rattle.indirection.specs.Inside.{IsWholeHead, IsNumberPage};
+ghost use Rattle.page_bytes.specs.Answers.{Answers};
 
 use crate::forms::{ENTRIES, Entry, FIRST_FREE_AT, HIGHEST_AT, Leaf, MOST_NUMBERS, Numbers};
 use crate::growing::leaf_of_next;
@@ -36,7 +38,7 @@ fn taken_leaf<P: Pages>(
 ) -> Result<u64, PageEnd>
     requires { numbers.now.highest ≤ 88781140 }
     ensures taken { result ≡ taken_in (P.known pages.now) space numbers.now number }
-    ensures there { IfOk result (λ leaf. IsTrue (is_there (P.known pages.now) (page_of space leaf))) }
+    ensures page { IfOk result (λ leaf. IsNumberPage (P.known pages.now) space leaf) }
     ensures given { OnOk result (0 < number) }
 {
     let head = PageId { space, number: 0 };
@@ -55,6 +57,7 @@ pub fn set_address(work: &mut Workspace, space: Space, no: NodeNo, to: Addr) -> 
     requires layer { to.layer ≤ 72057594037927935 }
     requires page { 0 < page_number to }
     ensures pages { Answers (changed_in work.old space no.0 to) result work.new }
+    ensures own { OnOk result ((all : PageId → Option (List ℕ)) → KeepsToOwn number_pages 0 work.old work.new all space) }
     ensures fits { (to.page < 256) × (to.at < 65536) }
 {
     let numbers = read_numbers(work, space)?;
@@ -65,7 +68,8 @@ pub fn set_address(work: &mut Workspace, space: Space, no: NodeNo, to: Addr) -> 
 
 /// Takes a number away. It is the next that `add` gives.
 pub fn take_number(work: &mut Workspace, space: Space, no: NodeNo) -> Result<(), PageEnd>
-    ensures { Answers (removed_in work.old space no.0) result work.new }
+    ensures pages { Answers (removed_in work.old space no.0) result work.new }
+    ensures own { OnOk result ((all : PageId → Option (List ℕ)) → KeepsToOwn number_pages 0 work.old work.new all space) }
 {
     let numbers = read_numbers(work, space)?;
     let leaf = taken_leaf(work, space, &numbers, no.0)?;
@@ -101,8 +105,9 @@ fn reuse(work: &mut Workspace, space: Space, numbers: &Numbers, to: Addr) -> Res
     requires layer { to.layer ≤ 72057594037927935 }
     requires free { 0 < numbers.now.first_free }
     requires highest { numbers.now.highest ≤ 88781140 }
-    requires head { IsTrue (is_there work.old.now (page_of space 0)) }
-    ensures { Answers (reused_in work.old space numbers.now to) result work.new }
+    requires head { IsWholeHead work.old.now space }
+    ensures pages { Answers (reused_in work.old space numbers.now to) result work.new }
+    ensures own { OnOk result ((all : PageId → Option (List ℕ)) → KeepsToOwn number_pages 0 work.old work.new all space) }
 {
     let number = numbers.first_free;
     if number > numbers.highest {
@@ -127,8 +132,9 @@ fn append(
 ) -> Result<NodeNo, PageEnd>
     requires layer { to.layer ≤ 72057594037927935 }
     requires highest { numbers.now.highest ≤ 88781140 }
-    requires head { IsTrue (is_there work.old.now (page_of space 0)) }
-    ensures { Answers (appended_in work.old space numbers.now to) result work.new }
+    requires head { IsWholeHead work.old.now space }
+    ensures pages { Answers (appended_in work.old space numbers.now to) result work.new }
+    ensures own { OnOk result ((all : PageId → Option (List ℕ)) → KeepsToOwn number_pages 3 work.old work.new all space) }
 {
     let highest = numbers.highest;
     if highest == MOST_NUMBERS {
@@ -148,6 +154,7 @@ pub fn give_number(work: &mut Workspace, space: Space, to: Addr) -> Result<NodeN
     requires layer { to.layer ≤ 72057594037927935 }
     requires page { 0 < page_number to }
     ensures pages { Answers (added_in work.old space to) result work.new }
+    ensures own { OnOk result ((all : PageId → Option (List ℕ)) → KeepsToOwn number_pages 3 work.old work.new all space) }
     ensures fits { (to.page < 256) × (to.at < 65536) }
 {
     let numbers = read_numbers(work, space)?;

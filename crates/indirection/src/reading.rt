@@ -1,36 +1,33 @@
 //! How pages are asked for, and how a number's entry is found.
-ghost use Rattle.std.specs.Prelude.{◌≡◌, ◌<◌, ◌≤◌, ◌*◌, IfOk, OnOk, IsTrue};
-ghost use Rattle.page_bytes.specs.Known.{is_there};
+ghost use Rattle.std.specs.Prelude.{◌≡◌, ◌<◌, ◌≤◌, ◌*◌, ◌==◌, length, slice_index, IfOk, OnOk, IsTrue};
 ghost use Rattle.std.specs.Result.{result_map_both};
-ghost use Rattle.indirection.specs.Reading.{asked, page_of, head_in, linked};
+ghost use Rattle.indirection.specs.Reading.{head_in, linked};
 ghost use Rattle.indirection.specs.Finding.{numbers_in, directory_in, leaf_in, entry_of, found_in};
+ghost use Rattle.indirection.specs.Owned.{is_number_kind};
+ghost use Rattle.indirection.specs.Inside.{IsWholeHead, IsNumberPage};
 
 use crate::forms::{
     DIRECTORY_KIND, ENTRIES, Entry, FIRST_FREE_AT, HEAD_KIND, HIGHEST_AT, LEAF_KIND, LINKS, Leaf,
     MOST_NUMBERS, NEXT_PAGE_AT, Numbers, ROOT_AT, entry_at, link_at,
 };
-use page_bytes::{Addr, PageEnd, PageId, Pages, Space, read_u8, read_u32, read_u64};
+use page_bytes::{Addr, PageEnd, PageId, Pages, Space, ask, read_u8, read_u32, read_u64};
 
-/// The bytes of a page, to which `from` leads.
-fn ask<P: Pages>(pages: &P, from: PageId, id: PageId) -> Result<&[u8; 4096], PageEnd>
-    ensures { result_map_both (λ page. page.now) (λ end. end) result ≡ asked (P.known pages.now) from id }
+/// Whether a page is of this kind.
+fn is_of_kind(page: &[u8; 4096], kind: u8) -> bool
+    ensures test { result ≡ (slice_index page.now 0 == kind) }
+    ensures long { length page.now ≡ 4096 }
 {
-    if let Some(bytes) = pages.page(id) {
-        return Ok(bytes);
-    }
-    if pages.absent(id) {
-        return Err(PageEnd::Damaged { page: from });
-    }
-    Err(PageEnd::Need { page: id })
+    read_u8(page, 0) == kind
 }
 
 /// The bytes of the head, which passes its test.
 fn head_bytes<P: Pages>(pages: &P, space: Space) -> Result<&[u8; 4096], PageEnd>
-    ensures { result_map_both (λ page. page.now) (λ end. end) result ≡ head_in (P.known pages.now) space }
+    ensures head { result_map_both (λ page. page.now) (λ end. end) result ≡ head_in (P.known pages.now) space }
+    ensures whole { OnOk result (IsWholeHead (P.known pages.now) space) }
 {
     let id = PageId { space, number: 0 };
     let head = ask(pages, id, id)?;
-    if read_u8(head, 0) != HEAD_KIND || read_u64(head, NEXT_PAGE_AT) == 0 {
+    if !is_of_kind(head, HEAD_KIND) || read_u64(head, NEXT_PAGE_AT) == 0 {
         return Err(PageEnd::Damaged { page: id });
     }
     if read_u32(head, HIGHEST_AT) > MOST_NUMBERS {
@@ -47,7 +44,8 @@ pub fn linked_page<P: Pages>(
     from: u64,
     number: u64,
 ) -> Result<&[u8; 4096], PageEnd>
-    ensures { result_map_both (λ page. page.now) (λ end. end) result ≡ linked (P.known pages.now) space kind from number }
+    ensures bytes { result_map_both (λ page. page.now) (λ end. end) result ≡ linked (P.known pages.now) space kind from number }
+    ensures page { IsTrue (is_number_kind kind) → OnOk result (IsNumberPage (P.known pages.now) space number) }
 {
     let from = PageId {
         space,
@@ -58,7 +56,7 @@ pub fn linked_page<P: Pages>(
     }
     let id = PageId { space, number };
     let bytes = ask(pages, from, id)?;
-    if read_u8(bytes, 0) != kind {
+    if !is_of_kind(bytes, kind) {
         return Err(PageEnd::Damaged { page: id });
     }
     Ok(bytes)
@@ -67,7 +65,7 @@ pub fn linked_page<P: Pages>(
 /// What the head says of node numbers.
 pub fn read_numbers<P: Pages>(pages: &P, space: Space) -> Result<Numbers, PageEnd>
     ensures numbers { result ≡ numbers_in (P.known pages.now) space }
-    ensures there { OnOk result (IsTrue (is_there (P.known pages.now) (page_of space 0))) }
+    ensures whole { OnOk result (IsWholeHead (P.known pages.now) space) }
     ensures most { IfOk result (λ numbers. numbers.highest ≤ 88781140) }
 {
     let head = head_bytes(pages, space)?;
@@ -127,7 +125,7 @@ pub fn find_leaf<P: Pages>(pages: &P, space: Space, root: u64, number: u32) -> R
     requires above { 0 < number }
     requires below { number ≤ 88781140 }
     ensures found { result ≡ found_in (P.known pages.now) space root number }
-    ensures there { IfOk result (λ leaf. IsTrue (is_there (P.known pages.now) (page_of space leaf.number))) }
+    ensures page { IfOk result (λ leaf. IsNumberPage (P.known pages.now) space leaf.number) }
 {
     let index = (number - 1) / ENTRIES;
     let directory = directory_of(pages, space, root, index)?;

@@ -1,11 +1,13 @@
 //! Writes to pages that are there, and new pages.
-ghost use Rattle.std.specs.Prelude.{◌≡◌, ◌<◌, ◌≤◌, ◌+◌, Ok, IsTrue, OnOk, IfOk};
-ghost use Rattle.page_bytes.specs.Known.{is_there};
+ghost use Rattle.std.specs.Prelude.{◌≡◌, ◌<◌, ◌≤◌, ◌+◌, ◌^◌, Ok, IsTrue, OnOk, IfOk};
+ghost use Rattle.page_bytes.specs.Known.{is_there, Keeps};
 ghost use Rattle.page_bytes.specs.Refusal.{RefusedBy, fresh_refusal};
-ghost use Rattle.indirection.specs.Reading.{page_of};
-ghost use Rattle.indirection.specs.Writing.{with_number, with_entry_in, with_kind, Keeps};
+ghost use Rattle.page_bytes.specs.Links.{page_in};
+ghost use Rattle.indirection.specs.Writing.{with_number, with_entry_in, with_kind};
 ghost use Rattle.indirection.specs.Adding.{new_in, child_in};
-ghost use Rattle.indirection.specs.Answers.{Answers};
+ghost use Rattle.indirection.specs.Owned.{is_number_kind};
+ghost use Rattle.indirection.specs.Inside.{IsWholeHead, IsNumberPage, TakesLink, HasKept};
+ghost use Rattle.page_bytes.specs.Answers.{Answers};
 
 use crate::forms::entry_at;
 use page_bytes::{PageEnd, PageId, Space, Workspace};
@@ -19,7 +21,7 @@ pub fn write_entry(
     page: u64,
     place: u32,
 ) -> Result<(), PageEnd>
-    requires there { IsTrue (is_there work.old.now (page_of space leaf)) }
+    requires there { IsTrue (is_there work.old.now (page_in space leaf)) }
     requires index { index < 340 }
     ensures answer { Answers (Ok (tt, with_entry_in work.old space leaf index page place)) result work.new }
     ensures kept { OnOk result (Keeps work.old.now work.new.now) }
@@ -42,10 +44,9 @@ pub fn write_short(
     at: usize,
     value: u32,
 ) -> Result<(), PageEnd>
-    requires there { IsTrue (is_there work.old.now (page_of space page)) }
+    requires there { IsTrue (is_there work.old.now (page_in space page)) }
     requires place { at + 4 ≤ 4096 }
     ensures answer { Answers (Ok (tt, with_number 4 work.old space page at value)) result work.new }
-    ensures kept { OnOk result (Keeps work.old.now work.new.now) }
 {
     let draft = work.edit(PageId {
         space,
@@ -63,10 +64,10 @@ pub fn write_long(
     at: usize,
     value: u64,
 ) -> Result<(), PageEnd>
-    requires there { IsTrue (is_there work.old.now (page_of space page)) }
+    requires there { IsTrue (is_there work.old.now (page_in space page)) }
     requires place { at + 8 ≤ 4096 }
     ensures answer { Answers (Ok (tt, with_number 8 work.old space page at value)) result work.new }
-    ensures kept { OnOk result (Keeps work.old.now work.new.now) }
+    ensures fits { value < 256 ^ 8 }
 {
     let draft = work.edit(PageId {
         space,
@@ -90,7 +91,6 @@ fn write_kind(work: &mut Workspace, id: PageId, kind: u8) -> Result<(), PageEnd>
 fn new_page(work: &mut Workspace, space: Space, kind: u8) -> Result<u64, PageEnd>
     ensures answer { Answers (new_in work.old space kind) result work.new }
     ensures kept { OnOk result (Keeps work.old.now work.new.now) }
-    ensures there { IfOk result (λ number. IsTrue (is_there work.new.now (page_of space number))) }
 {
     let id = work.fresh(space)?;
     write_kind(work, id, kind)?;
@@ -105,11 +105,13 @@ pub fn make_child(
     parent: u64,
     at: usize,
 ) -> Result<u64, PageEnd>
-    requires there { IsTrue (is_there work.old.now (page_of space parent)) }
+    requires head { IsWholeHead work.old.now space }
+    requires kind { IsTrue (is_number_kind kind) }
+    requires link { TakesLink work.old.now space parent at }
     requires place { at + 8 ≤ 4096 }
     ensures answer { Answers (child_in work.old space kind parent at) result work.new }
-    ensures kept { OnOk result (Keeps work.old.now work.new.now) }
-    ensures there { IfOk result (λ number. IsTrue (is_there work.new.now (page_of space number))) }
+    ensures kept { OnOk result (HasKept 1 work.old work.new space) }
+    ensures page { IfOk result (λ number. IsNumberPage work.new.now space number) }
 {
     let number = new_page(work, space, kind)?;
     write_long(work, space, parent, at, number)?;

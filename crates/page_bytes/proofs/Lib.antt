@@ -8,3 +8,9 @@ pub mod Sharing
 pub mod FieldLaws
 pub mod TextWalks
 pub mod SchemaWalks
+pub mod Answering
+pub mod PageWrites
+pub mod WrittenFields
+pub mod SeenPages
+pub mod Growing
+pub mod Owning

@@ -35,7 +35,8 @@ page_cmp-exact x y is =
       | Greater ↦ λ p e. cc
     ] refl is
 
-both_tied : (o p : Ordering) → is_eq (ordering_then o p) ≡ (is_eq o && is_eq p)
+-- two orders, one after the other, tie where both do
+pub both_tied : (o p : Ordering) → is_eq (ordering_then o p) ≡ (is_eq o && is_eq p)
 both_tied Less p = refl
 both_tied Equal p = refl
 both_tied Greater p = refl

@@ -1,6 +1,6 @@
 -- What is known of the pages of some documents: those that are there with their bytes, the spaces of which nothing
 -- else is there, and the pages that were freed. A set is a finite map with nothing at each key.
-use Rattle.std.specs.Prelude.{ℕ, Bool, not, ◌&&◌, ◌||◌, List, refl}
+use Rattle.std.specs.Prelude.{ℕ, Bool, not, ◌&&◌, ◌||◌, List, refl, IsTrue}
 use Rattle.std.specs.Coded.{Coded, code_by, coded×, coded_ℕ, coded_list}
 use base.Stored.{coded_unit}
 use Rattle.std.specs.FinMap as map
@@ -36,6 +36,10 @@ is_absent k id = not (is_there k id) && (map.contains_key k.whole id.space || ma
 -- whether nothing is known of it, so that who asks for it needs it
 abbrev pub is_unknown : Known → PageId → Bool
 is_unknown k id = not (is_there k id) && not (map.contains_key k.whole id.space || map.contains_key k.freed id)
+
+-- all that was there is there
+abbrev pub Keeps : Known → Known → Type 0
+Keeps old new = (id : PageId) → IsTrue (is_there old id) → IsTrue (is_there new id)
 
 -- what a map of pages alone tells: no space is whole, and no page was freed
 abbrev pub known_of : PageMap → Known

@@ -12,6 +12,9 @@ pub mod Lends
 pub mod LendsBytes
 pub mod LendsPage
 pub mod Links
+pub mod Answers
+pub mod Seen
+pub mod Own
 pub mod Texts
 pub mod Schema
 pub mod SchemaFound

@@ -59,6 +59,10 @@ first_bytes k id = unwrap_or (map.get k.pages id) zeros
 abbrev pub fresh_page : Known → Space → PageId
 fresh_page k space = record { space = space; number = next_page (first_bytes k (head_of space)) }
 
+-- the number of the next new page
+abbrev pub next_in : Work → Space → ℕ
+next_in w space = next_page (first_bytes w.now (head_of space))
+
 -- the new page is there, all zeros, and the head's next number is one more
 abbrev pub with_fresh : Work → Space → Work
 with_fresh w space =

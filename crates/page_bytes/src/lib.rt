@@ -27,6 +27,7 @@ mod workspace;
 pub use end::{NoMemory, PageEnd};
 pub use fields::{field_laws, read_bytes, read_u8, read_u16, read_u32, read_u64};
 pub use ids::{Addr, DocEntry, NodeNo, PageId, SchemaId, Space};
+pub use links::ask;
 pub use lists::{ChangeList, PageChange, PageIdList};
 pub use page::{Draft, PAGE_BYTES, Page};
 pub use pages::{PageSet, Pages};

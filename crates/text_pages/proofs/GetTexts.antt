@@ -14,7 +14,9 @@ use Rattle.page_bytes.specs.Links.{page_in, and_then, asked, tested}
 use Rattle.page_bytes.specs.Texts.{TEXT_KIND, piece_at, piece_length, is_text_page, has_piece, is_piece, next_piece, piece_text, piece_page, Joined, with_piece, joined_more, joined, IsTextAt}
 use Rattle.text_pages.specs.Slots.{slots_end}
 use Rattle.text_pages.specs.Reading.{IsStrAt}
-use Rattle.text_pages.specs.Meaning.{seen, bytes, HasPiece, IsSound, IsForm, IsPiece, next_at, bytes_of, IsChain, joined_bytes, is_listed, IsOnceEach, TextMap, MeansTexts, text_in, IsStop, IsNotGiven}
+use Rattle.page_bytes.specs.Seen.{seen, bytes}
+use Rattle.text_pages.specs.Meaning.{HasPiece, IsSound, IsForm, IsPiece, next_at, bytes_of, IsChain, joined_bytes, is_listed, IsOnceEach, TextMap, MeansTexts, text_in, IsNotGiven}
+use Rattle.page_bytes.specs.Answers.{IsStop}
 use Rattle.text_pages.proofs.Chains.{Pages, listed_first, listed_later}
 use Rattle.text_pages.proofs.Givings.{Gives, gives_then, asked-is, has_piece_true}
 use Rattle.text_pages.proofs.Maps.{piece_past, is_some_of}
@@ -136,7 +138,7 @@ module _ (k : Known) (all : PageId → Option (List ℕ)) (space : Space) (form 
       (λ back.
       let m = back.0 in let n = back.1.0 in let r = back.1.1.0 in let s = back.1.1.1.0 in let facts = back.1.1.1.1 in
       let one : HasRead m r = subst (ReadAs m) facts.1 (read_as m) in let two : HasRead n s = subst (ReadAs n) facts.2 (read_as n) in
-      absurd (again m n r s facts.0 facts.3 facts.4 one two (drop m rs) refl one.leads (drop n rs) refl two.leads)))
+      absurd {A = IsStop k end} (again m n r s facts.0 facts.3 facts.4 one two (drop m rs) refl one.leads (drop n rs) refl two.leads)))
     where
       again : (m n : ℕ) (r s : Joined) → m < n → s.at ≡ r.at → 0 < r.at.page → HasRead m r → HasRead n s → (xs : List TextRef) → drop m rs ≡ xs → IsChain (seen k all space) r.at xs → (ys : List TextRef) → drop n rs ≡ ys → IsChain (seen k all space) s.at ys → ⊥
       again m n r s less same some one two [] is leads ys is' leads' = absurd (omega (arith, leads, some))

@@ -14,7 +14,8 @@ use Rattle.page_bytes.specs.Texts.{TEXT_KIND, slot_count, piece_at, piece_length
 use Rattle.text_pages.specs.declared.forms.Tried.TheVariants.{Absent}
 use Rattle.text_pages.specs.Slots.{lowest, slots_end, is_slotted, room, place_for, may_go}
 use Rattle.text_pages.specs.Finding.{tried_first, first_in, text_page, offered, tried_in, room_in, piece_in}
-use Rattle.text_pages.specs.Meaning.{seen, bytes, IsTextPage, HasPiece, IsSound, IsForm, IsPiece}
+use Rattle.page_bytes.specs.Seen.{seen, bytes}
+use Rattle.text_pages.specs.Meaning.{IsTextPage, HasPiece, IsSound, IsForm, IsPiece}
 use Rattle.text_pages.proofs.PageSteps.{head_is_none}
 use Rattle.text_pages.proofs.Ranges.{split}
 

@@ -1,15 +1,14 @@
 -- What is written in the head: the page that is tried first, and the next page number.
 use Rattle.std.proofs.Common.{◌≡◌, ℕ, ◌<◌, ◌≤◌, ◌^◌, ◌==◌, ◌&&◌, ◌⊎◌, inl, inr, true, not, List, length, slice_index, sym, ap, ◌∙◌, subst, IsTrue, arith}
 use Rattle.std.proofs.lemmas.Bool.Decides.{nat_tests}
-use Rattle.page_bytes.specs.Fields.{with_field, bytes_at}
+use Rattle.page_bytes.specs.Fields.{with_field}
 use Rattle.page_bytes.specs.Head.{is_head, next_page, with_next_page, LAST_PAGE}
 use Rattle.page_bytes.proofs.FieldLaws.{field-written}
 use Rattle.text_pages.specs.Finding.{tried_first}
-use Rattle.text_pages.specs.Meaning.{bytes, IsTextPage, IsForm}
+use Rattle.page_bytes.specs.Seen.{bytes}
+use Rattle.text_pages.specs.Meaning.{IsTextPage, IsForm}
 use Rattle.text_pages.proofs.Chains.{Pages}
-use Rattle.text_pages.proofs.Fields.{length-with_field, bytes_apart, field_apart, kind_kept}
-use Rattle.text_pages.proofs.Ranges.{split}
-use Rattle.text_pages.specs.Keeping.{IsBesideFields}
+use Rattle.page_bytes.proofs.WrittenFields.{length-with_field, field_apart, kind_kept}
 use Rattle.text_pages.proofs.PageSteps.{HeadForm}
 
 module _ (head : List ℕ) (long : length head ≡ 4096) (x : ℕ) where
@@ -44,14 +43,6 @@ module _ (head : List ℕ) (long : length head ≡ 4096) (x : ℕ) where
     where
       passes : (k n k' n' : ℕ) → (k == 2 && not (n == 0)) ≡ true → k' ≡ k → 0 < n' → (k' == 2 && not (n' == 0)) ≡ true
       passes k n k' n' is same some = grind (arith, nat_tests)
-
--- a part beside these fields stays
-module _ (head : List ℕ) (long : length head ≡ 4096) (x q m : ℕ) (apart : IsBesideFields q m) where
-  pub tried_beside : bytes_at q m (with_field 8 head 26 x) ≡ bytes_at q m head
-  tried_beside = bytes_apart m q 8 head 26 x (split apart (λ before. inl (omega (arith, before))) (λ more. split more (λ between. inl between.1) (λ behind. inr (omega (arith, behind))))) (omega (arith, long))
-
-  pub raised_beside : bytes_at q m (with_next_page head x) ≡ bytes_at q m head
-  raised_beside = bytes_apart m q 8 head 2 x (split apart (λ before. inl before) (λ more. split more (λ between. inr (omega (arith, between))) (λ behind. inr (omega (arith, behind))))) (omega (arith, long))
 
 -- a head that stays, or has another page that is tried first
 module _ (pages new : Pages) (n : ℕ) (form : IsForm pages) (numbered : IsTextPage new n → n < next_page (bytes pages 0)) where

@@ -7,7 +7,7 @@ use Rattle.page_bytes.proofs.FieldLaws.{length-with_bytes, field-written}
 use Rattle.text_pages.specs.declared.forms.Hole.{Hole}
 use Rattle.text_pages.specs.Slots.{lowest, with_slot, moved_slot, moved_slots, moved_pieces, closed}
 use Rattle.text_pages.specs.Inside.{IsHole}
-use Rattle.text_pages.proofs.Fields.{length-with_field}
+use Rattle.page_bytes.proofs.WrittenFields.{length-with_field}
 
 pub length-bytes_at : (at n : ℕ) (page : List ℕ) → at + n ≤ length page → length (bytes_at at n page) ≡ n
 length-bytes_at at n page inside = let left = length-drop at page in length-take-le n (drop at page) (omega (arith, left, inside))

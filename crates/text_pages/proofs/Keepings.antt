@@ -1,18 +1,16 @@
 -- What the calls on texts keep.
-use Rattle.std.proofs.Common.{◌≡◌, ◌≢◌, ℕ, zero, suc, ◌+◌, ◌/◌, ◌<◌, ◌≤◌, ◌^◌, ◌==◌, Bool, true, false, List, [], ◌∷◌, length, slice_index, Option, Result, Ok, Err, MatchResult, refl, sym, ap, ◌∙◌, subst, true≢false, eq-eqb, if◌then◌else◌, lit<, arith}
-use Rattle.std.specs.FinMap as map
+use Rattle.std.proofs.Common.{◌≡◌, ℕ, zero, suc, ◌+◌, ◌/◌, ◌<◌, ◌≤◌, ◌^◌, ◌==◌, Bool, true, false, List, [], ◌∷◌, length, Option, Result, Ok, Err, MatchResult, refl, sym, ap, ◌∙◌, subst, true≢false, eq-eqb, if◌then◌else◌, lit<, arith}
 use Rattle.page_bytes.specs.declared.ids.Space.{Space}
 use Rattle.page_bytes.specs.declared.ids.PageId.{PageId}
 use Rattle.page_bytes.specs.declared.texts.TextRef.{TextRef}
 use Rattle.page_bytes.specs.declared.end.PageEnd.{PageEnd}
-use Rattle.page_bytes.specs.Fields.{bytes_at}
 use Rattle.page_bytes.specs.Links.{and_then}
-use Rattle.page_bytes.specs.Texts.{TEXT_KIND}
 use Rattle.page_bytes.specs.Work.{Work}
 use Rattle.text_pages.specs.Putting.{nowhere, piece_count, piece_of, piece_put_in, pieces_put_in, put_in}
 use Rattle.text_pages.specs.Taking.{Taken, piece_taken_in, taken_more, taken_in, IsRemoved, IsReplaced}
-use Rattle.text_pages.specs.Meaning.{seen, bytes, IsTextPage, IsForm, IsPiece, next_at, IsChain, is_listed, IsOnceEach}
-use Rattle.text_pages.specs.Keeping.{IsSame, IsBesideFields, KeepsRest}
+use Rattle.page_bytes.specs.Seen.{seen, bytes}
+use Rattle.text_pages.specs.Meaning.{IsForm, IsPiece, next_at, IsChain, is_listed, IsOnceEach}
+use Rattle.text_pages.specs.Keeping.{IsSame, KeepsPieces}
 use Rattle.text_pages.proofs.Chains.{Pages, listed_first, listed_later, chain_pieces, chain_stays}
 use Rattle.text_pages.proofs.PutSteps.{PutStep, PutEnds, put_ends}
 use Rattle.text_pages.proofs.PutTexts.{piece_long, piece_short}
@@ -22,77 +20,46 @@ use Rattle.text_pages.proofs.TakeSteps.{TakeStep, TakeEnds, take_ends}
 same_twice : (a b c : Pages) (r : TextRef) → IsSame a b r → IsSame b c r → IsSame a c r
 same_twice a b c r one two = (two.0, two.1 ∙ one.1, two.2 ∙ one.2)
 
-text_by : (a b : Pages) (n : ℕ) → bytes b n ≡ bytes a n → IsTextPage a n → IsTextPage b n
-text_by a b n same is = subst (λ (l : List ℕ). slice_index l 0 ≡ TEXT_KIND) (sym same) is
-
 module _ (all : PageId → Option (List ℕ)) (space : Space) where
-  -- what pieces that are put keep
-  pub record PutKeeps (w new : Work) : Type 0 where
-    pub pieces : (r : TextRef) → IsPiece (seen w.now all space) r → IsSame (seen w.now all space) (seen new.now all space) r
-    pub pages : (n : ℕ) → n ≢ 0 → (IsTextPage (seen new.now all space) n → ⊥) → bytes (seen new.now all space) n ≡ bytes (seen w.now all space) n
-    pub head : (at n : ℕ) → IsBesideFields at n → bytes_at at n (bytes (seen new.now all space) 0) ≡ bytes_at at n (bytes (seen w.now all space) 0)
-    pub others : (id : PageId) → id.space ≢ space → map.get new.now.pages id ≡ map.get w.now.pages id
+  -- what is kept from one workspace to another
+  abbrev Keeps : Work → Work → List TextRef → Type 0
+  Keeps w new gone = KeepsPieces (seen w.now all space) (seen new.now all space) gone
 
-  -- and what pieces that are taken away keep
-  pub record TakeKeeps (w new : Work) (gone : List TextRef) : Type 0 where
-    pub pieces : (r : TextRef) → IsPiece (seen w.now all space) r → is_listed gone r ≡ false → IsSame (seen w.now all space) (seen new.now all space) r
-    pub pages : (n : ℕ) → n ≢ 0 → (IsTextPage (seen w.now all space) n → ⊥) → bytes (seen new.now all space) n ≡ bytes (seen w.now all space) n
-    pub head : (at n : ℕ) → IsBesideFields at n → bytes_at at n (bytes (seen new.now all space) 0) ≡ bytes_at at n (bytes (seen w.now all space) 0)
-    pub others : (id : PageId) → id.space ≢ space → map.get new.now.pages id ≡ map.get w.now.pages id
+  both_keep : (w v new : Work) (gone : List TextRef) → Keeps w v gone → Keeps v new [] → Keeps w new gone
+  both_keep w v new gone t p r is none = let kept = t r is none in same_twice (seen w.now all space) (seen v.now all space) (seen new.now all space) r kept (p r kept.0 refl)
 
-  both_keep : (w v new : Work) (gone : List TextRef) → TakeKeeps w v gone → PutKeeps v new → KeepsRest w new all space gone
-  both_keep w v new gone t p = record {
-    pieces = λ r is none. let kept = t.pieces r is none in same_twice (seen w.now all space) (seen v.now all space) (seen new.now all space) r kept (p.pieces r kept.0);
-    pages = λ n beside none none'. p.pages n beside none' ∙ t.pages n beside none;
-    head = λ at n apart. p.head at n apart ∙ t.head at n apart;
-    others = λ id differ. p.others id differ ∙ t.others id differ;
-  }
+  nothing_changes : (w : Work) (gone : List TextRef) → Keeps w w gone
+  nothing_changes w gone r is none = (is, refl, refl)
 
-  no_put : (w : Work) → PutKeeps w w
-  no_put w = record { pieces = λ r is. (is, refl, refl); pages = λ n beside none. refl; head = λ at n apart. refl; others = λ id differ. refl }
+  put_before : (w v new : Work) (next at : TextRef) (text : List ℕ) → PutStep w v all space next text at → Keeps v new [] → Keeps w new []
+  put_before w v new next at text step p = both_keep w v new [] (λ r is none. step.puts.kept r is) p
 
-  no_take : (w : Work) (gone : List TextRef) → TakeKeeps w w gone
-  no_take w gone = record { pieces = λ r is none. (is, refl, refl); pages = λ n beside none. refl; head = λ at n apart. refl; others = λ id differ. refl }
-
-  put_before : (w v new : Work) (next at : TextRef) (text : List ℕ) → PutStep w v all space next text at → PutKeeps v new → PutKeeps w new
-  put_before w v new next at text step p = record {
-    pieces = λ r is. let kept = step.puts.kept r is in same_twice (seen w.now all space) (seen v.now all space) (seen new.now all space) r kept (p.pieces r kept.0);
-    pages = λ n beside none. let same = p.pages n beside none in same ∙ step.pages n beside (λ is. none (text_by (seen v.now all space) (seen new.now all space) n same is));
-    head = λ q m apart. p.head q m apart ∙ step.head q m apart;
-    others = λ id differ. p.others id differ ∙ step.others id differ;
-  }
-
-  take_behind : (w v new : Work) (gone : List TextRef) (at next : TextRef) → is_listed gone at ≡ true → TakeKeeps w v gone → TakeStep v new all space at next → TakeKeeps w new gone
-  take_behind w v new gone at next listed t step = record {
-    pieces = λ r is none. let kept = t.pieces r is none in
-        same_twice (seen w.now all space) (seen v.now all space) (seen new.now all space) r kept (step.takes.kept r kept.0 (λ one. true≢false (sym listed ∙ ap (is_listed gone) (sym one) ∙ none)));
-    pages = λ n beside none. let same = t.pages n beside none in step.pages n beside (λ is. none (text_by (seen v.now all space) (seen w.now all space) n (sym same) is)) ∙ same;
-    head = λ q m apart. step.head q m apart ∙ t.head q m apart;
-    others = λ id differ. step.others id differ ∙ t.others id differ;
-  }
+  take_behind : (w v new : Work) (gone : List TextRef) (at next : TextRef) → is_listed gone at ≡ true → Keeps w v gone → TakeStep v new all space at next → Keeps w new gone
+  take_behind w v new gone at next listed t step r is none = let kept = t r is none in
+      same_twice (seen w.now all space) (seen v.now all space) (seen new.now all space) r kept (step.takes.kept r kept.0 (λ one. true≢false (sym listed ∙ ap (is_listed gone) (sym one) ∙ none)))
 
   -- all pieces of a text are put
   module _ (bytes : List ℕ) where
     pieces_kept : (n : ℕ) (w : Work) (next : TextRef) → n ≤ (length bytes + 4073) / 4074 → next.page < 256 ^ 8 → next.slot < 256 ^ 2 → IsForm (seen w.now all space)
-        → MatchResult (pieces_put_in n w space next bytes) (λ put. PutKeeps w put.1) (λ end. Unit {0})
-    pieces_kept zero w next within page_small slot_small form = no_put w
+        → MatchResult (pieces_put_in n w space next bytes) (λ put. Keeps w put.1 []) (λ end. Unit {0})
+    pieces_kept zero w next within page_small slot_small form = nothing_changes w []
     pieces_kept (suc n) w next within page_small slot_small form =
         carried (piece_put_in w space next (piece_of n bytes)) (put_ends w all space form next (piece_of n bytes) page_small slot_small (piece_long n bytes (omega (arith, within))) (piece_short n bytes))
         (λ (put : TextRef × Work) page_small slot_small form. pieces_kept n put.1 put.0 (omega (arith, within)) page_small slot_small form)
       where
-        with_step : (put : TextRef × Work) → PutStep w put.1 all space next (piece_of n bytes) put.0 → (r : Result (TextRef × Work) PageEnd) → MatchResult r (λ last. PutKeeps put.1 last.1) (λ end. Unit {0}) → MatchResult r (λ last. PutKeeps w last.1) (λ end. Unit {0})
+        with_step : (put : TextRef × Work) → PutStep w put.1 all space next (piece_of n bytes) put.0 → (r : Result (TextRef × Work) PageEnd) → MatchResult r (λ last. Keeps put.1 last.1 []) (λ end. Unit {0}) → MatchResult r (λ last. Keeps w last.1 []) (λ end. Unit {0})
         with_step put step (Ok last) keeps = put_before w put.1 last.1 next put.0 (piece_of n bytes) step keeps
         with_step put step (Err end) keeps = tt
 
         carried : (r : Result (TextRef × Work) PageEnd) → PutEnds w all space next (piece_of n bytes) r
-            → ((put : TextRef × Work) → put.0.page < 256 ^ 8 → put.0.slot < 256 ^ 2 → IsForm (seen put.1.now all space) → MatchResult (pieces_put_in n put.1 space put.0 bytes) (λ last. PutKeeps put.1 last.1) (λ end. Unit {0}))
-            → MatchResult (and_then r (λ (put : TextRef × Work). pieces_put_in n put.1 space put.0 bytes)) (λ last. PutKeeps w last.1) (λ end. Unit {0})
+            → ((put : TextRef × Work) → put.0.page < 256 ^ 8 → put.0.slot < 256 ^ 2 → IsForm (seen put.1.now all space) → MatchResult (pieces_put_in n put.1 space put.0 bytes) (λ last. Keeps put.1 last.1 []) (λ end. Unit {0}))
+            → MatchResult (and_then r (λ (put : TextRef × Work). pieces_put_in n put.1 space put.0 bytes)) (λ last. Keeps w last.1 []) (λ end. Unit {0})
         carried (Ok put) step more = with_step put step (pieces_put_in n put.1 space put.0 bytes) (more put step.page_small step.slot_small step.puts.form)
         carried (Err end) is more = tt
 
-    pub text_kept : (w new : Work) (at : TextRef) → IsForm (seen w.now all space) → put_in w space bytes ≡ Ok (at, new) → PutKeeps w new
+    pub text_kept : (w new : Work) (at : TextRef) → IsForm (seen w.now all space) → put_in w space bytes ≡ Ok (at, new) → Keeps w new []
     text_kept w new at form is =
-        subst (λ r. MatchResult r (λ put. PutKeeps w put.1) (λ end. Unit {0})) is (pieces_kept (piece_count bytes) w nowhere (omega arith) (lit< tt) (lit< tt) form)
+        subst (λ r. MatchResult r (λ put. Keeps w put.1 []) (λ end. Unit {0})) is (pieces_kept (piece_count bytes) w nowhere (omega arith) (lit< tt) (lit< tt) form)
 
   -- a text is taken away
   module _ (w : Work) (at : TextRef) (gone : List TextRef) where
@@ -102,7 +69,7 @@ module _ (all : PageId → Option (List ℕ)) (space : Space) where
       pub leads : IsChain (seen t.work.now all space) t.at rest
       pub once : IsOnceEach rest
       pub part : (r : TextRef) → is_listed rest r ≡ true → is_listed gone r ≡ true
-      pub keeps : TakeKeeps w t.work gone
+      pub keeps : Keeps w t.work gone
 
     one_more : (t : Taken) → LeavesRest t → MatchResult (taken_more space t) LeavesRest (λ end. Unit {0})
     one_more t h = at_page (t.at.page == 0) refl h.rest h.leads h.once h.part
@@ -132,7 +99,7 @@ module _ (all : PageId → Option (List ℕ)) (space : Space) where
 
     module _ (form : IsForm (seen w.now all space)) (chain : IsChain (seen w.now all space) at gone) (once : IsOnceEach gone) where
       left_rest : (n : ℕ) → MatchResult (taken_in w space at n) LeavesRest (λ end. Unit {0})
-      left_rest zero = record { rest = gone; form = form; leads = chain; once = once; part = λ r listed. listed; keeps = no_take w gone }
+      left_rest zero = record { rest = gone; form = form; leads = chain; once = once; part = λ r listed. listed; keeps = nothing_changes w gone }
       left_rest (suc n) = more (taken_in w space at n) (left_rest n)
         where
           more : (r : Result Taken PageEnd) → MatchResult r LeavesRest (λ end. Unit {0}) → MatchResult (and_then r (taken_more space)) LeavesRest (λ end. Unit {0})
@@ -143,15 +110,15 @@ module _ (all : PageId → Option (List ℕ)) (space : Space) where
       left_at n t is = subst (λ r. MatchResult r LeavesRest (λ end. Unit {0})) is (left_rest n)
 
 -- what `put`, `remove` and `replace` keep
-pub put_keeps : (w new : Work) (all : PageId → Option (List ℕ)) (space : Space) (bytes : List ℕ) (at : TextRef) → IsForm (seen w.now all space) → put_in w space bytes ≡ Ok (at, new) → KeepsRest w new all space []
-put_keeps w new all space bytes at form is = both_keep all space w w new [] (no_take all space w []) (text_kept all space bytes w new at form is)
+pub put_keeps : (w new : Work) (all : PageId → Option (List ℕ)) (space : Space) (bytes : List ℕ) (at : TextRef) → IsForm (seen w.now all space) → put_in w space bytes ≡ Ok (at, new) → KeepsPieces (seen w.now all space) (seen new.now all space) []
+put_keeps w new all space bytes at form is = text_kept all space bytes w new at form is
 
-pub remove_keeps : (w new : Work) (all : PageId → Option (List ℕ)) (space : Space) (at : TextRef) (chain : List TextRef) → IsForm (seen w.now all space) → IsChain (seen w.now all space) at chain → IsOnceEach chain → IsRemoved w space at (Ok tt) new → KeepsRest w new all space chain
+pub remove_keeps : (w new : Work) (all : PageId → Option (List ℕ)) (space : Space) (at : TextRef) (chain : List TextRef) → IsForm (seen w.now all space) → IsChain (seen w.now all space) at chain → IsOnceEach chain → IsRemoved w space at (Ok tt) new → KeepsPieces (seen w.now all space) (seen new.now all space) chain
 remove_keeps w new all space at chain form leads once is =
     let left = left_at all space w at chain form leads once is.0 is.1.0 is.1.1.0 in
-    subst (λ (v : Work). KeepsRest w v all space chain) (sym is.1.1.2) (both_keep all space w is.1.0.work is.1.0.work chain left.keeps (no_put all space is.1.0.work))
+    subst (λ (v : Work). KeepsPieces (seen w.now all space) (seen v.now all space) chain) (sym is.1.1.2) left.keeps
 
-pub replace_keeps : (w new : Work) (all : PageId → Option (List ℕ)) (space : Space) (at : TextRef) (chain : List TextRef) (bytes : List ℕ) (ref : TextRef) → IsForm (seen w.now all space) → IsChain (seen w.now all space) at chain → IsOnceEach chain → IsReplaced w space at bytes (Ok ref) new → KeepsRest w new all space chain
+pub replace_keeps : (w new : Work) (all : PageId → Option (List ℕ)) (space : Space) (at : TextRef) (chain : List TextRef) (bytes : List ℕ) (ref : TextRef) → IsForm (seen w.now all space) → IsChain (seen w.now all space) at chain → IsOnceEach chain → IsReplaced w space at bytes (Ok ref) new → KeepsPieces (seen w.now all space) (seen new.now all space) chain
 replace_keeps w new all space at chain bytes ref form leads once is =
     let left = left_at all space w at chain form leads once is.0 is.1.0 is.1.1.0 in
     both_keep all space w is.1.0.work new chain left.keeps (text_kept all space bytes is.1.0.work new ref left.form is.1.1.2)

@@ -1,7 +1,4 @@
-pub mod Pages
-pub mod Answering
-pub mod Seen
-pub mod Fields
+pub mod NewPages
 pub mod SlotWalks
 pub mod Weights
 pub mod Steps
@@ -9,6 +6,7 @@ pub mod PutWalks
 pub mod TakeWalks
 pub mod Passing
 pub mod Holes
+pub mod TakeCases
 pub mod Lighter
 pub mod Ranges
 pub mod PageWithPiece
@@ -17,7 +15,6 @@ pub mod Chains
 pub mod Sounds
 pub mod Places
 pub mod PageSteps
-pub mod Knowing
 pub mod Givings
 pub mod Heads
 pub mod PutSteps
@@ -27,3 +24,5 @@ pub mod PutTexts
 pub mod TakeTexts
 pub mod GetTexts
 pub mod Keepings
+pub mod TextKinds
+pub mod Ownings

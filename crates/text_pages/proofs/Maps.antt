@@ -6,7 +6,8 @@ use Rattle.std.specs.Ordering.{nat_cmp, eq_by_cmp, is_eq, ordering_then}
 use Rattle.std.specs.Cmp.{IsTotalOrder, nat_cmp_total, on_total, then_total, unsigned_tied}
 use Rattle.std.specs.FinMap as map
 use Rattle.page_bytes.specs.declared.texts.TextRef.{TextRef}
-use Rattle.text_pages.specs.Meaning.{bytes, IsTextPage, IsForm, IsPiece, IsChain, joined_bytes, is_listed, IsOnceEach, ref_cmp, TextMap, MeansTexts, IsPut}
+use Rattle.page_bytes.specs.Seen.{bytes}
+use Rattle.text_pages.specs.Meaning.{IsTextPage, IsForm, IsPiece, IsChain, joined_bytes, is_listed, IsOnceEach, ref_cmp, TextMap, MeansTexts, IsPut}
 use Rattle.text_pages.proofs.Chains.{Pages, Loose, same_ref, same_as_itself, listed_first}
 use Rattle.text_pages.proofs.PageSteps.{head_is_none}
 
@@ -30,9 +31,6 @@ get-with texts at q text = map.get-insert ref_cmp-total texts at text q ∙ ap (
 
 pub get-without : (texts : TextMap) (at q : TextRef) → map.get (map.remove texts at) q ≡ cond (is_same q at) None (map.get texts q)
 get-without texts at q = map.get-remove ref_cmp-total texts at q ∙ ap (λ b. cond b None (map.get texts q)) (tied_is_same q at)
-
-none_some : {X : Type 0} (o : Option X) (x : X) → o ≡ None → o ≡ Some x → ⊥
-none_some o x none some = cc
 
 -- a text of the map that is left is another one, and was there
 pub left_is : (texts : TextMap) (at q : TextRef) (text : List ℕ) → map.get (map.remove texts at) q ≡ Some text → (map.get texts q ≡ Some text) × (q ≢ at)

@@ -7,7 +7,8 @@ use Rattle.page_bytes.specs.Texts.{TEXT_KIND, slot_count, piece_at, next_piece, 
 use Rattle.text_pages.specs.declared.forms.Place.{Place}
 use Rattle.text_pages.specs.Slots.{with_piece, hole_of, closed, others_free, is_only}
 use Rattle.text_pages.specs.Finding.{tried_first}
-use Rattle.text_pages.specs.Meaning.{bytes, IsTextPage, HasPiece, IsSound, IsForm, IsPiece, next_at, bytes_of}
+use Rattle.page_bytes.specs.Seen.{bytes}
+use Rattle.text_pages.specs.Meaning.{IsTextPage, HasPiece, IsSound, IsForm, IsPiece, next_at, bytes_of}
 use Rattle.text_pages.proofs.Chains.{Pages, Puts, Takes}
 use Rattle.text_pages.specs.Keeping.{IsSame}
 use Rattle.text_pages.proofs.PageWithPiece as into

@@ -8,7 +8,7 @@ use Rattle.page_bytes.proofs.FieldLaws.{length-with_bytes, bytes_at-written, fie
 use Rattle.text_pages.specs.declared.forms.Place.{Place}
 use Rattle.text_pages.specs.Slots.{lowest, with_slot, with_content, with_piece}
 use Rattle.text_pages.specs.Meaning.{HasPiece}
-use Rattle.text_pages.proofs.Fields.{length-with_field, bytes_apart, field_apart}
+use Rattle.page_bytes.proofs.WrittenFields.{length-with_field, bytes_apart, field_apart}
 use Rattle.text_pages.proofs.Holes.{length-with_slot}
 use Rattle.text_pages.proofs.Ranges.{split, Apart, bytes_beside}
 

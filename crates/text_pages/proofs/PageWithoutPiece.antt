@@ -9,7 +9,7 @@ use Rattle.text_pages.specs.declared.forms.Hole.{Hole}
 use Rattle.text_pages.specs.Slots.{lowest, with_slot, hole_of, moved_slot, moved_slots, moved_pieces, closed}
 use Rattle.text_pages.specs.Inside.{IsHole}
 use Rattle.text_pages.specs.Meaning.{HasPiece, IsSound}
-use Rattle.text_pages.proofs.Fields.{length-with_field, bytes_apart, field_apart}
+use Rattle.page_bytes.proofs.WrittenFields.{length-with_field, bytes_apart, field_apart}
 use Rattle.text_pages.proofs.Holes.{length-bytes_at, length-moved_slots, length-moved_pieces, length-slots_closed, lowest-closed}
 use Rattle.text_pages.proofs.PageWithPiece.{slot_order}
 use Rattle.text_pages.proofs.Ranges.{split, field-moved, Apart, bytes_beside, bytes_at-inside, bytes_at-part}
@@ -59,9 +59,6 @@ module _ (hole : Hole) (inside : IsHole hole) where
           at : (b : Bool) → nat_lt s n ≡ b → Apart (slot_at s + 2) 2 (slot_at n) 2
           at true is = let less = ltb-true s n is in inl (omega (arith, less))
           at false is = let past = ltb-false s n is in inr (omega (arith, past))
-
-  first_field : (s n : ℕ) → s ≢ n → Apart (slot_at s) 2 (slot_at n) 2
-  first_field s n differ = split (slot_order s n differ) (λ less. inl (omega (arith, less))) (λ past. inr (omega (arith, past)))
 
   -- a slot behind those that move stays
   later_stays : (n s : ℕ) (page : List ℕ) → n ≤ 1022 → length page ≡ 4096 → n ≤ s → piece_at s (moved_slots hole n page) ≡ piece_at s page

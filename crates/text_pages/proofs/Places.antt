@@ -21,7 +21,10 @@ free_from-is (suc n) slot page = at (piece_at slot page == 0) refl (free_from-is
     at true is rest = (omega arith, λ less. eqb-true (piece_at slot page) 0 is)
     at false is rest = (let up = rest.0 in omega (arith, up), λ less. rest.1 (omega (arith, less)))
 
-module _ (page : List ℕ) (sound : IsSound page) (k : ℕ) where
+one_place : (p q : Place) → (let o : Option Place = Some p in o ≡ Some q) → p ≡ q
+one_place p q is = cc
+
+module _ (page : List ℕ) where
   slot_is : (free_slot page ≤ slot_count page) × (free_slot page < slot_count page → piece_at (free_slot page) page ≡ 0)
   slot_is = let all = free_from-is (slot_count page) 0 page in (let up = all.0 in omega (arith, up), λ less. all.1 (omega (arith, less)))
 
@@ -51,29 +54,39 @@ module _ (page : List ℕ) (sound : IsSound page) (k : ℕ) where
               itself : (n : ℕ) → nat_eq n n ≡ true
               itself n = grind arith
 
-  pub place_is : (place : Place) → place_for k page ≡ Some place → IsPlace page place k
-  place_is place is = at (nat_le (slot_at (slots_then page) + k) (lowest page)) refl is
+  -- a place is behind the page's first byte and inside it
+  pub place_within : (k : ℕ) (place : Place) → lowest page ≤ 4096 → 10 ≤ k → place_for k page ≡ Some place → (place.slot < 1022) × (1 ≤ place.at) × (place.at + k ≤ 4096)
+  place_within k place low some is = at (nat_le (slot_at (slots_then page) + k) (lowest page)) refl is
     where
-      found : slot_at (slots_then page) + k ≤ lowest page → IsPlace page (record { slot = free_slot page; count = slots_then page; at = lowest page - k }) k
-      found fits =
-          let count = count_is in let low = sound.low in
-          record {
-            slot = count.slot;
-            count = omega (arith, fits, low);
-            behind = omega (arith, fits);
-            inside = omega (arith, fits, low);
-            old = count.old;
-            kept = λ s inside. let more = count.kept in omega (arith, more, inside);
-            free = λ has. let none = slot_is.1 has.0 in let some = has.1 in absurd (omega (arith, none, some));
-            above = λ s has. let within = (sound.inside s has).0 in omega (arith, fits, within);
-          }
+      found : slot_at (slots_then page) + k ≤ lowest page → (free_slot page < 1022) × (1 ≤ lowest page - k) × (lowest page - k + k ≤ 4096)
+      found fits = let count = count_is in let slot = count.slot in (omega (arith, slot, fits, low, some), omega (arith, fits), omega (arith, fits, low))
 
-      at : (b : Bool) → nat_le (slot_at (slots_then page) + k) (lowest page) ≡ b → (if b then Some (record { slot = free_slot page; count = slots_then page; at = lowest page - k }) else None) ≡ Some place → IsPlace page place k
-      at true fits is = subst (λ (p : Place). IsPlace page p k) (same _ _ is) (found (leb-true (slot_at (slots_then page) + k) (lowest page) fits))
-        where
-          same : (p q : Place) → (let o : Option Place = Some p in o ≡ Some q) → p ≡ q
-          same p q is = cc
+      at : (b : Bool) → nat_le (slot_at (slots_then page) + k) (lowest page) ≡ b → (if b then Some (record { slot = free_slot page; count = slots_then page; at = lowest page - k }) else None) ≡ Some place
+          → (place.slot < 1022) × (1 ≤ place.at) × (place.at + k ≤ 4096)
+      at true fits is = subst (λ (p : Place). (p.slot < 1022) × (1 ≤ p.at) × (p.at + k ≤ 4096)) (one_place _ _ is) (found (leb-true (slot_at (slots_then page) + k) (lowest page) fits))
       at false fits is = cc
+
+  module _ (sound : IsSound page) (k : ℕ) where
+    pub place_is : (place : Place) → place_for k page ≡ Some place → IsPlace page place k
+    place_is place is = at (nat_le (slot_at (slots_then page) + k) (lowest page)) refl is
+      where
+        found : slot_at (slots_then page) + k ≤ lowest page → IsPlace page (record { slot = free_slot page; count = slots_then page; at = lowest page - k }) k
+        found fits =
+            let count = count_is in let low = sound.low in
+            record {
+              slot = count.slot;
+              count = omega (arith, fits, low);
+              behind = omega (arith, fits);
+              inside = omega (arith, fits, low);
+              old = count.old;
+              kept = λ s inside. let more = count.kept in omega (arith, more, inside);
+              free = λ has. let none = slot_is.1 has.0 in let some = has.1 in absurd (omega (arith, none, some));
+              above = λ s has. let within = (sound.inside s has).0 in omega (arith, fits, within);
+            }
+
+        at : (b : Bool) → nat_le (slot_at (slots_then page) + k) (lowest page) ≡ b → (if b then Some (record { slot = free_slot page; count = slots_then page; at = lowest page - k }) else None) ≡ Some place → IsPlace page place k
+        at true fits is = subst (λ (p : Place). IsPlace page p k) (one_place _ _ is) (found (leb-true (slot_at (slots_then page) + k) (lowest page) fits))
+        at false fits is = cc
 
 -- a page of zeros but for its kind has no slot
 abbrev pub blank : List ℕ

@@ -7,38 +7,35 @@ use Rattle.page_bytes.specs.declared.ids.PageId.{PageId}
 use Rattle.page_bytes.specs.declared.texts.TextRef.{TextRef}
 use Rattle.page_bytes.specs.declared.end.PageEnd.{PageEnd}
 use Rattle.page_bytes.specs.declared.end.PageEnd.TheVariants.{Need, Damaged, Spent}
-use Rattle.page_bytes.specs.Fields.{with_field, bytes_at}
+use Rattle.page_bytes.specs.Fields.{with_field}
 use Rattle.page_bytes.specs.Head.{head_of, is_head, next_page, with_next_page, LAST_PAGE}
 use Rattle.page_bytes.specs.Known.{is_there}
 use Rattle.page_bytes.specs.Links.{page_in, and_then}
 use Rattle.page_bytes.specs.Refusal.{head_refusal, fresh_refusal}
-use Rattle.page_bytes.specs.Work.{Work, with_page, with_fresh, first_bytes, zeros}
+use Rattle.page_bytes.specs.Work.{Work, with_page, with_fresh, first_bytes, zeros, next_in}
 use Rattle.text_pages.specs.declared.forms.Place.{Place}
 use Rattle.text_pages.specs.Slots.{room, place_for, only_place, with_piece, page_with_piece}
 use Rattle.text_pages.specs.Finding.{tried_first, first_in, offered, tried_in, is_roomier}
-use Rattle.text_pages.specs.Putting.{next_in, with_first, with_piece_on, with_new_page, room_left, new_piece_in, put_on, piece_put_in}
-use Rattle.text_pages.specs.Answers.{unless}
-use Rattle.text_pages.specs.Meaning.{seen, bytes, IsTextPage, IsForm, IsNotPut}
-use Rattle.text_pages.specs.Keeping.{IsBesideFields}
+use Rattle.text_pages.specs.Putting.{with_first, with_piece_on, with_new_page, room_left, new_piece_in, put_on, piece_put_in}
+use Rattle.page_bytes.specs.Answers.{unless}
+use Rattle.page_bytes.specs.Seen.{seen, bytes}
+use Rattle.text_pages.specs.Meaning.{IsTextPage, IsForm, IsNotPut}
 use Rattle.text_pages.proofs.Chains.{Puts}
 use Rattle.text_pages.proofs.Givings.{Needs, first-is, tried-is}
-use Rattle.text_pages.proofs.Heads.{head_stays, tried_long, tried_next, tried_head, tried_is, raised_long, raised_next, raised_first, raised_head, tried_beside, raised_beside}
-use Rattle.text_pages.proofs.Knowing.{Grows, grows_twice, grows_with, other_with}
-use Rattle.text_pages.proofs.Pages.{there_with_page, written_there}
+use Rattle.text_pages.proofs.Heads.{head_stays, tried_long, tried_next, tried_head, tried_is, raised_long, raised_next, raised_first, raised_head}
+use Rattle.page_bytes.proofs.Growing.{Grows, grows_twice, grows_with}
+use Rattle.page_bytes.proofs.SeenPages.{seen-written, seen-beside, seen-first}
+use Rattle.page_bytes.proofs.PageWrites.{there_with_page, written_there}
 use Rattle.text_pages.proofs.PageSteps.{HeadForm, head_is_none, puts_piece}
 use Rattle.text_pages.proofs.PageWithPiece.{new_kind}
 use Rattle.text_pages.proofs.Places.{place_is, blank, blank_kind, blank_open, blank_place}
 use Rattle.text_pages.proofs.Ranges.{split}
-use Rattle.text_pages.proofs.Seen.{seen-written, seen-beside, seen-first}
 use Rattle.text_pages.proofs.Sounds.{open_page}
 
 -- a piece is put, with all that is known kept
 pub record PutStep (w new : Work) (all : PageId → Option (List ℕ)) (space : Space) (next : TextRef) (text : List ℕ) (at : TextRef) : Type 0 where
   pub puts : Puts (seen w.now all space) (seen new.now all space) at next text
   pub grows : Grows w.now new.now
-  pub pages : (n : ℕ) → n ≢ 0 → (IsTextPage (seen new.now all space) n → ⊥) → bytes (seen new.now all space) n ≡ bytes (seen w.now all space) n
-  pub head : (q m : ℕ) → IsBesideFields q m → bytes_at q m (bytes (seen new.now all space) 0) ≡ bytes_at q m (bytes (seen w.now all space) 0)
-  pub others : (id : PageId) → id.space ≢ space → map.get new.now.pages id ≡ map.get w.now.pages id
   pub past : 0 < at.page
   pub page_small : at.page < 256 ^ 8
   pub slot_small : at.slot < 256 ^ 2
@@ -64,9 +61,6 @@ module _ (w : Work) (all : PageId → Option (List ℕ)) (space : Space) (form :
             (head_stays pages (seen new.now all space) n form (λ is. below) (seen-beside w all space n 0 _ (λ zero_is. past (sym zero_is))) (λ same. is_text))
             page place next text (open_page page (form.sound n is)) p some is (λ is. refl) here page_small slot_small;
         grows = grows_with w (page_in space n) _;
-        pages = λ q beside none. seen-beside w all space n q _ (λ same. none (subst (IsTextPage (seen new.now all space)) (sym same) is_text));
-        head = λ q m apart. ap (bytes_at q m) (seen-beside w all space n 0 _ (λ zero_is. past (sym zero_is)));
-        others = λ id differ. other_with w space n _ id differ;
         past = omega (arith, past);
         page_small = omega (arith, below, last);
         slot_small = omega (arith, slot, count);
@@ -170,37 +164,20 @@ module _ (w : Work) (all : PageId → Option (List ℕ)) (space : Space) (form :
         }
 
     new_step : (v : Work) → bytes (seen v.now all space) n ≡ page_with_piece next text → ((q : ℕ) → q ≢ n → q ≢ 0 → bytes (seen v.now all space) q ≡ bytes (seen w.now all space) q)
-        → HeadForm (seen w.now all space) (seen v.now all space) n → Grows w.now v.now
-        → ((q m : ℕ) → IsBesideFields q m → bytes_at q m (bytes (seen v.now all space) 0) ≡ bytes_at q m (bytes (seen w.now all space) 0)) → ((id : PageId) → id.space ≢ space → map.get v.now.pages id ≡ map.get w.now.pages id)
-        → PutStep w v all space next text (record { page = n; slot = 0 })
-    new_step v here others heads grows rest spaces =
+        → HeadForm (seen w.now all space) (seen v.now all space) n → Grows w.now v.now → PutStep w v all space next text (record { page = n; slot = 0 })
+    new_step v here others heads grows =
         let same = next_is in let some_next = positive in record {
           puts = puts_piece (seen w.now all space) (seen v.now all space) n form others heads blank (only_place text) next text blank_open (blank_place text short) some blank_kind
               (λ is. let below = form.numbered n is in absurd (omega (arith, below, same))) here page_small slot_small;
           grows = grows;
-          pages = λ q beside none. others q (λ same. none (subst (IsTextPage (seen v.now all space)) (sym same) (kind_new v here))) beside;
-          head = rest;
-          others = spaces;
           past = omega (arith, same, some_next);
           page_small = omega (arith, same, more);
           slot_small = omega arith;
         }
 
-    third_rest : (q m : ℕ) → IsBesideFields q m → bytes_at q m (bytes (seen third.now all space) 0) ≡ bytes_at q m (bytes (seen w.now all space) 0)
-    third_rest q m apart = ap (bytes_at q m) third_head ∙ raised_beside head form.long (next_page head + 1) q m apart
-
-    third_spaces : (id : PageId) → id.space ≢ space → map.get third.now.pages id ≡ map.get w.now.pages id
-    third_spaces id differ = other_with second space (next_in w space) _ id differ ∙ other_with first space 0 _ id differ ∙ other_with w space (next_in w space) zeros id differ
-
-    fourth_rest : (q m : ℕ) → IsBesideFields q m → bytes_at q m (bytes (seen fourth.now all space) 0) ≡ bytes_at q m (bytes (seen w.now all space) 0)
-    fourth_rest q m apart = ap (bytes_at q m) fourth_head ∙ tried_beside (bytes (seen third.now all space) 0) third_form.long n q m apart ∙ third_rest q m apart
-
-    fourth_spaces : (id : PageId) → id.space ≢ space → map.get fourth.now.pages id ≡ map.get w.now.pages id
-    fourth_spaces id differ = other_with third space 0 _ id differ ∙ third_spaces id differ
-
     pub on_new_page : (b : Bool) → PutStep w (if b then fourth else third) all space next text (record { page = n; slot = 0 })
-    on_new_page true = new_step fourth fourth_page fourth_other fourth_form (grows_twice w.now third.now fourth.now grown (grows_with third (head_of space) _)) fourth_rest fourth_spaces
-    on_new_page false = new_step third third_page third_other third_form grown third_rest third_spaces
+    on_new_page true = new_step fourth fourth_page fourth_other fourth_form (grows_twice w.now third.now fourth.now grown (grows_with third (head_of space) _))
+    on_new_page false = new_step third third_page third_other third_form grown
 
   -- where the head is there, a new page is given, or page numbers are spent
   module _ (there : IsTrue (is_there w.now (head_of space))) where
@@ -238,8 +215,8 @@ module _ (w : Work) (all : PageId → Option (List ℕ)) (space : Space) (form :
       put_there : (is : IsTextPage (seen w.now all space) (tried_first (bytes (seen w.now all space) 0))) → IsTrue (is_there w.now (head_of space)) → IsTrue (is_there w.now (page_in space (tried_first (bytes (seen w.now all space) 0)))) → (o : Option Place)
           → place_for (10 + length text) (bytes (seen w.now all space) (tried_first (bytes (seen w.now all space) 0))) ≡ o
           → PutEnds w all space next text (put_on w space (tried_first (bytes (seen w.now all space) 0)) (offered (tried_first (bytes (seen w.now all space) 0)) o (bytes (seen w.now all space) (tried_first (bytes (seen w.now all space) 0)))) next text)
-      put_there is head there (Some place) fits = on_page (tried_first (bytes (seen w.now all space) 0)) place is there fits
-      put_there is head there None fits = new_ends head (Some (room (bytes (seen w.now all space) (tried_first (bytes (seen w.now all space) 0)))))
+      put_there is known there (Some place) fits = on_page (tried_first (bytes (seen w.now all space) 0)) place is there fits
+      put_there is known there None fits = new_ends known (Some (room (bytes (seen w.now all space) (tried_first (bytes (seen w.now all space) 0)))))
 
       tried : IsTrue (is_there w.now (head_of space))
           → PutEnds w all space next text (and_then (tried_in w.now space (tried_first (bytes (seen w.now all space) 0)) (10 + length text)) (λ tried. put_on w space (tried_first (bytes (seen w.now all space) 0)) tried next text))

@@ -9,10 +9,11 @@ use Rattle.page_bytes.specs.Known.{Known}
 use Rattle.page_bytes.specs.Links.{and_then}
 use Rattle.page_bytes.specs.Work.{Work}
 use Rattle.text_pages.specs.Putting.{nowhere, piece_count, piece_of, piece_put_in, pieces_put_in, put_in}
-use Rattle.text_pages.specs.Answers.{Answers}
-use Rattle.text_pages.specs.Meaning.{seen, TextMap, MeansTexts, IsPut, IsStop, IsNotPut}
+use Rattle.page_bytes.specs.Answers.{Answers, IsStop}
+use Rattle.page_bytes.specs.Seen.{seen}
+use Rattle.text_pages.specs.Meaning.{TextMap, MeansTexts, IsPut, IsNotPut}
 use Rattle.text_pages.proofs.Chains.{Loose, loose_put}
-use Rattle.text_pages.proofs.Knowing.{Grows}
+use Rattle.page_bytes.proofs.Growing.{Grows}
 use Rattle.text_pages.proofs.Maps.{loose_empty, text_put}
 use Rattle.text_pages.proofs.PutSteps.{PutEnds, put_ends}
 use Rattle.text_pages.proofs.Ranges.{split}

@@ -34,10 +34,6 @@ bytes_beside q n page to bytes apart within = ⊎_elim
     (λ behind. bytes_at-behind page q n to bytes behind (omega (arith, within)))
     apart
 
--- a part of what stays stays
-pub part_stays : (page new : List ℕ) (to from m i n : ℕ) → bytes_at to m new ≡ bytes_at from m page → i + n ≤ m → bytes_at (to + i) n new ≡ bytes_at (from + i) n page
-part_stays page new to from m i n same inside = sym (bytes_at-part new to m i n inside) ∙ ap (bytes_at i n) same ∙ bytes_at-part page from m i n inside
-
 -- a field is what its bytes are, wherever they stand
 pub field-moved : (n at to : ℕ) (page new : List ℕ) → bytes_at to n new ≡ bytes_at at n page → field n to new ≡ field n at page
 unfolding field

@@ -1,5 +1,5 @@
 -- What is known where a step of a call has given a value.
-use Rattle.std.proofs.Common.{◌≡◌, ℕ, Bool, true, false, List, Option, Some, None, Result, Ok, Err, refl, ap, ◌∙◌, length, unwrap_or, if◌then◌else◌}
+use Rattle.std.proofs.Common.{◌≡◌, ℕ, Bool, true, false, List, Option, Some, None, Result, Ok, Err, OnOk, refl, ap, ◌∙◌, length, unwrap_or, if◌then◌else◌}
 use Rattle.std.specs.FinMap as map
 use Rattle.page_bytes.specs.declared.ids.PageId.{PageId}
 use Rattle.page_bytes.specs.declared.end.PageEnd.{PageEnd}
@@ -33,6 +33,15 @@ asked_there k from id x is = given (is_unknown k id) from id (map.get k.pages id
 pub asked_long : (k : Known) (from id : PageId) (x : List ℕ) → asked k from id ≡ Ok x → length x ≡ 4096 → length (first_bytes k id) ≡ 4096
 asked_long k from id x is long = ap (λ (o : Option (List ℕ)). length (unwrap_or o zeros)) (asked_there k from id x is) ∙ long
 
+-- what holds anyway holds where a value is given
+pub on_any : {X E P : Type 0} (r : Result X E) → P → OnOk r P
+on_any (Ok x) p = p
+on_any (Err e) p = tt
+
+pub on_ok : {X E P Q : Type 0} (r : Result X E) → (P → Q) → OnOk r P → OnOk r Q
+on_ok (Ok x) f p = f p
+on_ok (Err e) f p = tt
+
 -- one answer has one value
-pub same_value : {X : Type 0} (r : Result X PageEnd) (x y : X) → r ≡ Ok x → r ≡ Ok y → x ≡ y
-same_value r x y is same = cc
+pub one_value : {X : Type 0} (x y : X) → (let r : Result X PageEnd = Ok x in r ≡ Ok y) → x ≡ y
+one_value x y is = cc

@@ -1,12 +1,11 @@
 -- What taking a piece away does where the pages are in the form of texts.
 use Rattle.std.proofs.Common.{◌≡◌, ◌≢◌, ℕ, zero, suc, ◌<◌, ◌==◌, ◌&&◌, ◌||◌, inl, inr, Bool, true, false, List, [], slice_index, Option, Some, None, Result, Ok, Err, MatchResult, refl, sym, ap, ◌∙◌, subst, eq-eqb, IsTrue, true≢false, if◌then◌else◌, arith}
 use Rattle.std.proofs.lemmas.Bool.Decides.{nat_tests}
-use Rattle.std.specs.FinMap as map
 use Rattle.page_bytes.specs.declared.ids.Space.{Space}
 use Rattle.page_bytes.specs.declared.ids.PageId.{PageId}
 use Rattle.page_bytes.specs.declared.texts.TextRef.{TextRef}
 use Rattle.page_bytes.specs.declared.end.PageEnd.{PageEnd}
-use Rattle.page_bytes.specs.Fields.{with_field, bytes_at}
+use Rattle.page_bytes.specs.Fields.{with_field}
 use Rattle.page_bytes.specs.Head.{head_of}
 use Rattle.page_bytes.specs.Known.{Known, is_there}
 use Rattle.page_bytes.specs.Links.{page_in, and_then}
@@ -17,26 +16,24 @@ use Rattle.text_pages.specs.Slots.{room, hole_of, closed, others_free, is_only}
 use Rattle.text_pages.specs.Finding.{tried_first, first_in, room_in, is_roomier}
 use Rattle.text_pages.specs.Putting.{with_first}
 use Rattle.text_pages.specs.Taking.{leaving_of, page_freed_in, roomier_in, with_hole, hole_made_in, piece_gone_in, piece_taken_in}
-use Rattle.text_pages.specs.Meaning.{seen, bytes, IsTextPage, IsForm, IsPiece, next_at, IsStop}
-use Rattle.text_pages.specs.Keeping.{IsBesideFields}
+use Rattle.page_bytes.specs.Seen.{seen, bytes}
+use Rattle.text_pages.specs.Meaning.{IsTextPage, IsForm, IsPiece, next_at}
+use Rattle.page_bytes.specs.Answers.{IsStop}
 use Rattle.text_pages.proofs.Chains.{Takes}
 use Rattle.text_pages.proofs.Givings.{Needs, first-is, room-is, piece-is}
-use Rattle.text_pages.proofs.Heads.{head_stays, head_tries, tried_beside}
-use Rattle.text_pages.proofs.Knowing.{Grows, grows_twice, grows_with, grows_without, seen-freed, seen-freed_beside, other_with, other_without}
-use Rattle.text_pages.proofs.Pages.{there_with_page, head_there_without}
+use Rattle.text_pages.proofs.Heads.{head_stays, head_tries}
+use Rattle.page_bytes.proofs.Growing.{Grows, grows_twice, grows_with, grows_without}
+use Rattle.page_bytes.proofs.SeenPages.{seen-freed, seen-freed_beside, seen-written, seen-beside, seen-first}
+use Rattle.page_bytes.proofs.PageWrites.{there_with_page, head_there_without}
 use Rattle.text_pages.proofs.PageSteps.{HeadForm, head_is_none, takes_piece, takes_page}
 use Rattle.text_pages.proofs.PageWithoutPiece as out
 use Rattle.text_pages.proofs.Ranges.{split}
-use Rattle.text_pages.proofs.Seen.{seen-written, seen-beside, seen-first}
 
 -- a piece is taken away, with all that is known kept
 pub record TakeStep (w new : Work) (all : PageId → Option (List ℕ)) (space : Space) (at next : TextRef) : Type 0 where
   pub takes : Takes (seen w.now all space) (seen new.now all space) at
   pub leads : next ≡ next_at (seen w.now all space) at
   pub grows : Grows w.now new.now
-  pub pages : (n : ℕ) → n ≢ 0 → (IsTextPage (seen w.now all space) n → ⊥) → bytes (seen new.now all space) n ≡ bytes (seen w.now all space) n
-  pub head : (q m : ℕ) → IsBesideFields q m → bytes_at q m (bytes (seen new.now all space) 0) ≡ bytes_at q m (bytes (seen w.now all space) 0)
-  pub others : (id : PageId) → id.space ≢ space → map.get new.now.pages id ≡ map.get w.now.pages id
 
 -- how taking a piece away ends
 abbrev pub TakeEnds : Work → (PageId → Option (List ℕ)) → Space → TextRef → Result (TextRef × Work) PageEnd → Type 0
@@ -72,10 +69,6 @@ module _ (w : Work) (all : PageId → Option (List ℕ)) (space : Space) (form :
   past : at.page ≢ 0
   past zero_is = head_is_none (bytes (seen w.now all space) 0) form.head (subst (IsTextPage (seen w.now all space)) zero_is is.0)
 
-  -- a page of no text is another one
-  text_page_differs : (q : ℕ) → (IsTextPage (seen w.now all space) q → ⊥) → q ≢ at.page
-  text_page_differs q none same = none (subst (IsTextPage (seen w.now all space)) (sym same) is.0)
-
   below : at.page < 18446744073709551615
   below = let less = form.numbered at.page is.0 in let last = form.last in omega (arith, less, last)
 
@@ -106,9 +99,6 @@ module _ (w : Work) (all : PageId → Option (List ℕ)) (space : Space) (form :
               (head_tries pages new at.page form (λ text. absurd (none_left forgotten gone text)) 0 head_is (inl refl) (omega arith)) at.slot (none_left forgotten gone) only;
           leads = refl;
           grows = grows_twice w.now freed.now forgotten.now (grows_without w (page_in space at.page)) (grows_with freed (head_of space) _);
-          pages = λ q beside none. seen-beside freed all space 0 q _ beside ∙ seen-freed_beside w all space at.page q (text_page_differs q none);
-          head = λ q m apart. ap (bytes_at q m) head_is ∙ tried_beside (bytes pages 0) form.long 0 q m apart;
-          others = λ id differ. other_with freed space 0 _ id differ ∙ other_without w space at.page id differ;
         }
     freed_step false differs only =
         let pages = seen w.now all space in let new = seen freed.now all space in
@@ -118,9 +108,6 @@ module _ (w : Work) (all : PageId → Option (List ℕ)) (space : Space) (form :
               (head_stays pages new at.page form (λ text. absurd (none_left freed gone text)) freed_head (λ same. absurd (true≢false (sym (eq-eqb f at.page same) ∙ differs)))) at.slot (none_left freed gone) only;
           leads = refl;
           grows = grows_without w (page_in space at.page);
-          pages = λ q beside none. seen-freed_beside w all space at.page q (text_page_differs q none);
-          head = λ q m apart. ap (bytes_at q m) freed_head;
-          others = λ id differ. other_without w space at.page id differ;
         }
 
     -- a piece goes, and others of its page stay
@@ -141,23 +128,17 @@ module _ (w : Work) (all : PageId → Option (List ℕ)) (space : Space) (form :
       still_text v here = ap (λ (b : List ℕ). slice_index b 0) here ∙ out.new_kind page at.slot (form.sound at.page is.0) is.1 ∙ is.0
 
       hole_step : (v : Work) → bytes (seen v.now all space) at.page ≡ closed (hole_of at.slot page) page → ((q : ℕ) → q ≢ at.page → q ≢ 0 → bytes (seen v.now all space) q ≡ bytes (seen w.now all space) q)
-          → HeadForm (seen w.now all space) (seen v.now all space) at.page → Grows w.now v.now
-          → ((q m : ℕ) → IsBesideFields q m → bytes_at q m (bytes (seen v.now all space) 0) ≡ bytes_at q m (bytes (seen w.now all space) 0)) → ((id : PageId) → id.space ≢ space → map.get v.now.pages id ≡ map.get w.now.pages id)
-          → TakeStep w v all space at (next_at (seen w.now all space) at)
-      hole_step v here others heads grows rest spaces =
+          → HeadForm (seen w.now all space) (seen v.now all space) at.page → Grows w.now v.now → TakeStep w v all space at (next_at (seen w.now all space) at)
+      hole_step v here others heads grows =
           let t = other_there (slot_count page) at.slot page other in record {
             takes = takes_piece (seen w.now all space) (seen v.now all space) at.page form others heads at.slot is.0 is.1 t.0 (t.1.0, t.1.2) t.1.1 here;
             leads = refl;
             grows = grows;
-            pages = λ q beside none. others q (text_page_differs q none) beside;
-            head = rest;
-            others = spaces;
           }
 
       pub holed_step : TakeStep w holed all space at (next_at (seen w.now all space) at)
       holed_step = hole_step holed holed_page (λ q differ beside. seen-beside w all space at.page q _ differ)
           (head_stays (seen w.now all space) (seen holed.now all space) at.page form (λ text. form.numbered at.page is.0) holed_head (λ same. still_text holed holed_page)) (grows_with w (page_in space at.page) _)
-          (λ q m apart. ap (bytes_at q m) holed_head) (λ id differ. other_with w space at.page _ id differ)
 
       pub renamed_step : TakeStep w renamed all space at (next_at (seen w.now all space) at)
       renamed_step =
@@ -168,7 +149,6 @@ module _ (w : Work) (all : PageId → Option (List ℕ)) (space : Space) (form :
           hole_step renamed here (λ q differ beside. seen-beside holed all space 0 q _ beside ∙ seen-beside w all space at.page q _ differ)
           (head_tries (seen w.now all space) (seen renamed.now all space) at.page form (λ text. form.numbered at.page is.0) at.page head_is (inr (refl, still_text renamed here)) (omega (arith, small)))
           (grows_twice w.now holed.now renamed.now (grows_with w (page_in space at.page) _) (grows_with holed (head_of space) _))
-          (λ q m apart. ap (bytes_at q m) head_is ∙ tried_beside (bytes (seen w.now all space) 0) form.long at.page q m apart) (λ id differ. other_with holed space 0 _ id differ ∙ other_with w space at.page _ id differ)
 
   -- how a piece that is there goes
   abbrev GoneEnds : Result (Unit {0} × Work) PageEnd → Type 0

@@ -9,9 +9,11 @@ use Rattle.page_bytes.specs.declared.end.PageEnd.{PageEnd}
 use Rattle.page_bytes.specs.Links.{and_then}
 use Rattle.page_bytes.specs.Work.{Work}
 use Rattle.text_pages.specs.Taking.{Taken, piece_taken_in, taken_more, taken_in, IsRemoved, IsReplaced}
-use Rattle.text_pages.specs.Meaning.{seen, TextMap, MeansTexts, text_in, IsPut, IsStop, IsNotPut}
+use Rattle.page_bytes.specs.Seen.{seen}
+use Rattle.text_pages.specs.Meaning.{TextMap, MeansTexts, text_in, IsPut, IsNotPut}
+use Rattle.page_bytes.specs.Answers.{IsStop}
 use Rattle.text_pages.proofs.Chains.{Loose, loose_taken}
-use Rattle.text_pages.proofs.Knowing.{Grows}
+use Rattle.page_bytes.proofs.Growing.{Grows}
 use Rattle.text_pages.proofs.Maps.{means_without, loose_empty, loose_text, first_piece, some_is}
 use Rattle.text_pages.proofs.PutTexts.{not_put_before, stop_before, put_text_means}
 use Rattle.text_pages.proofs.Ranges.{split}

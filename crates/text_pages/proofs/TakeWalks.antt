@@ -8,8 +8,8 @@ use Rattle.page_bytes.specs.Links.{and_then}
 use Rattle.page_bytes.specs.Work.{Work}
 use Rattle.text_pages.specs.Taking.{Taken, piece_taken_in, taken_more, taken_in, IsRemoved, IsReplaced}
 use Rattle.text_pages.specs.Putting.{put_in}
-use Rattle.text_pages.proofs.Answering.{answered}
-use Rattle.text_pages.specs.Answers.{Answers}
+use Rattle.page_bytes.proofs.Answering.{answered}
+use Rattle.page_bytes.specs.Answers.{Answers}
 
 module _ (w : Work) (space : Space) (first : TextRef) where
   -- so many pieces have been taken away, as far as this reference

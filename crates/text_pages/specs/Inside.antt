@@ -1,8 +1,11 @@
 -- What the parts of a call tell each other: that a place is inside a page, that a page is there, and that pages stay there.
-use Rattle.std.specs.Prelude.{◌≡◌, ℕ, ◌+◌, ◌<◌, ◌≤◌, IsTrue, length}
+use Rattle.std.specs.Prelude.{◌≡◌, ℕ, ◌+◌, ◌<◌, ◌≤◌, IfOk, IsTrue, length}
+use Rattle.page_bytes.specs.declared.ids.Space.{Space}
 use Rattle.page_bytes.specs.declared.ids.PageId.{PageId}
 use Rattle.page_bytes.specs.Known.{Known, is_there}
+use Rattle.page_bytes.specs.Links.{page_in}
 use Rattle.page_bytes.specs.Work.{first_bytes}
+use Rattle.text_pages.specs.Finding.{first_in}
 use Rattle.text_pages.specs.declared.forms.Hole.{Hole}
 use Rattle.text_pages.specs.declared.forms.Tried.{Tried}
 use Rattle.text_pages.specs.declared.forms.Tried.TheVariants.{Absent, Full, Fits}
@@ -23,10 +26,10 @@ IsOn k id (Fits place) = IsTrue (is_there k id)
 abbrev pub IsHole : Hole → Type 0
 IsHole hole = (hole.count ≤ 1022) × (hole.slot < hole.count) × (hole.lowest ≤ hole.at) × (hole.at + hole.length ≤ 4096)
 
--- all that was there is there
-abbrev pub Keeps : Known → Known → Type 0
-Keeps old new = (id : PageId) → IsTrue (is_there old id) → IsTrue (is_there new id)
-
 -- a page, if it is there, has 4,096 bytes
 abbrev pub IsLong : Known → PageId → Type 0
 IsLong k id = length (first_bytes k id) ≡ 4096
+
+-- and so has the page that is tried first, if there is one
+abbrev pub IsFirstLong : Known → Space → Type 0
+IsFirstLong k space = IfOk (first_in k space) (λ number. 0 < number → IsLong k (page_in space number))

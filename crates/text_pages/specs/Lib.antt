@@ -1,6 +1,5 @@
 pub mod Slots
 pub mod Finding
-pub mod Answers
 pub mod Inside
 pub mod Putting
 pub mod Taking

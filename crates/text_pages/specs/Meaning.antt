@@ -1,31 +1,23 @@
 -- What the pages of a document mean as texts: a finite map from references to byte strings. The reference of a text leads along
 -- a chain of pieces, whose bytes joined are the text, and no piece is in two texts or twice in one.
-use Rattle.std.specs.Prelude.{◌≡◌, ◌≢◌, ℕ, ◌+◌, ◌<◌, ◌≤◌, ◌⊎◌, ◌==◌, ◌||◌, ◌&&◌, Bool, true, false, List, [], ◌∷◌, ◌++◌, length, slice_index, Option, Some, None, IsSome, IsTrue, unwrap_or, if◌then◌else◌}
+use Rattle.std.specs.Prelude.{◌≡◌, ◌≢◌, ℕ, ◌+◌, ◌<◌, ◌≤◌, ◌⊎◌, ◌==◌, ◌||◌, ◌&&◌, Bool, true, false, List, [], ◌∷◌, ◌++◌, length, slice_index, Option, Some, None, IsSome, IsTrue, if◌then◌else◌}
 use Rattle.std.specs.declared.cmp.Ordering.{Ordering}
 use Rattle.std.specs.Ordering.{nat_cmp, ordering_then}
 use Rattle.std.specs.FinMap as map
 use Rattle.std.specs.Str.{IsUtf8}
 use Rattle.page_bytes.specs.declared.ids.Space.{Space}
-use Rattle.page_bytes.specs.declared.ids.PageId.{PageId}
 use Rattle.page_bytes.specs.declared.texts.TextRef.{TextRef}
 use Rattle.page_bytes.specs.declared.end.PageEnd.{PageEnd}
-use Rattle.page_bytes.specs.declared.end.PageEnd.TheVariants.{Need, Damaged, Spent, NoMemory}
+use Rattle.page_bytes.specs.declared.end.PageEnd.TheVariants.{Damaged, Spent}
 use Rattle.page_bytes.specs.Head.{is_head, next_page, LAST_PAGE}
-use Rattle.page_bytes.specs.Known.{Known, is_unknown}
+use Rattle.page_bytes.specs.Known.{Known}
 use Rattle.page_bytes.specs.Links.{page_in}
 use Rattle.page_bytes.specs.Texts.{TEXT_KIND, slot_count, piece_at, piece_length, next_piece, piece_text}
 use Rattle.text_pages.specs.Slots.{lowest, slots_end}
 use Rattle.text_pages.specs.Finding.{tried_first}
 use Rattle.text_pages.specs.Putting.{nowhere}
-
--- what is there of a space's pages, by their numbers: what is known, and where nothing is known the pages of any map of
--- which that is a part
-abbrev pub seen : Known → (PageId → Option (List ℕ)) → Space → ℕ → Option (List ℕ)
-seen k all space n = if is_unknown k (page_in space n) then all (page_in space n) else map.get k.pages (page_in space n)
-
--- the bytes of a page, which has none where it isn't there
-unfoldable pub bytes : (ℕ → Option (List ℕ)) → ℕ → List ℕ
-bytes pages n = unwrap_or (pages n) []
+use Rattle.page_bytes.specs.Answers.{IsStop}
+use Rattle.page_bytes.specs.Seen.{bytes}
 
 abbrev pub IsTextPage : (ℕ → Option (List ℕ)) → ℕ → Type 0
 IsTextPage pages n = slice_index (bytes pages n) 0 ≡ TEXT_KIND
@@ -119,11 +111,7 @@ with_text texts at (b ∷ bs) = map.insert texts at (b ∷ bs)
 abbrev pub IsPut : (ℕ → Option (List ℕ)) → TextMap → List ℕ → TextRef → Type 0
 IsPut pages texts text at = IsNew texts text at × MeansTexts pages (with_text texts at text)
 
--- why a call may stop: a need of a page of which nothing is known, or want of memory; and where it makes pages also the end of
--- the page numbers
-abbrev pub IsStop : Known → PageEnd → Type 0
-IsStop k end = (end ≡ NoMemory) ⊎ ((id : PageId) × (end ≡ Need id) × IsTrue (is_unknown k id))
-
+-- why a text isn't put that could be: a stop, or the end of the page numbers
 abbrev pub IsNotPut : Known → PageEnd → Type 0
 IsNotPut k end = IsStop k end ⊎ (end ≡ Spent LAST_PAGE)
 

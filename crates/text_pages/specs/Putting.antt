@@ -4,16 +4,16 @@ use Rattle.page_bytes.specs.declared.ids.Space.{Space}
 use Rattle.page_bytes.specs.declared.texts.TextRef.{TextRef}
 use Rattle.page_bytes.specs.declared.end.PageEnd.{PageEnd}
 use Rattle.page_bytes.specs.Fields.{with_field, bytes_at}
-use Rattle.page_bytes.specs.Head.{head_of, next_page}
+use Rattle.page_bytes.specs.Head.{head_of}
 use Rattle.page_bytes.specs.Links.{page_in, and_then}
 use Rattle.page_bytes.specs.Refusal.{fresh_refusal}
-use Rattle.page_bytes.specs.Work.{Work, with_page, first_bytes, with_fresh}
+use Rattle.page_bytes.specs.Work.{Work, with_page, first_bytes, with_fresh, next_in}
 use Rattle.text_pages.specs.declared.forms.Place.{Place}
 use Rattle.text_pages.specs.declared.forms.Tried.{Tried}
 use Rattle.text_pages.specs.declared.forms.Tried.TheVariants.{Absent, Full, Fits}
 use Rattle.text_pages.specs.Slots.{with_piece, page_with_piece}
 use Rattle.text_pages.specs.Finding.{first_in, tried_in, is_roomier}
-use Rattle.text_pages.specs.Answers.{unless}
+use Rattle.page_bytes.specs.Answers.{unless}
 
 -- how many bytes of text a piece has at most
 abbrev pub PIECE_MOST : ℕ
@@ -37,10 +37,6 @@ with_first w space number = with_page w (head_of space) (with_field 8 (first_byt
 -- a page has a piece more
 abbrev pub with_piece_on : Work → Space → ℕ → Place → TextRef → List ℕ → Work
 with_piece_on w space number place next text = with_page w (page_in space number) (with_piece place next text (first_bytes w.now (page_in space number)))
-
--- the number of the next new page
-abbrev pub next_in : Work → Space → ℕ
-next_in w space = next_page (first_bytes w.now (head_of space))
 
 -- a new page has one piece and nothing else
 abbrev pub with_new_page : Work → Space → TextRef → List ℕ → Work

@@ -3,7 +3,7 @@ ghost use Rattle.std.specs.Prelude.{◌≡◌, ◌<◌, ◌≤◌, length, IfOk,
 ghost use Rattle.std.specs.Result.{result_map_both};
 ghost use Rattle.page_bytes.specs.Head.{head_of, is_head};
 ghost use Rattle.page_bytes.specs.Known.{is_there};
-ghost use Rattle.page_bytes.specs.Links.{asked, page_in};
+ghost use Rattle.page_bytes.specs.Links.{page_in};
 ghost use Rattle.page_bytes.specs.Texts.{has_piece};
 ghost use Rattle.text_pages.specs.Slots.{is_slotted, may_go};
 ghost use Rattle.text_pages.specs.Finding as find;
@@ -11,20 +11,7 @@ ghost use Rattle.text_pages.specs.Inside.{IsInside, IsOn, IsLong};
 
 use crate::forms::{FIRST_AT, HEAD_KIND, NEXT_PAGE_AT, Tried};
 use crate::slots::{place_on, room_of, tests_piece, tests_slot, tests_slots};
-use page_bytes::{PageEnd, PageId, Pages, Space, TextRef, read_u8, read_u64};
-
-/// The bytes of a page, to which `from` leads.
-fn ask<P: Pages>(pages: &P, from: PageId, id: PageId) -> Result<&[u8; 4096], PageEnd>
-    ensures { result_map_both (λ page. page.now) (λ end. end) result ≡ asked (P.known pages.now) from id }
-{
-    if let Some(bytes) = pages.page(id) {
-        return Ok(bytes);
-    }
-    if pages.absent(id) {
-        return Err(PageEnd::Damaged { page: from });
-    }
-    Err(PageEnd::Need { page: id })
-}
+use page_bytes::{PageEnd, PageId, Pages, Space, TextRef, ask, read_u8, read_u64};
 
 /// Whether a page passes the test of a head.
 fn tests_head(page: &[u8; 4096]) -> bool
@@ -82,6 +69,7 @@ pub fn try_first<P: Pages>(
     ensures tried { result ≡ find.tried_in (P.known pages.now) space number size }
     ensures slot { IfOk result (λ tried. IsInside size tried) }
     ensures there { IfOk result (λ tried. IsOn (P.known pages.now) (page_in space number) tried) }
+    ensures long { OnOk result (0 < number → IsLong (P.known pages.now) (page_in space number)) }
 {
     if number == 0 {
         return Ok(Tried::Absent);

@@ -5,7 +5,10 @@
 //! `replace` and `remove`. Each that changes something says which pages it writes, byte by byte (`pages`), and what it
 //! does to the map that the pages mean (`meaning`). Pages are tested before they are believed, so over pages without a
 //! meaning the calls answer Need, Damaged or Spent for a cause that `pages` tells; the one free answer is want of memory.
-//! Only text pages, two fields of the head, and pages that are made or freed change (`keeping_laws`).
+//! Over pages of any bytes a call that gives Ok keeps to its own (`own`): it changes text pages alone, fresh and freed
+//! ones among them, the head's page that is tried first, and the head's next page number, which rises by one at most for
+//! each byte that is given. Where the pages are in the form of texts, all pieces but those of the text that goes stay as
+//! they were (`keeping_laws`).
 #![tactic(auto)]
 
 mod finding;

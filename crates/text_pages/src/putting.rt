@@ -1,9 +1,13 @@
 //! How a text is put on pages.
-ghost use Rattle.std.specs.Prelude.{◌≡◌, ◌<◌, ◌≤◌, ◌+◌, ◌*◌, length};
+ghost use Rattle.std.specs.Prelude.{◌≡◌, ◌<◌, ◌≤◌, ◌+◌, ◌*◌, ◌^◌, ℕ, List, Option, length, IfOk, OnOk};
+ghost use Rattle.page_bytes.specs.declared.ids.PageId.{PageId};
 ghost use Rattle.text_pages.specs.Putting.{new_piece_in, put_on, piece_put_in, piece_of, put_in};
-ghost use Rattle.text_pages.specs.Inside.{IsInside, IsOn};
-ghost use Rattle.text_pages.specs.Answers.{Answers};
+ghost use Rattle.text_pages.specs.Inside.{IsInside, IsOn, IsLong, IsFirstLong};
+ghost use Rattle.text_pages.specs.Keeping.{texts_own};
+ghost use Rattle.page_bytes.specs.Answers.{Answers};
+ghost use Rattle.page_bytes.specs.Head.{head_of};
 ghost use Rattle.page_bytes.specs.Links.{page_in};
+ghost use Rattle.page_bytes.specs.Own.{KeepsToOwn};
 
 use crate::finding::{first_number, is_roomier, try_first};
 use crate::forms::{PIECE_MOST, Tried};
@@ -22,7 +26,8 @@ fn put_on_new_page(
     text: &[u8],
 ) -> Result<TextRef, PageEnd>
     requires { length text.now ≤ 4074 }
-    ensures { Answers (new_piece_in work.old space tried next text.now) result work.new }
+    ensures answer { Answers (new_piece_in work.old space tried next text.now) result work.new }
+    ensures number { IfOk result (λ put. put.page < 2 ^ 64) }
 {
     let number = new_text_page(work, space, next, text)?;
     let put = TextRef {
@@ -48,7 +53,8 @@ fn put_where_tried(
     requires size { length text.now ≤ 4074 }
     requires inside { IsInside (10 + length text.now) tried }
     requires there { IsOn work.old.now (page_in space number) tried }
-    ensures { Answers (put_on work.old space number tried next text.now) result work.new }
+    ensures answer { Answers (put_on work.old space number tried next text.now) result work.new }
+    ensures number { IfOk result (λ put. put.page < 2 ^ 64) }
 {
     match tried {
         Tried::Absent => put_on_new_page(work, space, None, next, text),
@@ -71,7 +77,10 @@ fn put_piece(
     text: &[u8],
 ) -> Result<TextRef, PageEnd>
     requires { length text.now ≤ 4074 }
-    ensures { Answers (piece_put_in work.old space next text.now) result work.new }
+    ensures answer { Answers (piece_put_in work.old space next text.now) result work.new }
+    ensures long_head { OnOk result (IsLong work.old.now (head_of space)) }
+    ensures long_first { OnOk result (IsFirstLong work.old.now space) }
+    ensures number { IfOk result (λ put. put.page < 2 ^ 64) }
 {
     let number = first_number(work, space)?;
     let tried = try_first(work, space, number, 10 + text.len())?;
@@ -93,7 +102,8 @@ fn piece(bytes: &[u8], number: usize) -> &[u8]
 
 /// Puts a text, from its last piece to its first.
 pub fn put_text(work: &mut Workspace, space: Space, bytes: &[u8]) -> Result<TextRef, PageEnd>
-    ensures { Answers (put_in work.old space bytes.now) result work.new }
+    ensures answer { Answers (put_in work.old space bytes.now) result work.new }
+    ensures own { OnOk result ((all : PageId → Option (List ℕ)) → KeepsToOwn texts_own (length bytes.now) work.old work.new all space) }
 {
     let mut left = (bytes.len() + (PIECE_MOST - 1)) / PIECE_MOST;
     let mut next = NOWHERE;

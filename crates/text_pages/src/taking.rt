@@ -1,11 +1,14 @@
 //! How a text is taken away.
-ghost use Rattle.std.specs.Prelude.{◌≡◌, ◌<◌, IsTrue, IfOk, OnOk};
+ghost use Rattle.std.specs.Prelude.{◌≡◌, ◌<◌, ℕ, List, Option, IsTrue, IfOk, OnOk};
+ghost use Rattle.page_bytes.specs.declared.ids.PageId.{PageId};
 ghost use Rattle.page_bytes.specs.Head.{head_of};
 ghost use Rattle.page_bytes.specs.Known.{is_there};
 ghost use Rattle.page_bytes.specs.Links.{page_in};
+ghost use Rattle.page_bytes.specs.Own.{KeepsToOwn};
 ghost use Rattle.text_pages.specs.Taking.{leaving_in, page_freed_in, roomier_in, hole_made_in, piece_gone_in, piece_taken_in, IsRemoved};
 ghost use Rattle.text_pages.specs.Inside.{IsHole, IsLong};
-ghost use Rattle.text_pages.specs.Answers.{Answers};
+ghost use Rattle.text_pages.specs.Keeping.{texts_own};
+ghost use Rattle.page_bytes.specs.Answers.{Answers};
 
 use crate::finding::{first_number, is_roomier, page_of_piece, room_of_first};
 use crate::forms::{Hole, Leaving};
@@ -122,7 +125,8 @@ fn take_piece(
 
 /// Takes a text away, from its first piece to its last.
 pub fn remove_text(work: &mut Workspace, space: Space, first: TextRef) -> Result<(), PageEnd>
-    ensures { IsRemoved work.old space first result work.new }
+    ensures answer { IsRemoved work.old space first result work.new }
+    ensures own { OnOk result ((all : PageId → Option (List ℕ)) → KeepsToOwn texts_own 0 work.old work.new all space) }
 {
     let mut from = first.page;
     let mut at = first;

@@ -1,12 +1,15 @@
 //! The calls on texts.
-ghost use Rattle.std.specs.Prelude.{◌≡◌, ℕ, List, Option, IsSome, MatchResult};
+ghost use Rattle.std.specs.Prelude.{◌≡◌, ℕ, List, Option, length, IsSome, OnOk, MatchResult};
 ghost use Rattle.std.specs.FinMap as map;
 ghost use Rattle.page_bytes.specs.declared.ids.PageId.{PageId};
-ghost use Rattle.text_pages.specs.Meaning.{seen, TextMap, MeansTexts, text_in, IsPut, IsStop, IsNotPut, IsNotGiven};
+ghost use Rattle.page_bytes.specs.Own.{KeepsToOwn};
+ghost use Rattle.page_bytes.specs.Seen.{seen};
+ghost use Rattle.text_pages.specs.Keeping.{texts_own};
+ghost use Rattle.text_pages.specs.Meaning.{TextMap, MeansTexts, text_in, IsPut, IsNotPut, IsNotGiven};
+ghost use Rattle.page_bytes.specs.Answers.{IsStop, Answers};
 ghost use Rattle.text_pages.specs.Putting.{put_in};
 ghost use Rattle.text_pages.specs.Taking.{IsRemoved, IsReplaced};
 ghost use Rattle.text_pages.specs.Reading.{IsStrAt};
-ghost use Rattle.text_pages.specs.Answers.{Answers};
 
 use crate::putting::put_text;
 use crate::reading::read_text;
@@ -19,6 +22,7 @@ use xq_ast::Str;
 /// Puts a text on pages, and gives its reference. That of the empty text is page 0, slot 0.
 pub fn put(work: &mut Workspace, space: Space, bytes: &[u8]) -> Result<TextRef, PageEnd>
     ensures pages { Answers (put_in work.old space bytes.now) result work.new }
+    ensures own { OnOk result ((all : PageId → Option (List ℕ)) → KeepsToOwn texts_own (length bytes.now) work.old work.new all space) }
     ensures meaning { (all : PageId → Option (List ℕ)) (texts : TextMap) → MeansTexts (seen work.old.now all space) texts → MatchResult result (λ at. IsPut (seen work.new.now all space) texts bytes.now at) (λ end. IsNotPut work.old.now end) }
 {
     put_text(work, space, bytes)
@@ -35,6 +39,7 @@ pub fn get<P: Pages>(alloc: Global, pages: &P, space: Space, at: TextRef) -> Res
 /// Takes a text away. Of a reference of page 0 there is nothing to take.
 pub fn remove(work: &mut Workspace, space: Space, at: TextRef) -> Result<(), PageEnd>
     ensures pages { IsRemoved work.old space at result work.new }
+    ensures own { OnOk result ((all : PageId → Option (List ℕ)) → KeepsToOwn texts_own 0 work.old work.new all space) }
     ensures meaning { (all : PageId → Option (List ℕ)) (texts : TextMap) → MeansTexts (seen work.old.now all space) texts → IsSome (text_in texts at) → MatchResult result (λ done. MeansTexts (seen work.new.now all space) (map.remove texts at)) (λ end. IsStop work.old.now end) }
 {
     remove_text(work, space, at)
@@ -48,6 +53,7 @@ pub fn replace(
     bytes: &[u8],
 ) -> Result<TextRef, PageEnd>
     ensures pages { IsReplaced work.old space at bytes.now result work.new }
+    ensures own { OnOk result ((all : PageId → Option (List ℕ)) → KeepsToOwn texts_own (length bytes.now) work.old work.new all space) }
     ensures meaning { (all : PageId → Option (List ℕ)) (texts : TextMap) → MeansTexts (seen work.old.now all space) texts → IsSome (text_in texts at) → MatchResult result (λ new. IsPut (seen work.new.now all space) (map.remove texts at) bytes.now new) (λ end. IsNotPut work.old.now end) }
 {
     replace_text(work, space, at, bytes)

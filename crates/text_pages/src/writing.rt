@@ -1,16 +1,16 @@
 //! Writes to text pages and to the head.
-ghost use Rattle.std.specs.Prelude.{◌<◌, ◌≤◌, ◌+◌, length, Ok, IsTrue, OnOk, [], ◌∷◌};
+ghost use Rattle.std.specs.Prelude.{◌<◌, ◌≤◌, ◌+◌, ◌^◌, length, Ok, IsTrue, IfOk, OnOk, [], ◌∷◌};
 ghost use Rattle.page_bytes.specs.Fields.{with_bytes};
 ghost use Rattle.page_bytes.specs.Head.{head_of};
-ghost use Rattle.page_bytes.specs.Known.{is_there};
+ghost use Rattle.page_bytes.specs.Known.{is_there, Keeps};
 ghost use Rattle.page_bytes.specs.Links.{page_in};
 ghost use Rattle.page_bytes.specs.Refusal.{fresh_refusal};
-ghost use Rattle.page_bytes.specs.Work.{with_page, first_bytes};
+ghost use Rattle.page_bytes.specs.Work.{with_page, first_bytes, next_in};
 ghost use Rattle.text_pages.specs.Slots as form;
-ghost use Rattle.text_pages.specs.Putting.{with_first, with_piece_on, with_new_page, next_in};
+ghost use Rattle.text_pages.specs.Putting.{with_first, with_piece_on, with_new_page};
 ghost use Rattle.text_pages.specs.Taking.{with_hole};
-ghost use Rattle.text_pages.specs.Inside.{IsHole, Keeps};
-ghost use Rattle.text_pages.specs.Answers.{Answers, unless};
+ghost use Rattle.text_pages.specs.Inside.{IsHole};
+ghost use Rattle.page_bytes.specs.Answers.{Answers, unless};
 
 use crate::forms::{FIRST_AT, Hole, Place, TEXT_KIND};
 use crate::slots::{close_hole, put_in_place};
@@ -78,6 +78,7 @@ pub fn new_text_page(
     requires { length text.now ≤ 4074 }
     ensures answer { Answers (unless (fresh_refusal work.old.now space) (next_in work.old space, with_new_page work.old space next text.now)) result work.new }
     ensures head { OnOk result (IsTrue (is_there work.new.now (head_of space))) }
+    ensures number { IfOk result (λ number. number < 2 ^ 64) }
 {
     let id = work.fresh(space)?;
     write_only_piece(work, id, next, text)?;

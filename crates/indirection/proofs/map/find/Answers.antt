@@ -2,7 +2,7 @@ use Rattle.std.proofs.Common.{Result, Option, sym, subst}
 use Rattle.std.specs.FinMap as map
 use Rattle.page_bytes.specs.declared.ids.Addr.{Addr}
 use Rattle.page_bytes.specs.declared.end.PageEnd.{PageEnd}
-use Rattle.indirection.specs.Answers.{GivesOrNeeds}
+use Rattle.page_bytes.specs.Answers.{GivesOrNeeds}
 use Rattle.indirection.proofs.Findings.{address-is}
 use Rattle.indirection.proofs.map.find.Goals as goal
 

@@ -3,12 +3,11 @@ use Rattle.page_bytes.specs.declared.ids.PageId.{PageId}
 use Rattle.page_bytes.specs.declared.end.PageEnd.{PageEnd}
 use Rattle.page_bytes.specs.Known.{is_there}
 use Rattle.page_bytes.specs.Refusal.{fresh_refusal}
-use Rattle.page_bytes.specs.Work.{Work}
-use Rattle.indirection.specs.Reading.{page_of}
-use Rattle.indirection.specs.Writing.{next_in, with_kind, with_new}
-use Rattle.indirection.specs.Adding.{unless}
-use Rattle.indirection.specs.Answers.{Answers}
-use Rattle.indirection.proofs.Pages.{not_refused, fresh_there, with_new-is, there_with_fresh}
+use Rattle.page_bytes.specs.Work.{Work, next_in}
+use Rattle.indirection.specs.Writing.{with_kind, with_new}
+use Rattle.page_bytes.specs.Answers.{unless, Answers}
+use Rattle.page_bytes.proofs.PageWrites.{not_refused, fresh_there, there_with_fresh}
+use Rattle.indirection.proofs.NewKinds.{with_new-is}
 use Rattle.indirection.proofs.writing.new_page.Goals as goal
 
 pub write_kind-requires : goal.write_kind-requires
@@ -28,10 +27,3 @@ returns-clause-answer c =
 pub returns-clause-kept : goal.returns-clause-kept
 returns-clause-kept c id is =
     c.in_ok-write_kind.ensures.kept id (subst (λ (w : Work). IsTrue (is_there w.now id)) (sym c.in_ok-id.ensures.ok) (there_with_fresh c.args.work.now c.args.space id is))
-
-pub returns-clause-there : goal.returns-clause-there
-returns-clause-there c =
-    let none = not_refused (fresh_refusal c.args.work.now.now c.args.space) c.in_ok-id.id c.in_ok-id.ensures.refused in
-    let there = subst (λ (p : Work × PageId). IsTrue (is_there p.0.now p.1)) (λ i. (sym c.in_ok-id.ensures.ok i, sym c.in_ok-id.ensures.page i)) (fresh_there c.args.work.now c.args.space none) in
-    subst (λ (id : PageId). IsTrue (is_there c.write_kind.new.work.now (page_of c.args.space id.number))) (sym c.in_ok-id.ensures.page)
-    (c.in_ok-write_kind.ensures.kept (page_of c.args.space (next_in c.args.work.now c.args.space)) (subst (λ (id : PageId). IsTrue (is_there c.fresh.new.self.now id)) c.in_ok-id.ensures.page there))

@@ -1,4 +1,4 @@
-use Rattle.indirection.proofs.Pages.{there_with_page}
+use Rattle.page_bytes.proofs.PageWrites.{there_with_page}
 use Rattle.indirection.proofs.writing.write_kind.Goals as goal
 
 pub returns-clause-kept : goal.returns-clause-kept

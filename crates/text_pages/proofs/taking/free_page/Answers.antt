@@ -2,7 +2,7 @@ use Rattle.std.proofs.Common.{IsTrue, sym, subst}
 use Rattle.page_bytes.specs.Head.{head_of}
 use Rattle.page_bytes.specs.Known.{is_there}
 use Rattle.page_bytes.specs.Work.{Work}
-use Rattle.text_pages.proofs.Pages.{head_there_without}
+use Rattle.page_bytes.proofs.PageWrites.{head_there_without}
 use Rattle.text_pages.proofs.taking.free_page.Goals as goal
 
 pub write_first-requires : goal.write_first-requires

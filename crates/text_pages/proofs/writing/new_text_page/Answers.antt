@@ -5,11 +5,12 @@ use Rattle.page_bytes.specs.Fields.{with_bytes}
 use Rattle.page_bytes.specs.Head.{head_of}
 use Rattle.page_bytes.specs.Known.{is_there}
 use Rattle.page_bytes.specs.Refusal.{fresh_refusal}
-use Rattle.page_bytes.specs.Work.{Work, with_page, first_bytes, with_fresh}
+use Rattle.page_bytes.specs.Work.{Work, with_page, first_bytes, with_fresh, next_in}
 use Rattle.text_pages.specs.Slots.{with_piece, only_place}
-use Rattle.text_pages.specs.Putting.{next_in, with_new_page}
-use Rattle.text_pages.specs.Answers.{Answers, unless}
-use Rattle.text_pages.proofs.Pages.{not_refused, fresh_there, with_new_page-is, written_there, there_with_page}
+use Rattle.text_pages.specs.Putting.{with_new_page}
+use Rattle.page_bytes.specs.Answers.{Answers, unless}
+use Rattle.page_bytes.proofs.PageWrites.{not_refused, fresh_there, written_there, there_with_page}
+use Rattle.text_pages.proofs.NewPages.{with_new_page-is}
 use Rattle.text_pages.proofs.writing.new_text_page.Goals as goal
 
 pub write_only_piece-requires-clause-there : goal.write_only_piece-requires-clause-there

@@ -1,5 +1,5 @@
 use Rattle.page_bytes.specs.Links.{page_in}
-use Rattle.text_pages.proofs.Pages.{there_with_page}
+use Rattle.page_bytes.proofs.PageWrites.{there_with_page}
 use Rattle.text_pages.proofs.writing.write_hole.Goals as goal
 
 pub returns-clause-kept : goal.returns-clause-kept

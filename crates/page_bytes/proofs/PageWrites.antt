@@ -1,10 +1,8 @@
 -- What a page write leaves of the other pages.
-use Rattle.std.proofs.Common.{◌≡◌, ℕ, zero, suc, ◌+◌, ◌<◌, ◌==◌, Bool, true, false, not, ◌&&◌, if◌then◌else◌, List, [], ◌∷◌, Option, Some, None, Ok, refl, ap, ◌∙◌, cond, is_some, unwrap_or, slice_index, IsTrue, true≢false, arith}
+use Rattle.std.proofs.Common.{◌≡◌, ℕ, zero, suc, ◌+◌, ◌<◌, ◌==◌, ◌^◌, eq-eqb, Bool, true, false, not, ◌&&◌, if◌then◌else◌, List, Option, Some, None, Ok, refl, sym, ap, ◌∙◌, cond, is_some, unwrap_or, slice_index, IsTrue, true≢false, arith}
 use Rattle.std.proofs.lemmas.Bool.Decides.{nat_tests}
-use Rattle.std.specs.declared.cmp.Ordering.{Ordering}
-use Rattle.std.specs.declared.cmp.Ordering.TheVariants.{Less, Equal, Greater}
-use Rattle.std.specs.Ordering.{nat_cmp, eq_by_cmp, is_eq, ordering_then}
-use Rattle.std.specs.Cmp.{IsTotalOrder, nat_cmp_total, on_total, then_total, tied_itself, unsigned_tied}
+use Rattle.std.specs.Ordering.{nat_cmp, eq_by_cmp, is_eq}
+use Rattle.std.specs.Cmp.{tied_itself, unsigned_tied}
 use Rattle.std.specs.FinMap as map
 use Rattle.page_bytes.specs.declared.ids.Space.{Space}
 use Rattle.page_bytes.specs.declared.ids.PageId.{PageId}
@@ -13,22 +11,11 @@ use Rattle.page_bytes.specs.declared.end.PageEnd.TheVariants.{Need, Damaged, Spe
 use Rattle.page_bytes.specs.Order.{space_cmp, page_cmp}
 use Rattle.page_bytes.specs.Known.{is_there, is_unknown}
 use Rattle.page_bytes.specs.Head.{head_of, next_page, with_next_page, LAST_PAGE}
-use Rattle.page_bytes.specs.Fields.{with_bytes}
 use Rattle.page_bytes.specs.Refusal.{RefusedBy, head_refusal, fresh_refusal}
-use Rattle.page_bytes.specs.declared.texts.TextRef.{TextRef}
-use Rattle.page_bytes.specs.Work.{Work, with_page, without_page, with_fresh, first_bytes, zeros}
+use Rattle.page_bytes.specs.Work.{Work, with_page, without_page, with_fresh, first_bytes, next_in, zeros}
 use Rattle.page_bytes.specs.Links.{page_in}
-use Rattle.page_bytes.specs.Texts.{TEXT_KIND}
+use Rattle.page_bytes.proofs.Orders.{space_cmp-total, page_cmp-total, both_tied}
 use Rattle.page_bytes.proofs.Works.{head_apart}
-use Rattle.text_pages.specs.Slots.{only_place, with_piece}
-use Rattle.text_pages.specs.Putting.{next_in, with_new_page}
-
--- the order of spaces and that of pages is total
-pub space_cmp-total : IsTotalOrder space_cmp
-space_cmp-total = then_total (on_total (λ (x : Space). x.commit) nat_cmp_total) (on_total (λ (x : Space). x.ordinal) nat_cmp_total)
-
-pub page_cmp-total : IsTotalOrder page_cmp
-page_cmp-total = then_total (on_total (λ (x : PageId). x.space) space_cmp-total) (on_total (λ (x : PageId). x.number) nat_cmp_total)
 
 some_or : {X : Type 0} (e : Bool) (x : X) (o : Option X) → is_some o ≡ true → is_some (cond e (Some x) o) ≡ true
 some_or true x o is = refl
@@ -44,11 +31,6 @@ get_with_page w id bytes = map.get-insert page_cmp-total w.now.pages id bytes id
 
 pub written_there : (w : Work) (id : PageId) (bytes : List ℕ) → IsTrue (is_there (with_page w id bytes).now id)
 written_there w id bytes = ap is_some (get_with_page w id bytes)
-
-both_tied : (o p : Ordering) → is_eq (ordering_then o p) ≡ (is_eq o && is_eq p)
-both_tied Less p = refl
-both_tied Equal p = refl
-both_tied Greater p = refl
 
 -- two pages of a space are one where their numbers are
 pub same_number : (space : Space) (n m : ℕ) → eq_by_cmp page_cmp (page_in space n) (page_in space m) ≡ (n == m)
@@ -79,6 +61,38 @@ needed false id there is = head_of_refusal id there is
 pub next_positive : (w : Work) (space : Space) → fresh_refusal w.now space ≡ None → 0 < next_in w space
 next_positive w space is = needed (is_unknown w.now (head_of space)) (head_of space) (map.get w.now.pages (head_of space)) is
 
+-- and its next number isn't the last, so that the one behind it has eight bytes too
+refused_last : (id : PageId) (two none last : Bool) → last ≡ true → (if not (two && not none) then Some (Damaged id) else if last then Some (Spent LAST_PAGE) else None) ≡ None → ⊥
+refused_last id true true last is passes = cc
+refused_last id true false true is passes = cc
+refused_last id true false false is passes = absurd (true≢false (sym is))
+refused_last id false none last is passes = cc
+
+not_last : (id : PageId) (there : Option (List ℕ)) → head_refusal id there ≡ None → next_page (unwrap_or there zeros) ≡ LAST_PAGE → ⊥
+not_last id None is last = cc
+not_last id (Some bytes) is last = refused_last id (slice_index bytes 0 == 2) (next_page bytes == 0) (next_page bytes == LAST_PAGE) (eq-eqb (next_page bytes) LAST_PAGE last) is
+
+known_last : (b : Bool) (id : PageId) (there : Option (List ℕ)) → (if b then Some (Need id) else head_refusal id there) ≡ None → next_page (unwrap_or there zeros) ≡ LAST_PAGE → ⊥
+known_last true id there is last = cc
+known_last false id there is last = not_last id there is last
+
+pub next_small : (w : Work) (space : Space) → fresh_refusal w.now space ≡ None → next_in w space < 256 ^ 8 → next_in w space + 1 < 256 ^ 8
+next_small w space is fits =
+    let other = known_last (is_unknown w.now (head_of space)) (head_of space) (map.get w.now.pages (head_of space)) is in
+    below (next_in w space) fits other
+  where
+    below : (n : ℕ) → n < 256 ^ 8 → (n ≡ LAST_PAGE → ⊥) → n + 1 < 256 ^ 8
+    below n fits other = omega (arith, fits, other)
+
+-- where a new page may be made the head is there
+there_by : (b : Bool) (id : PageId) (there : Option (List ℕ)) → (if b then Some (Need id) else head_refusal id there) ≡ None → is_some there ≡ true
+there_by true id there is = cc
+there_by false id None is = cc
+there_by false id (Some bytes) is = refl
+
+pub head_there : (w : Work) (space : Space) → fresh_refusal w.now space ≡ None → IsTrue (is_there w.now (head_of space))
+head_there w space is = there_by (is_unknown w.now (head_of space)) (head_of space) (map.get w.now.pages (head_of space)) is
+
 -- a new page is there, and all zeros
 zeros_apart : (n : ℕ) (x y : List ℕ) (o : Option (List ℕ)) → 0 < n → cond (n == 0) (Some x) (cond (n == n) (Some y) o) ≡ Some y
 zeros_apart n x y o positive = grind (arith, nat_tests)
@@ -102,13 +116,6 @@ fresh_there w space none = ap is_some (fresh_zeros w space (next_positive w spac
 pub there_with_fresh : (w : Work) (space : Space) (q : PageId) → IsTrue (is_there w.now q) → IsTrue (is_there (with_fresh w space).now q)
 there_with_fresh w space q is =
     there_with_page (with_page w (page_in space (next_in w space)) zeros) (head_of space) q _ (there_with_page w (page_in space (next_in w space)) q zeros is)
-
--- a new text page begins with zeros, so its one piece is all that it has
-pub with_new_page-is : (w : Work) (space : Space) (next : TextRef) (text : List ℕ) → fresh_refusal w.now space ≡ None
-    → with_page (with_fresh w space) (page_in space (next_in w space)) (with_piece (only_place text) next text (with_bytes (first_bytes (with_fresh w space).now (page_in space (next_in w space))) 0 (TEXT_KIND ∷ [])))
-    ≡ with_new_page w space next text
-with_new_page-is w space next text none =
-    ap (λ o. with_page (with_fresh w space) (page_in space (next_in w space)) (with_piece (only_place text) next text (with_bytes (unwrap_or o zeros) 0 (TEXT_KIND ∷ [])))) (fresh_zeros w space (next_positive w space none))
 
 some_beside : {X : Type 0} (e : Bool) (o : Option X) → e ≡ false → cond e None o ≡ o
 some_beside true o is = absurd (true≢false is)

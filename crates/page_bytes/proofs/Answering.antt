@@ -4,7 +4,7 @@ use Rattle.page_bytes.specs.declared.end.PageEnd.{PageEnd}
 use Rattle.page_bytes.specs.declared.end.PageEnd.TheVariants.{NoMemory}
 use Rattle.page_bytes.specs.Work.{Work}
 use Rattle.page_bytes.specs.Links.{and_then}
-use Rattle.text_pages.specs.Answers.{Answers}
+use Rattle.page_bytes.specs.Answers.{Answers}
 
 -- a value was asked for where one was given
 pub answered : {X : Type 0} (s : Result (X × Work) PageEnd) (x : X) (w : Work) → Answers s (Ok x) w → s ≡ Ok (x, w)

@@ -1,35 +1,10 @@
--- What a written field leaves of a page: its length, its kind and the fields beside it.
-use Rattle.std.proofs.Common.{◌≡◌, ◌≢◌, ℕ, ◌+◌, Bool, true, false, nat_lt, ◌<◌, ◌≤◌, ◌^◌, ◌⊎◌, ⊎_elim, inl, inr, List, length, slice_index, refl, sym, ap, ◌∙◌, arith}
+-- What a written entry leaves of a leaf: its length, its kind and the other entries.
+use Rattle.std.proofs.Common.{◌≡◌, ◌≢◌, ℕ, ◌+◌, Bool, true, false, nat_lt, ◌<◌, ◌^◌, ◌⊎◌, ⊎_elim, inl, inr, List, length, slice_index, refl, ◌∙◌, arith}
 use Rattle.std.proofs.lemmas.Bool.{ltb-true, ltb-false}
 use Rattle.indirection.specs.Forms.{entry_at, entry_page, entry_place, with_entry}
-use Rattle.page_bytes.specs.Fields.{bytes_at, field, with_field}
-use Rattle.page_bytes.proofs.FieldLaws.{length-with_bytes, bytes_at-before, bytes_at-behind, field-written, field-bytes_at, with_field-bytes, length-big_bytes, slice_index-bytes_at}
-
-pub length-with_field : (m : ℕ) (page : List ℕ) (to x : ℕ) → to + m ≤ length page → length (with_field m page to x) ≡ length page
-length-with_field m page to x within =
-    let count = length-big_bytes m x in
-    ap length (with_field-bytes m to x page) ∙ length-with_bytes page to _ (omega (arith, count, within))
-
-bytes_apart : (n at m : ℕ) (page : List ℕ) (to x : ℕ) → (at + n ≤ to) ⊎ (to + m ≤ at) → to + m ≤ length page → bytes_at at n (with_field m page to x) ≡ bytes_at at n page
-bytes_apart n at m page to x apart within =
-    let count = length-big_bytes m x in
-    ap (bytes_at at n) (with_field-bytes m to x page)
-    ∙ ⊎_elim
-    (λ before. bytes_at-before page at n to _ before (omega (arith, within)))
-    (λ behind. bytes_at-behind page at n to _ (omega (arith, count, behind)) (omega (arith, within)))
-    apart
-
-pub field_apart : (n at m : ℕ) (page : List ℕ) (to x : ℕ) → (at + n ≤ to) ⊎ (to + m ≤ at) → to + m ≤ length page → field n at (with_field m page to x) ≡ field n at page
-field_apart n at m page to x apart within = field-bytes_at n at page (with_field m page to x) (bytes_apart n at m page to x apart within)
-
-pub kind_kept : (m : ℕ) (page : List ℕ) (to x : ℕ) → 1 ≤ to → to + m ≤ length page → slice_index (with_field m page to x) 0 ≡ slice_index page 0
-kind_kept m page to x past within =
-    sym (slice_index-bytes_at (with_field m page to x) 0)
-    ∙ ap (λ l. slice_index l 0) (bytes_apart 1 0 m page to x (first past) within)
-    ∙ slice_index-bytes_at page 0
-  where
-    first : 1 ≤ to → (0 + 1 ≤ to) ⊎ (to + m ≤ 0)
-    first h = inl h
+use Rattle.page_bytes.specs.Fields.{with_field}
+use Rattle.page_bytes.proofs.FieldLaws.{field-written}
+use Rattle.page_bytes.proofs.WrittenFields.{length-with_field, field_apart, kind_kept}
 
 -- two entries lie apart
 pub order : (j i : ℕ) → j ≢ i → (j < i) ⊎ (i < j)

@@ -1,0 +1,6 @@
+use Rattle.indirection.proofs.OwnPages.{then_kept}
+use Rattle.indirection.proofs.growing.grow.Goals as goal
+
+pub returns-clause-kept : goal.returns-clause-kept
+returns-clause-kept c =
+    then_kept c.args.work.now c.root_for_leaf.new.work c.grow_directory.new.work c.args.space 1 2 c.grow_directory.result c.in_ok-root.ensures.kept c.grow_directory.ensures.kept

@@ -1,0 +1,15 @@
+-- What is node numbers' own: the pages of kinds 6 and 7, and in the head the number of the root, the first free number and the
+-- highest number.
+use Rattle.std.specs.Prelude.{ℕ, Bool, ◌==◌, ◌||◌, [], ◌∷◌}
+use Rattle.page_bytes.specs.Own.{Own}
+use Rattle.indirection.specs.Forms.{LEAF_KIND, DIRECTORY_KIND}
+
+-- whether pages of a kind are leaves, or roots and directory pages
+abbrev pub is_number_kind : ℕ → Bool
+is_number_kind kind = kind == LEAF_KIND || kind == DIRECTORY_KIND
+
+abbrev pub number_pages : Own
+number_pages = record {
+  is_kind = is_number_kind;
+  fields = record { at = 18; width = 8 } ∷ record { at = 34; width = 4 } ∷ record { at = 38; width = 4 } ∷ [];
+}

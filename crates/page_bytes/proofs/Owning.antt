@@ -1,0 +1,266 @@
+-- What writes to a structure's own pages and fields leave: it kept to its own. One lemma for each write, and one that joins them.
+use Rattle.std.proofs.Common.{◌≡◌, ◌≢◌, ℕ, ◌+◌, ◌<◌, ◌≤◌, ◌^◌, ◌⊎◌, ⊎_elim, inl, inr, Bool, true, false, nat_lt, IsTrue, List, [], ◌∷◌, length, slice_index, Option, Some, None, refl, sym, ap, subst, is_some, ◌∙◌, true≢false, arith}
+use Rattle.std.proofs.lemmas.Bool.{ltb-true, ltb-false}
+use Rattle.page_bytes.specs.declared.ids.Space.{Space}
+use Rattle.page_bytes.specs.declared.ids.PageId.{PageId}
+use Rattle.page_bytes.specs.Fields.{bytes_at, field, with_field}
+use Rattle.page_bytes.specs.Head.{head_of, next_page, with_next_page}
+use Rattle.page_bytes.specs.Known.{is_there}
+use Rattle.page_bytes.specs.Links.{page_in}
+use Rattle.page_bytes.specs.Own.{HeadField, Own, HasOwnPage, IsOwnPage, next_of, IsNewNumber, KeepsPage, AreBeside, KeepsToOwn}
+use Rattle.page_bytes.specs.Refusal.{fresh_refusal}
+use Rattle.page_bytes.specs.Seen.{PagesByNumber, seen, bytes}
+use Rattle.page_bytes.specs.Work.{Work, with_page, without_page, with_fresh, first_bytes, next_in, zeros}
+use Rattle.page_bytes.proofs.FieldLaws.{field-written}
+use Rattle.page_bytes.proofs.PageWrites.{next_positive, next_small, head_there}
+use Rattle.page_bytes.proofs.SeenPages.{page-written, page-beside, seen-written, seen-beside, seen-first, seen-freed_beside, page-freed, page-freed_beside, page-other, page-other_freed}
+use Rattle.page_bytes.proofs.WrittenFields.{bytes_apart, field_apart}
+
+-- a number is another or the same
+pub same_or_other : (n m : ℕ) → (n ≡ m) ⊎ (n ≢ m)
+same_or_other n m = at (nat_lt n m) refl (nat_lt m n) refl
+  where
+    at : (a : Bool) → nat_lt n m ≡ a → (b : Bool) → nat_lt m n ≡ b → (n ≡ m) ⊎ (n ≢ m)
+    at true is b more = let less = ltb-true n m is in inr (λ same. omega (arith, less, same))
+    at false is true more = let past = ltb-true m n more in inr (λ same. omega (arith, past, same))
+    at false is false more = let one = ltb-false n m is in let two = ltb-false m n more in inl (omega (arith, one, two))
+
+-- all that a structure keeps lies beside the next page number too
+pub beside_next : (fields : List HeadField) (at n : ℕ) → AreBeside fields at n → (at + n ≤ 2) ⊎ (10 ≤ at)
+beside_next [] at n beside = beside
+beside_next (field ∷ fields) at n beside = beside_next fields at n beside.1
+
+-- a page that is there and is one of the structure's if it is there is one
+has_own : (own : Own) (page : Option (List ℕ)) → IsOwnPage own page → is_some page ≡ true → HasOwnPage own page
+has_own own None is there = absurd (true≢false (sym there))
+has_own own (Some page) is there = is
+
+own_of : (own : Own) (page : Option (List ℕ)) → HasOwnPage own page → IsOwnPage own page
+own_of own None is = tt
+own_of own (Some page) is = is
+
+there_of : (own : Own) (page : Option (List ℕ)) → HasOwnPage own page → is_some page ≡ true
+there_of own None is = absurd is
+there_of own (Some page) is = refl
+
+-- all pages of a space that are seen are seen there
+abbrev pub Stays : (PageId → Option (List ℕ)) → Space → Work → Work → Type 0
+Stays all space w new = (n : ℕ) → is_some (seen w.now all space n) ≡ true → is_some (seen new.now all space n) ≡ true
+
+module _ (all : PageId → Option (List ℕ)) (space : Space) where
+  pub stays_page : (w : Work) (n : ℕ) (b : List ℕ) → Stays all space w (with_page w (page_in space n) b)
+  stays_page w n b q there = ⊎_elim
+      (λ same. subst (λ m. is_some (seen (with_page w (page_in space n) b).now all space m) ≡ true) (sym same) (ap is_some (page-written w all space n b)))
+      (λ differ. ap is_some (page-beside w all space n q b differ) ∙ there)
+      (same_or_other q n)
+
+  pub stays_twice : (a b c : Work) → Stays all space a b → Stays all space b c → Stays all space a c
+  stays_twice a b c one two n there = two n (one n there)
+
+  pub stays_fresh : (w : Work) (b : List ℕ) → Stays all space w (with_page (with_fresh w space) (page_in space (next_in w space)) b)
+  stays_fresh w b =
+      let n = next_in w space in let cleared = with_page w (page_in space n) zeros in
+      stays_twice w (with_fresh w space) (with_page (with_fresh w space) (page_in space n) b)
+      (stays_twice w cleared (with_fresh w space) (stays_page w n zeros) (stays_page cleared 0 (with_next_page (first_bytes w.now (head_of space)) (n + 1))))
+      (stays_page (with_fresh w space) n b)
+
+module _ (own : Own) (all : PageId → Option (List ℕ)) (space : Space) where
+  -- nothing has changed
+  pub own_none : (w : Work) → KeepsToOwn own 0 w w all space
+  own_none w = record {
+    pages = λ n positive. inl refl;
+    head = λ at n beside. refl;
+    raised = omega arith;
+    most_made = omega arith;
+    made = λ n positive new. absurd (omega (arith, new.0, new.1));
+    others = λ other n differ. refl;
+    below = refl;
+  }
+
+  -- fewer pages are at most as many
+  pub own_more : (w v : Work) (few most : ℕ) → few ≤ most → KeepsToOwn own few w v all space → KeepsToOwn own most w v all space
+  own_more w v few most less kept = record {
+    pages = kept.pages;
+    head = kept.head;
+    raised = kept.raised;
+    most_made = let made = kept.most_made in omega (arith, made, less);
+    made = kept.made;
+    others = kept.others;
+    below = kept.below;
+  }
+
+  -- one step after another
+  module _ (a b c : Work) (j k : ℕ) (one : KeepsToOwn own j a b all space) (two : KeepsToOwn own k b c all space) where
+    abbrev before : PagesByNumber
+    before = seen a.now all space
+
+    abbrev between : PagesByNumber
+    between = seen b.now all space
+
+    abbrev behind : PagesByNumber
+    behind = seen c.now all space
+
+    earlier : (n : ℕ) → IsNewNumber before between n → IsNewNumber before behind n
+    earlier n new = (new.0, let more = two.raised in omega (arith, new.1, more))
+
+    later : (n : ℕ) → IsNewNumber between behind n → IsNewNumber before behind n
+    later n new = (let more = one.raised in omega (arith, new.0, more), new.1)
+
+    own_then : (n : ℕ) → KeepsPage own between behind n → IsOwnPage own (between n) → IsOwnPage own (behind n)
+    own_then n (inl same) is = subst (IsOwnPage own) (sym same) is
+    own_then n (inr changed) is = changed.1
+
+    joined : (n : ℕ) → KeepsPage own before between n → KeepsPage own between behind n → KeepsPage own before behind n
+    joined n (inl same) (inl too) = inl (too ∙ same)
+    joined n (inl same) (inr changed) = inr (⊎_elim (λ is. inl (subst (HasOwnPage own) same is)) (λ new. inr (later n new)) changed.0, changed.1)
+    joined n (inr changed) step = inr (⊎_elim (λ is. inl is) (λ new. inr (earlier n new)) changed.0, own_then n step changed.1)
+
+    new_before : (n : ℕ) → IsNewNumber before behind n → IsNewNumber before between n ⊎ IsNewNumber between behind n
+    new_before n new = at (nat_lt n (next_of between)) refl
+      where
+        at : (e : Bool) → nat_lt n (next_of between) ≡ e → IsNewNumber before between n ⊎ IsNewNumber between behind n
+        at true is = inl (new.0, ltb-true n (next_of between) is)
+        at false is = inr (ltb-false n (next_of between) is, new.1)
+
+    still : (n : ℕ) → 0 < n → HasOwnPage own (between n) → is_some (behind n) ≡ true → HasOwnPage own (behind n)
+    still n positive is there = has_own own (behind n) (own_then n (two.pages n positive) (own_of own (between n) is)) there
+
+    both : ((n : ℕ) → IsNewNumber before between n → is_some (between n) ≡ true → is_some (behind n) ≡ true) → KeepsToOwn own (j + k) a c all space
+    both stays = record {
+      pages = λ n positive. joined n (one.pages n positive) (two.pages n positive);
+      head = λ at n beside. two.head at n beside ∙ one.head at n beside;
+      raised = let first = one.raised in let second = two.raised in omega (arith, first, second);
+      most_made = let first = one.most_made in let second = two.most_made in omega (arith, first, second);
+      made = λ n positive new. ⊎_elim
+          (λ is. let made = one.made n positive is in still n positive made (stays n is (there_of own (between n) made)))
+          (λ is. two.made n positive is)
+          (new_before n new);
+      others = λ other n differ. two.others other n differ ∙ one.others other n differ;
+      below = two.below ∙ one.below;
+    }
+
+    -- where the second step frees no page
+    pub own_twice : Stays all space b c → KeepsToOwn own (j + k) a c all space
+    own_twice stays = both (λ n new there. stays n there)
+
+  -- where the first step makes no page
+  pub own_behind : (a b c : Work) (k : ℕ) → KeepsToOwn own 0 a b all space → KeepsToOwn own k b c all space → KeepsToOwn own k a c all space
+  own_behind a b c k one two = own_more a c (0 + k) k (omega arith)
+      (both a b c 0 k one two (λ n new there. let made = one.most_made in absurd (omega (arith, made, new.0, new.1))))
+
+  -- a page of the structure is written, which stays one
+  module _ (w : Work) (n : ℕ) (b : List ℕ) (positive : 0 < n) where
+    head_beside : bytes (seen (with_page w (page_in space n) b).now all space) 0 ≡ bytes (seen w.now all space) 0
+    head_beside = seen-beside w all space n 0 b (λ is. omega (arith, is, positive))
+
+    pub own_page : HasOwnPage own (seen w.now all space n) → IsTrue (own.is_kind (slice_index b 0)) → KeepsToOwn own 0 w (with_page w (page_in space n) b) all space
+    own_page was is = record {
+      pages = λ q past. ⊎_elim
+          (λ same. inr (inl (subst (λ m. HasOwnPage own (seen w.now all space m)) (sym same) was), subst (λ m. IsOwnPage own (seen (with_page w (page_in space n) b).now all space m)) (sym same) (subst (IsOwnPage own) (sym (page-written w all space n b)) is)))
+          (λ differ. inl (page-beside w all space n q b differ))
+          (same_or_other q n);
+      head = λ at m beside. ap (bytes_at at m) head_beside;
+      raised = let same = ap next_page head_beside in omega (arith, same);
+      most_made = let same = ap next_page head_beside in omega (arith, same);
+      made = λ q positive' new. let same = ap next_page head_beside in absurd (omega (arith, same, new.0, new.1));
+      others = λ other m differ. page-other w all space n other m differ b;
+      below = refl;
+    }
+
+  -- a page of the structure is freed
+  module _ (w : Work) (n : ℕ) (positive : 0 < n) where
+    head_freed : bytes (seen (without_page w (page_in space n)).now all space) 0 ≡ bytes (seen w.now all space) 0
+    head_freed = seen-freed_beside w all space n 0 (λ is. omega (arith, is, positive))
+
+    pub own_freed : HasOwnPage own (seen w.now all space n) → KeepsToOwn own 0 w (without_page w (page_in space n)) all space
+    own_freed was = record {
+      pages = λ q past. ⊎_elim
+          (λ same. inr (inl (subst (λ m. HasOwnPage own (seen w.now all space m)) (sym same) was), subst (λ m. IsOwnPage own (seen (without_page w (page_in space n)).now all space m)) (sym same) (subst (IsOwnPage own) (sym (page-freed w all space n)) tt)))
+          (λ differ. inl (page-freed_beside w all space n q differ))
+          (same_or_other q n);
+      head = λ at m beside. ap (bytes_at at m) head_freed;
+      raised = let same = ap next_page head_freed in omega (arith, same);
+      most_made = let same = ap next_page head_freed in omega (arith, same);
+      made = λ q positive' new. let same = ap next_page head_freed in absurd (omega (arith, same, new.0, new.1));
+      others = λ other m differ. page-other_freed w all space n other m differ;
+      below = refl;
+    }
+
+  -- a field of the head is written
+  module _ (w : Work) (m to x : ℕ) (there : IsTrue (is_there w.now (head_of space))) (long : length (first_bytes w.now (head_of space)) ≡ 4096) (past : 10 ≤ to) (within : to + m ≤ 4096)
+      (mine : (at n : ℕ) → AreBeside own.fields at n → (at + n ≤ to) ⊎ (to + m ≤ at)) where
+    abbrev head_written : List ℕ
+    head_written = with_field m (first_bytes w.now (head_of space)) to x
+
+    abbrev then_written : Work
+    then_written = with_page w (head_of space) head_written
+
+    first_is : bytes (seen w.now all space) 0 ≡ first_bytes w.now (head_of space)
+    first_is = seen-first w.now all space 0 there
+
+    now_is : bytes (seen then_written.now all space) 0 ≡ head_written
+    now_is = seen-written w all space 0 head_written
+
+    next_is : next_of (seen then_written.now all space) ≡ next_of (seen w.now all space)
+    next_is = ap next_page now_is ∙ field_apart 8 2 m (first_bytes w.now (head_of space)) to x (inl (omega (arith, past))) (omega (arith, within, long)) ∙ sym (ap next_page first_is)
+
+    pub own_field : KeepsToOwn own 0 w then_written all space
+    own_field = record {
+      pages = λ q positive. inl (page-beside w all space 0 q head_written (λ is. omega (arith, is, positive)));
+      head = λ at n beside. ap (bytes_at at n) now_is ∙ bytes_apart n at m (first_bytes w.now (head_of space)) to x (mine at n beside) (omega (arith, within, long)) ∙ sym (ap (bytes_at at n) first_is);
+      raised = let same = next_is in omega (arith, same);
+      most_made = let same = next_is in omega (arith, same);
+      made = λ q positive' new. let same = next_is in absurd (omega (arith, same, new.0, new.1));
+      others = λ other q differ. page-other w all space 0 other q differ head_written;
+      below = refl;
+    }
+
+  -- a new page of the structure is made
+  module _ (w : Work) (b : List ℕ) (none : fresh_refusal w.now space ≡ None) (fits : next_in w space < 256 ^ 8) (long : length (first_bytes w.now (head_of space)) ≡ 4096) where
+    abbrev fresh : ℕ
+    fresh = next_in w space
+
+    abbrev cleared : Work
+    cleared = with_page w (page_in space fresh) zeros
+
+    abbrev raised_to : List ℕ
+    raised_to = with_next_page (first_bytes w.now (head_of space)) (fresh + 1)
+
+    abbrev made_page : Work
+    made_page = with_page (with_fresh w space) (page_in space fresh) b
+
+    some : 0 < fresh
+    some = next_positive w space none
+
+    was_head : bytes (seen w.now all space) 0 ≡ first_bytes w.now (head_of space)
+    was_head = seen-first w.now all space 0 (head_there w space none)
+
+    is_head_now : bytes (seen made_page.now all space) 0 ≡ raised_to
+    is_head_now = seen-beside (with_fresh w space) all space fresh 0 b (λ is. let more = some in omega (arith, is, more)) ∙ seen-written cleared all space 0 raised_to
+
+    next_was : next_of (seen w.now all space) ≡ fresh
+    next_was = ap next_page was_head
+
+    next_now : next_of (seen made_page.now all space) ≡ fresh + 1
+    next_now = let small = next_small w space none fits in ap next_page is_head_now ∙ field-written 8 2 (fresh + 1) (first_bytes w.now (head_of space)) (omega (arith, small)) (omega (arith, long))
+
+    page_now : seen made_page.now all space fresh ≡ Some b
+    page_now = page-written (with_fresh w space) all space fresh b
+
+    is_new : (q : ℕ) → q ≡ fresh → IsNewNumber (seen w.now all space) (seen made_page.now all space) q
+    is_new q same = (let was = next_was in omega (arith, same, was), let now = next_now in omega (arith, same, now))
+
+    pub own_fresh : IsTrue (own.is_kind (slice_index b 0)) → KeepsToOwn own 1 w made_page all space
+    own_fresh is = record {
+      pages = λ q positive. ⊎_elim
+          (λ same. inr (inr (is_new q same), subst (λ m. IsOwnPage own (seen made_page.now all space m)) (sym same) (subst (IsOwnPage own) (sym page_now) is)))
+          (λ differ. inl (page-beside (with_fresh w space) all space fresh q b differ ∙ page-beside cleared all space 0 q raised_to (λ zero_is. omega (arith, zero_is, positive)) ∙ page-beside w all space fresh q zeros differ))
+          (same_or_other q fresh);
+      head = λ at n beside. ap (bytes_at at n) is_head_now ∙ bytes_apart n at 8 (first_bytes w.now (head_of space)) 2 (fresh + 1) (⊎_elim (λ before. inl before) (λ past. inr (omega (arith, past))) (beside_next own.fields at n beside)) (omega (arith, long)) ∙ sym (ap (bytes_at at n) was_head);
+      raised = let was = next_was in let now = next_now in omega (arith, was, now);
+      most_made = let was = next_was in let now = next_now in omega (arith, was, now);
+      made = λ q positive' new. let was = next_was in let now = next_now in
+          let same : q ≡ fresh = omega (arith, was, now, new.0, new.1) in subst (λ m. HasOwnPage own (seen made_page.now all space m)) (sym same) (subst (HasOwnPage own) (sym page_now) is);
+      others = λ other q differ. page-other (with_fresh w space) all space fresh other q differ b ∙ page-other cleared all space 0 other q differ raised_to ∙ page-other w all space fresh other q differ zeros;
+      below = refl;
+    }

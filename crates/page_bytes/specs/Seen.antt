@@ -1,0 +1,19 @@
+-- What is there of a space's pages, by their numbers.
+use Rattle.std.specs.Prelude.{ℕ, List, [], Option, unwrap_or, if◌then◌else◌}
+use Rattle.std.specs.FinMap as map
+use Rattle.page_bytes.specs.declared.ids.Space.{Space}
+use Rattle.page_bytes.specs.declared.ids.PageId.{PageId}
+use Rattle.page_bytes.specs.Known.{Known, is_unknown}
+use Rattle.page_bytes.specs.Links.{page_in}
+
+-- the pages of a space by their numbers
+abbrev pub PagesByNumber : Type 0
+PagesByNumber = ℕ → Option (List ℕ)
+
+-- what is known, and where nothing is known the pages of any map of which that is a part
+abbrev pub seen : Known → (PageId → Option (List ℕ)) → Space → PagesByNumber
+seen k all space n = if is_unknown k (page_in space n) then all (page_in space n) else map.get k.pages (page_in space n)
+
+-- the bytes of a page, which has none where it isn't there
+unfoldable pub bytes : PagesByNumber → ℕ → List ℕ
+bytes pages n = unwrap_or (pages n) []
