@@ -278,9 +278,14 @@ pub held_behind_grant : (past : List Event) (s : ℕ) (asked : List Need) → st
 held_behind_grant past s asked updating granted = let o = opened (open_of s past) updating in
     subst (λ z. LastHeldIn asked z → AreHeld asked (locks_in z)) (sym o.is) (held_by_last asked o.transaction o.transaction.kind o.kind_is) (last_held past s asked granted)
 
-granted_as : (s : ℕ) (asked : List Need) (past : List Event) → last_of s past ≡ Some (Granted s asked) → AreGranted s asked past
+-- the grant itself is one, also of a call without needs
+pub granted_as : (s : ℕ) (asked : List Need) (past : List Event) → last_of s past ≡ Some (Granted s asked) → AreGranted s asked past
 granted_as s [] past is = tt
 granted_as s (n ∷ more) past is = is
+
+held_where_granted : (past : List Event) (s : ℕ) (asked : List Need) → state s past ≡ Updating → AreGranted s asked past → AreHeld asked (locks_of s past)
+held_where_granted past s [] updating granted = tt
+held_where_granted past s (n ∷ more) updating granted = held_behind_grant past s (n ∷ more) updating granted
 
 -- ---- calls that did not run
 
@@ -396,8 +401,8 @@ module _ (B : Base) (past : List Event) (s : ℕ) where
       let o = opened (open_of s past) is.updating in record {
         locks = (
           subst (λ x. IsAnsweredWithLocks x s (replied (Some call) answer) past) (sym is.updating) (
-            subst (λ calls. RanGranted s calls past) (sym runs) (granted_as s (needs call) past is.granted, tt),
-            λ other. free_where_held past locks s (needs call) (held_behind_grant past s (needs call) is.updating is.granted),
+            subst (λ calls. RanGranted s calls past) (sym runs) (is.granted, tt),
+            λ other. free_where_held past locks s (needs call) (held_where_granted past s (needs call) is.updating is.granted),
           ),
           follows.0,
         );

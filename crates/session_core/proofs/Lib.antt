@@ -10,6 +10,7 @@ pub mod Asking
 pub mod Cores
 pub mod Answering
 pub mod Beside
+pub mod Making
 pub mod Runs
 mod WorkedCalls
 mod WorkedStatements
@@ -17,4 +18,5 @@ mod ReaderBesideLoader
 mod RefusedLock
 mod SettledYes
 mod SettledNo
+mod MadeHistories
 mod NotLegal

@@ -1,5 +1,5 @@
 -- A worked history: one session loads a document and commits; another reads before and behind that commit.
-use Rattle.std.proofs.Common.{◌≡◌, ℕ, ◌==◌, false, List, [], ◌∷◌, None, Some, Ok, length, zero, suc, true≢false, refl, sym, ap, subst, arith}
+use Rattle.std.proofs.Common.{◌≡◌, ℕ, ◌==◌, false, List, [], ◌∷◌, ◌++◌, None, Some, Ok, length, zero, suc, true≢false, refl, sym, ap, subst, arith}
 use mathlib.Core.Logic.{inl, inr}
 use Rattle.xq_ast.specs.declared.call.Call.{Call}
 use Rattle.xq_ast.specs.declared.call.Call.TheVariants.{Begin, BeginRead, Commit, Load, Export}
@@ -19,7 +19,7 @@ use Rattle.session_core.specs.Replies.{SerialAt, SnapshotsAt, RunsNext, AllInTur
 use Rattle.session_core.specs.Settling.{SettlingAt}
 use Rattle.session_core.specs.Marks.{MarksAt}
 use Rattle.session_core.specs.Closes.{Scripts, calls_of, closed_of}
-use Rattle.session_core.specs.Legal.{Legal, IsClosed, IsUnfinished, IsOrdered}
+use Rattle.session_core.specs.Legal.{SoFar, Legal, IsClosed, IsUnfinished, IsOrdered}
 use Rattle.session_core.proofs.Sessions.{◌⊳◌, by_session, free_where_none}
 use Rattle.session_core.proofs.WorkedStatements.{load_says, export_before, export_behind}
 use Rattle.session_core.proofs.WorkedCalls.{d, element, begin, begin_read, commit, load, export, begin_is, begin_read_is, commit_is, load_is, export_is, exclusive}
@@ -126,3 +126,59 @@ closes = record {
 
 pub is_legal : Legal journal B P
 is_legal = record { closes = closes; locks = locks; serial = serial; snapshots = snapshots; unfinished = unfinished; refusals = refusals; settling = settling; marks = marks }
+
+-- ---- and it is so with each of its answers
+
+abbrev loaded : List Event
+loaded = Began 1 kinds.Updating ∷ Granted 1 exclusive ∷ Answered 1 (answer (Load d element) says.Done) ∷ []
+
+abbrev read : List Event
+read = loaded ++ Began 2 (kinds.Reading 0) ∷ Committed 1 1 ∷ Answered 2 (answer (Export d) (says.Error codes_of.FODC0002)) ∷ []
+
+abbrev read_again : List Event
+read_again = read ++ Ended 2 ∷ Began 2 (kinds.Reading 1) ∷ Answered 2 (answer (Export d) (says.Lines element)) ∷ []
+
+idle_runs : (past : List Event) (s : ℕ) → open_of s past ≡ None → RunsNext B s past
+idle_runs past s idle = subst (λ o. AllInTurn (newest B past) (updating o)) (sym idle) tt
+
+none_loaded : (s : ℕ) → (1 == s) ≡ false → (2 == s) ≡ false → open_of s (past_of loaded) ≡ None
+none_loaded s first second = rw (first) refl
+
+none_read : (s : ℕ) → (1 == s) ≡ false → (2 == s) ≡ false → open_of s (past_of read) ≡ None
+none_read s first second = rw (first, second) refl
+
+none_read_again : (s : ℕ) → (1 == s) ≡ false → (2 == s) ≡ false → open_of s (past_of read_again) ≡ None
+none_read_again s first second = rw (first, second) refl
+
+pub so_far_loaded : SoFar B loaded
+so_far_loaded = record {
+  locks = locks.1.1.1.1.1.1.1;
+  serial = serial.1.1.1.1.1.1.1;
+  snapshots = snapshots.1.1.1.1.1.1.1;
+  unfinished = record { each = unfinished.each.1.1.1.1.1.1.1; at_end = by_session (λ s. RunsNext B s (past_of loaded)) ((load_says, tt), tt) tt (λ s first second. idle_runs (past_of loaded) s (none_loaded s first second)) };
+  refusals = refusals.by_state.1.1.1.1.1.1.1;
+  settling = settling.1.1.1.1.1.1.1;
+  marks = marks.1.1.1.1.1.1.1;
+}
+
+pub so_far_read : SoFar B read
+so_far_read = record {
+  locks = locks.1.1.1.1;
+  serial = serial.1.1.1.1;
+  snapshots = snapshots.1.1.1.1;
+  unfinished = record { each = unfinished.each.1.1.1.1; at_end = by_session (λ s. RunsNext B s (past_of read)) tt tt (λ s first second. idle_runs (past_of read) s (none_read s first second)) };
+  refusals = refusals.by_state.1.1.1.1;
+  settling = settling.1.1.1.1;
+  marks = marks.1.1.1.1;
+}
+
+pub so_far_read_again : SoFar B read_again
+so_far_read_again = record {
+  locks = locks.1;
+  serial = serial.1;
+  snapshots = snapshots.1;
+  unfinished = record { each = unfinished.each.1; at_end = by_session (λ s. RunsNext B s (past_of read_again)) tt tt (λ s first second. idle_runs (past_of read_again) s (none_read_again s first second)) };
+  refusals = refusals.by_state.1;
+  settling = settling.1;
+  marks = marks.1;
+}

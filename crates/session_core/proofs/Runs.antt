@@ -38,7 +38,7 @@ use Rattle.session_core.specs.Runs.{IsEnd, IsEmpty, IsRun}
 use Rattle.session_core.proofs.Growing.{past-more, newest-more}
 use Rattle.session_core.proofs.Covering.{ran_all-one}
 use Rattle.session_core.proofs.Tying.{here, state-with_locks, opened}
-use Rattle.session_core.proofs.Answering.{answers_keep_legal}
+use Rattle.session_core.proofs.Answering.{granted_as, answers_keep_legal}
 
 -- ---- any event follows an end
 
@@ -340,7 +340,7 @@ answered_legal k k' s call answer is legal updating_is statement passes ends so 
       statement = statement;
       updating = on_core (λ B ps. state s ps ≡ Updating) k k' (Granted s (needs call)) is (here-state ∙ updating_is);
       passes = passes;
-      granted = on_core (λ B ps. last_of s ps ≡ Some (Granted s (needs call))) k k' (Granted s (needs call)) is (here s (last_of s (past k)) (Some (Granted s (needs call))));
+      granted = granted_as s (needs call) (past k') (on_core (λ B ps. last_of s ps ≡ Some (Granted s (needs call))) k k' (Granted s (needs call)) is (here s (last_of s (past k)) (Some (Granted s (needs call)))));
       says_so = on_core (λ B ps. answer ≡ says_of (stmt (forest_behind B s ps) call).says) k k' (Granted s (needs call)) is (so ∙ ap (λ F. says_of (stmt F call).says) (sym here-forest));
     }))
     (on_core (λ B ps. Follows (Answered s (replied call answer)) ps) k k' (Granted s (needs call)) is here-follows)

@@ -20,7 +20,7 @@ use Rattle.session_core.specs.Replies.{SerialAt, SnapshotsAt, RunsNext, AllInTur
 use Rattle.session_core.specs.Settling.{SettlingAt}
 use Rattle.session_core.specs.Marks.{MarksAt}
 use Rattle.session_core.specs.Closes.{Scripts, ClosesAtEnd, calls_of, closed_of}
-use Rattle.session_core.specs.Legal.{Legal, IsClosed, IsUnfinished, IsOrdered}
+use Rattle.session_core.specs.Legal.{SoFar, Legal, IsClosed, IsUnfinished, IsOrdered}
 use Rattle.session_core.proofs.Sessions.{◌⊳◌, by_session, free_where_none}
 use Rattle.session_core.proofs.WorkedCalls.{d, begin, commit, create, begin_is, commit_is, create_is, exclusive}
 use Rattle.session_core.proofs.WorkedStatements.{create_says}
@@ -126,3 +126,6 @@ closes = record {
 
 pub is_legal : Legal journal B P
 is_legal = record { closes = closes; locks = locks; serial = serial; snapshots = snapshots; unfinished = unfinished; refusals = refusals; settling = settling; marks = marks }
+
+pub so_far : SoFar B journal
+so_far = record { locks = locks; serial = serial; snapshots = snapshots; unfinished = unfinished; refusals = refusals.by_state; settling = settling; marks = marks }

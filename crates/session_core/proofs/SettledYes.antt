@@ -19,7 +19,7 @@ use Rattle.session_core.specs.Replies.{SerialAt, SnapshotsAt, RunsNext, AllInTur
 use Rattle.session_core.specs.Settling.{SettlingAt}
 use Rattle.session_core.specs.Marks.{MarksAt}
 use Rattle.session_core.specs.Closes.{Scripts, ClosesAtEnd, calls_of, closed_of}
-use Rattle.session_core.specs.Legal.{Legal, IsClosed, IsUnfinished, IsOrdered}
+use Rattle.session_core.specs.Legal.{SoFar, Legal, IsClosed, IsUnfinished, IsOrdered}
 use Rattle.session_core.proofs.Sessions.{◌⊳◌, by_session, free_where_none}
 use Rattle.session_core.proofs.WorkedCalls.{d, begin, commit, create, begin_is, commit_is, create_is, exclusive}
 use Rattle.session_core.proofs.WorkedStatements.{create_says}
@@ -128,3 +128,21 @@ closes = record {
 
 pub is_legal : Legal journal B P
 is_legal = record { closes = closes; locks = locks; serial = serial; snapshots = snapshots; unfinished = unfinished; refusals = refusals; settling = settling; marks = marks }
+
+-- and it is so with the first answer
+abbrev answered : List Event
+answered = Began 1 kinds.Updating ∷ Granted 1 exclusive ∷ Answered 1 (answer (Create d) says.Done) ∷ []
+
+none_answered : (s : ℕ) → (1 == s) ≡ false → (2 == s) ≡ false → RunsNext B s (past_of answered)
+none_answered s first second = let none : open_of s (past_of answered) ≡ None = rw (first) refl in subst (λ o. AllInTurn (newest B (past_of answered)) (updating o)) (sym none) tt
+
+pub so_far : SoFar B answered
+so_far = record {
+  locks = locks.1.1.1.1;
+  serial = serial.1.1.1.1;
+  snapshots = snapshots.1.1.1.1;
+  unfinished = record { each = unfinished.each.1.1.1.1; at_end = by_session (λ s. RunsNext B s (past_of answered)) ((create_says, tt), tt) tt none_answered };
+  refusals = refusals.by_state.1.1.1.1;
+  settling = settling.1.1.1.1;
+  marks = marks.1.1.1.1;
+}

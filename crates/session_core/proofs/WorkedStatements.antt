@@ -18,7 +18,7 @@ use Rattle.session_core.specs.Transactions.{says_of}
 use Rattle.session_core.proofs.WorkedCalls.{d, element}
 
 -- the document of the lines
-abbrev document : Doc
+abbrev pub document : Doc
 document = record { kids = Element (codes "a") [] [] ∷ [] }
 
 absent : forests.get no_documents d ≡ None
@@ -30,8 +30,11 @@ load_says = sym (ap (λ o. says_of (added_where_free o d (read element) no_docum
 pub export_before : says.Error codes_of.FODC0002 ≡ says_of (stmt no_documents (Export d)).says
 export_before = sym (ap (λ o. says_of (exported o)) absent)
 
+pub load_leaves : (stmt no_documents (Load d element)).forest ≡ forests.insert no_documents d document
+load_leaves = ap (λ o. (added_where_free o d (read element) no_documents).forest) absent
+
 present : forests.get (stmt no_documents (Load d element)).forest d ≡ Some document
-present = ap (λ o. forests.get (added_where_free o d (read element) no_documents).forest d) absent ∙ get-put no_documents d document
+present = ap (λ F. forests.get F d) load_leaves ∙ get-put no_documents d document
 
 written : pyx document ≡ element
 written = rw (fold-Element (List Line) pyx_step (codes "a") [] []) refl

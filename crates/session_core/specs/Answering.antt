@@ -14,10 +14,11 @@ use Rattle.session_core.specs.declared.event.Reply.{Reply}
 use Rattle.session_core.specs.declared.event.Says.{Says}
 use Rattle.session_core.specs.declared.event.Says.TheVariants as says
 use Rattle.session_core.specs.declared.event.Event.{Event}
-use Rattle.session_core.specs.declared.event.Event.TheVariants.{Granted, Answered}
-use Rattle.session_core.specs.History.{past_of, last_of}
+use Rattle.session_core.specs.declared.event.Event.TheVariants.{Answered}
+use Rattle.session_core.specs.History.{past_of}
 use Rattle.session_core.specs.Transactions.{Base, after, says_of}
 use Rattle.session_core.specs.States.{state, in_doubt}
+use Rattle.session_core.specs.Locks.{AreGranted}
 use Rattle.session_core.specs.Refusals.{refused_in, work_of, is_text_refusal}
 use Rattle.session_core.specs.Settling.{last_number, HasNoCommitLeft}
 use Rattle.session_core.specs.Kept.{Follows, forest_behind}
@@ -51,13 +52,13 @@ pub record FindsNoNumber (B : Base) (s : ℕ) (call : Call) (answer : Says) (pas
   pub none_left : HasNoCommitLeft B past
   pub says_so : answer ≡ says.Error (codes.Spent spent.Commit last_number)
 
--- a statement runs in an updating transaction, directly behind the grant of its locks, behind all commits and the calls
--- of its transaction before it
+-- a statement runs in an updating transaction, directly behind the grant of its locks where it needs some, behind all
+-- commits and the calls of its transaction before it
 pub record RunsUpdating (B : Base) (s : ℕ) (call : Call) (answer : Says) (past : List Event) : Type 0 where
   pub statement : IsTrue (is_statement call)
   pub updating : state s past ≡ Updating
   pub passes : refused_in Updating (work_of call) ≡ None
-  pub granted : last_of s past ≡ Some (Granted s (needs call))
+  pub granted : AreGranted s (needs call) past
   pub says_so : answer ≡ says_of (stmt (forest_behind B s past) call).says
 
 -- a statement runs in a read-only transaction, on the documents of its commit

@@ -14,4 +14,5 @@ pub mod Kept
 pub mod Ties
 pub mod Unsettled
 pub mod Answering
+pub mod CoreCalls
 pub mod Runs

@@ -12,13 +12,20 @@
 //! `begin_read` take the room of the event that ends the transaction, so that `end_read`,
 //! `roll_back` and `left` take no memory. The states and the locks stand in tables, and the
 //! documents behind each commit are kept, so no call walks the journal.
+//!
+//! `make_all` makes a list of such calls (`CoreCall`) one after another. The list has to meet the
+//! conditions of its calls, the first now and each other behind whatever those before it make
+//! (`CoreCalls`). Over every such list the journal stays legal so far, also where memory ends in
+//! between.
 #![tactic(auto)]
 
+mod calls;
 mod event;
 mod keeping;
 mod laws;
 mod states;
 
+pub use calls::CoreCall;
 pub use event::{BeginKind, Event, Journal, Reply, Says, State};
 pub use keeping::Core;
 pub use laws::{

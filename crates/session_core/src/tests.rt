@@ -1,3 +1,4 @@
+mod histories;
 mod run;
 
 use crate::{Core, State};
@@ -42,7 +43,7 @@ fn a_refusal_names_the_holder(rt: HostRuntime) -> Result<(), Fail> {
         .begins(2)?
         .is_refused(2, export(alloc)?, "d", 1)?;
     assert!(&rt; run.state(2) == State::Updating);
-    assert_eq!(&rt; run.events(), 5);
+    assert_eq!(&rt; run.journal().len(), 5);
     Ok(())
 }
 
@@ -60,22 +61,7 @@ fn a_refusal_names_the_least_of_two_holders(rt: HostRuntime) -> Result<(), Fail>
         .is_refused(2, create(alloc)?, "d", 3)?
         .rolls_back(2)?
         .is_refused(1, create(alloc)?, "d", 3)?;
-    assert_eq!(&rt; run.events(), 11);
-    Ok(())
-}
-
-#[test]
-fn a_lock_on_a_name_without_a_document(rt: HostRuntime) -> Result<(), Fail> {
-    let alloc = rt.alloc();
-    let run = Run::over(alloc, 0)?
-        .begins(1)?
-        .exports_nothing(1, "d")?
-        .begins(2)?
-        .is_refused(2, create(alloc)?, "d", 1)?
-        .leaves(2)?
-        .commits(1, 1)?;
-    assert!(&rt; run.state(2) == State::Idle);
-    assert_eq!(&rt; run.events(), 7);
+    assert_eq!(&rt; run.journal().len(), 11);
     Ok(())
 }
 
@@ -93,7 +79,7 @@ fn two_sessions_in_turn(rt: HostRuntime) -> Result<(), Fail> {
         // The locks of the first are gone.
         .exports_nothing(2, "c")?
         .commits(2, 2)?;
-    assert_eq!(&rt; run.events(), 14);
+    assert_eq!(&rt; run.journal().len(), 14);
     Ok(())
 }
 
@@ -123,7 +109,7 @@ fn a_commit_in_doubt_stands(rt: HostRuntime) -> Result<(), Fail> {
         .begins(2)?
         .exports_nothing(2, "d")?;
     assert!(&rt; run.state(1) == State::Idle);
-    assert_eq!(&rt; run.events(), 14);
+    assert_eq!(&rt; run.journal().len(), 14);
     Ok(())
 }
 
@@ -148,7 +134,7 @@ fn a_commit_in_doubt_is_undone(rt: HostRuntime) -> Result<(), Fail> {
         .is_refused(1, create(alloc)?, "d", 2)?
         // The number of the commit that does not stand is given again.
         .commits(2, 8)?;
-    assert_eq!(&rt; run.events(), 12);
+    assert_eq!(&rt; run.journal().len(), 12);
     Ok(())
 }
 
@@ -165,6 +151,6 @@ fn a_reader_keeps_its_documents(rt: HostRuntime) -> Result<(), Fail> {
     assert!(&rt; run.sees(1, "d")?);
     let run = run.ends(2)?.ends(3)?;
     assert!(&rt; run.sees(2, "d")?);
-    assert_eq!(&rt; run.events(), 8);
+    assert_eq!(&rt; run.journal().len(), 8);
     Ok(())
 }

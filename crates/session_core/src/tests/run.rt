@@ -14,7 +14,7 @@ ghost use Rattle.session_core.specs.Refusals.{refused_in, work_of};
 ghost use Rattle.session_core.specs.Kept.{with_event, past, forest_behind};
 ghost use Rattle.session_core.specs.Runs.{IsEnd};
 
-use crate::{Core, Event, Reply, Says, State};
+use crate::{Core, Event, Journal, Reply, Says, State};
 use doc_locks::AskEnd;
 use std::alloc::Global;
 use std::marker::Model;
@@ -76,7 +76,7 @@ fn answer(alloc: Global, core: &mut Core, session: u32, call: Call, says: Says) 
 }
 
 /// A document without nodes, alone.
-fn one_document(alloc: Global, name: Str) -> Result<DocMap, NoMemory>
+pub fn one_document(alloc: Global, name: Str) -> Result<DocMap, NoMemory>
     ensures { IfOk result (λ docs. docs ≡ map.insert no_documents name (record { kids = [] })) }
 {
     let mut docs = DocMap::new(alloc);
@@ -354,8 +354,7 @@ impl Run {
         Ok(self.core.forest(session).get(&name).is_some())
     }
 
-    /// The number of events.
-    pub fn events(self) -> usize {
-        self.core.close().len()
+    pub fn journal(self) -> Journal {
+        self.core.close()
     }
 }
