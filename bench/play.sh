@@ -1,6 +1,7 @@
 #!/usr/bin/env bash
 # Times `xdb . play` over scripts of 100,000 calls in 64 sessions, with its peak memory, and over twice and four times as
-# many calls; and over shorter scripts that make a new document in each transaction. Run at the top of the repository.
+# many calls; and over scripts of up to as many calls that make a new document in each transaction. Run at the top of the
+# repository.
 set -eu
 cd "$(dirname "$0")/.."
 folder=$(mktemp -d)
@@ -60,8 +61,12 @@ def growing(calls):
     return lines
 
 
-for name, lines_of, calls in (("apart", apart, 100000), ("shared", shared, 100000), ("growing", growing, 5000)):
-    for factor in (1, 2, 4):
+for name, lines_of, calls, factors in (
+    ("apart", apart, 100000, (1, 2, 4)),
+    ("shared", shared, 100000, (1, 2, 4)),
+    ("growing", growing, 5000, (1, 2, 4, 8, 20)),
+):
+    for factor in factors:
         with open("%s/%s-%d" % (folder, name, factor * calls), "w") as out:
             out.write("\n".join(lines_of(factor * calls)) + "\n")
 PY
@@ -83,6 +88,6 @@ PY
 }
 
 for script in apart-100000 apart-200000 apart-400000 shared-100000 shared-200000 shared-400000 \
-    growing-5000 growing-10000 growing-20000; do
+    growing-5000 growing-10000 growing-20000 growing-40000 growing-100000; do
     measure "$folder/$script" ./crates/xdb/out/xdb . play
 done

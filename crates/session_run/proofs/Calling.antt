@@ -29,14 +29,14 @@ use Rattle.session_core.proofs.Turning.{agree_needs}
 use Rattle.session_core.proofs.Growing.{past-more}
 use Rattle.session_core.proofs.Tying.{here, opened, updating_is, state-with_locks}
 use Rattle.session_core.proofs.Beside.{agree_of}
-use Rattle.session_core.proofs.Answering.{stmt_tells, told_runs, one_ran, state_unrun, refused_code, held_behind_grant}
+use Rattle.session_core.proofs.Answering.{stmt_tells, told_runs, one_ran, state_unrun, refused_code, held_behind_grant, granted_as}
 use Rattle.session_run.specs.declared.statement.Effect.{Effect}
 use Rattle.session_run.specs.Answers.{answered}
 use Rattle.session_run.specs.Called.{behind_grant}
-use Rattle.session_run.specs.Changes.{ChangeMap, no_changes, laid_over}
+use Rattle.xml_model.specs.Changes.{ChangeMap, no_changes, laid_over}
 use Rattle.session_run.specs.Effects.{with_change, IsEffect}
 use Rattle.session_run.specs.Tied.{AreChangesOf, IsTied, IsReady}
-use Rattle.session_run.proofs.Laying.{laid-none}
+use Rattle.xml_model.proofs.Laying.{laid-none}
 use Rattle.session_run.proofs.Tying.{MakesOf, agree_itself, tied_granted, tied_answered}
 
 -- ---- states
@@ -165,7 +165,7 @@ module _ (B : Base) (s : ℕ) (before : List Event) (changes : ChangeMap) (tied 
       statement = statement;
       updating = is;
       passes = passes;
-      granted = granted;
+      granted = granted_as s (needs call) before granted;
       says_so = so.says ∙ ap (λ G. says_of (stmt G call).says) (sym (behind_changes is));
     })
 

@@ -9,6 +9,7 @@ use Rattle.session_core.specs.declared.event.Says.{Says}
 use Rattle.session_core.specs.declared.event.Event.{Event}
 use Rattle.session_core.specs.declared.event.Event.TheVariants.{Began, Granted, Refused, Answered, Committed, Ended, RolledBack, Doubt, Settled, Left}
 use Rattle.session_core.specs.History.{session_of, last_of}
+use Rattle.session_core.specs.Answering.{IsRightAnswer}
 use Rattle.session_core.specs.Transactions.{ran_by}
 use Rattle.session_core.specs.States.{in_doubt, doubt_behind}
 use Rattle.session_core.specs.Locks.{IsBehindGrant}
@@ -17,7 +18,7 @@ use Rattle.session_core.specs.Kept.{Kept, with_event, past, Follows}
 use Rattle.session_core.proofs.Growing.{past-more}
 use Rattle.session_run.specs.Answers.{answered}
 use Rattle.session_run.specs.Called.{AddsClosing}
-use Rattle.session_run.specs.Changes.{ChangeMap}
+use Rattle.xml_model.specs.Changes.{ChangeMap}
 use Rattle.session_run.specs.Tied.{IsTied, EndsCall, IsBetweenCalls, IsReady, StaysReady}
 use Rattle.session_run.proofs.Tying.{tied_unrun}
 
@@ -88,8 +89,8 @@ pub ready_unrun : (s : ℕ) (call : Option Call) (says : Says) (old new : Kept) 
 ready_unrun s call says old new grown none settled changes tied =
     ready_behind s changes old new (answered s call says) grown refl tt settled (tied_unrun old.base s (past old) (record { call = call; says = says }) changes none tied)
 
-pub answer_closes : (s : ℕ) (call : Call) (says : Says) (old new : Kept) → new ≡ with_event (answered s (Some call) says) old → AddsClosing s call old new
-answer_closes s call says old new grown = record { event = answered s (Some call) says; of_session = refl; closing = refl; closes = inl refl; grown = grown }
+pub answer_closes : (s : ℕ) (call : Call) (says : Says) (old new : Kept) → IsRightAnswer old.base s (past old) (Some call) says → new ≡ with_event (answered s (Some call) says) old → AddsClosing s call old new
+answer_closes s call says old new right grown = record { event = answered s (Some call) says; of_session = refl; closing = refl; closes = inl refl; right = right; grown = grown }
 
 -- what leaves a session ready with any tied changes does so with its own
 pub stays : {T E : Type 0} (r : Result T E) (s : ℕ) (changes : ChangeMap) (mid old new : Kept) → mid ≡ old → IsTied old.base s changes (past old) → OnOk r (StaysReady s mid new) → OnOk r (IsReady s changes new)

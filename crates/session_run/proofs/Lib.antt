@@ -1,5 +1,3 @@
-pub mod Laying
-pub mod Entries
 pub mod Statements
 pub mod Lines
 pub mod Tying

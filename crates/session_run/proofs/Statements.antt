@@ -13,9 +13,9 @@ use Rattle.xml_model.specs.Statement.{stmt, added_where_free, dropped, exported,
 use Rattle.session_core.specs.declared.event.Says.TheVariants as says
 use Rattle.session_core.specs.Transactions.{says_of}
 use Rattle.session_run.specs.declared.statement.Effect.{Effect}
-use Rattle.session_run.specs.Changes.{ChangeMap, laid_over}
+use Rattle.xml_model.specs.Changes.{ChangeMap, laid_over}
 use Rattle.session_run.specs.Effects.{with_change, IsEffect, IsPut}
-use Rattle.session_run.proofs.Laying.{laid-one, laid-agree}
+use Rattle.xml_model.proofs.Laying.{laid-one, laid-agree}
 
 pub if_ok : {T E : Type 0} (P Q : T → Type 0) (r : Result T E) → ((x : T) → P x → Q x) → IfOk r P → IfOk r Q
 if_ok P Q (Ok x) f fact = f x fact

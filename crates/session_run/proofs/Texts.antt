@@ -1,5 +1,5 @@
 -- Texts of calls, and the events that close them.
-use Rattle.std.proofs.Common.{◌≡◌, ℕ, List, [], ◌∷◌, None, Result, Ok, Err, OnErr, refl, ◌∙◌, append_assoc}
+use Rattle.std.proofs.Common.{◌≡◌, ℕ, List, [], ◌∷◌, None, Result, Ok, Err, OnErr, refl, subst, ◌∙◌, append_assoc}
 use mathlib.Core.Logic.{inl, inr}
 use Rattle.xq_ast.specs.declared.call.Call.{Call}
 use Rattle.xq_ast.specs.declared.call.CallText.{CallText}
@@ -21,9 +21,10 @@ use Rattle.session_core.specs.Answering.{IsRightAnswer}
 use Rattle.session_core.specs.Transactions.{Base}
 use Rattle.session_core.specs.States.{state}
 use Rattle.session_core.specs.Kept.{Kept, with_event, past}
+use Rattle.session_core.proofs.Growing.{past-more}
 use Rattle.session_run.specs.Answers.{answered}
 use Rattle.session_run.specs.Calls as calls
-use Rattle.session_run.specs.Calls.{AnswersText, ClosesText, AreOfCall}
+use Rattle.session_run.specs.Calls.{AnswersText, TakesNoDevice, ClosesText, AreOfCall}
 use Rattle.session_run.specs.Called.{IsCalled, IsUnclosed, AddsClosing, ClosesRead, LeavesRead, behind_grant}
 
 -- ---- a text that is a call
@@ -41,16 +42,22 @@ module _ (s : ℕ) (text : CallText) (call : Call) (is : Parsed text (Ok call)) 
   answers_read (Settled by t stands) before = tt
   answers_read (Left t) before = tt
 
-  closes_read : (old new : Kept) (a : AddsClosing s call old new) (before : List Event) → ClosesText s text a.event before
-  closes_read old new a before = record { of_session = a.of_session; closing = a.closing; closes = record { what = Ok call; parsed = is; closes = a.closes }; answers = answers_read a.event before }
+  closes_read : (old new : Kept) (a : AddsClosing s call old new) (before : List Event) → past old ≡ before → ClosesText old.base s text a.event before
+  closes_read old new a before same = record {
+    of_session = a.of_session;
+    closing = a.closing;
+    closes = record { what = Ok call; parsed = is; closes = a.closes };
+    answers = answers_read a.event before;
+    right = subst (TakesNoDevice old.base a.event) same a.right;
+  }
 
   -- what closes the call that was read closes the call of the text
   pub called_read : (old new : Kept) → ClosesRead s call old new → IsCalled s text old new
-  called_read old new (inl a) = record { events = a.event ∷ []; grown = a.grown; of_call = calls.AreOfCall.at_once (closes_read old new a (past old)) }
+  called_read old new (inl a) = record { events = a.event ∷ []; grown = a.grown; of_call = calls.AreOfCall.at_once (closes_read old new a (past old) refl) }
   called_read old new (inr a) = record {
     events = Granted s (needs call) ∷ a.event ∷ [];
     grown = a.grown ∙ (λ i. record { base = old.base; journal = append_assoc old.journal (Granted s (needs call) ∷ []) (a.event ∷ []) i });
-    of_call = calls.AreOfCall.behind_grant (record { call = call; parsed = is; needs_are = refl }) (closes_read (behind_grant s call old) new a (Granted s (needs call) ∷ past old));
+    of_call = calls.AreOfCall.behind_grant (record { call = call; parsed = is; needs_are = refl }) (closes_read (behind_grant s call old) new a (Granted s (needs call) ∷ past old) (past-more old.journal (Granted s (needs call))));
   }
 
   pub left_read : (old new : Kept) → LeavesRead s call old new → IsUnclosed s text old new
@@ -60,27 +67,27 @@ module _ (s : ℕ) (text : CallText) (call : Call) (is : Parsed text (Ok call)) 
 -- ---- a text that is none, or for which memory was wanting
 
 module _ (s : ℕ) (text : CallText) (old new : Kept) where
-  called_refused : (code : Code) → Parsed text (Err code) → new ≡ with_event (answered s None (says.Error code)) old → IsCalled s text old new
-  called_refused code is grown = record {
+  called_refused : (code : Code) → Parsed text (Err code) → IsRightAnswer old.base s (past old) None (says.Error code) → new ≡ with_event (answered s None (says.Error code)) old → IsCalled s text old new
+  called_refused code is right grown = record {
     events = answered s None (says.Error code) ∷ [];
     grown = grown;
-    of_call = calls.AreOfCall.at_once (record { of_session = refl; closing = refl; closes = record { what = Err code; parsed = is; closes = refl }; answers = record { what = Err code; parsed = is; answers = inl refl } });
+    of_call = calls.AreOfCall.at_once (record { of_session = refl; closing = refl; closes = record { what = Err code; parsed = is; closes = refl }; answers = record { what = Err code; parsed = is; answers = inl refl }; right = right });
   }
 
-  lost_by : (what : Result Call Code) → Parsed text what → ClosesText s text (answered s None (says.Error codes.NoMemory)) (past old)
-  lost_by (Ok call) is = record { of_session = refl; closing = refl; closes = record { what = Ok call; parsed = is; closes = inr (refl, refl) }; answers = record { what = Ok call; parsed = is; answers = tt } }
-  lost_by (Err code) is = record { of_session = refl; closing = refl; closes = record { what = Err code; parsed = is; closes = refl }; answers = record { what = Err code; parsed = is; answers = inr (inl refl) } }
+  lost_by : (what : Result Call Code) → Parsed text what → ClosesText old.base s text (answered s None (says.Error codes.NoMemory)) (past old)
+  lost_by (Ok call) is = record { of_session = refl; closing = refl; closes = record { what = Ok call; parsed = is; closes = inr (refl, refl) }; answers = record { what = Ok call; parsed = is; answers = tt }; right = answers.IsRightAnswer.lacks_memory }
+  lost_by (Err code) is = record { of_session = refl; closing = refl; closes = record { what = Err code; parsed = is; closes = refl }; answers = record { what = Err code; parsed = is; answers = inr (inl refl) }; right = answers.IsRightAnswer.lacks_memory }
 
   called_lost : new ≡ with_event (answered s None (says.Error codes.NoMemory)) old → IsCalled s text old new
   called_lost grown = record { events = answered s None (says.Error codes.NoMemory) ∷ []; grown = grown; of_call = calls.AreOfCall.at_once (lost_by (parsed text) (parsed_holds text)) }
 
   -- a text that the parser refuses is answered so
-  pub called_end : (end : ParseEnd) → ((end ≡ NoMemory → ⊥) → Parsed text (Err (code_of end))) → new ≡ with_event (answered s None (says.Error (code_of end))) old → IsCalled s text old new
-  called_end TooLong is grown = called_refused codes.TooLong (is (λ e. cc)) grown
-  called_end XPST0003 is grown = called_refused codes.XPST0003 (is (λ e. cc)) grown
-  called_end NestedTooDeep is grown = called_refused codes.NestedTooDeep (is (λ e. cc)) grown
-  called_end BadName is grown = called_refused codes.BadName (is (λ e. cc)) grown
-  called_end NoMemory is grown = called_lost grown
+  pub called_end : (end : ParseEnd) → ((end ≡ NoMemory → ⊥) → Parsed text (Err (code_of end))) → IsRightAnswer old.base s (past old) None (says.Error (code_of end)) → new ≡ with_event (answered s None (says.Error (code_of end))) old → IsCalled s text old new
+  called_end TooLong is right grown = called_refused codes.TooLong (is (λ e. cc)) right grown
+  called_end XPST0003 is right grown = called_refused codes.XPST0003 (is (λ e. cc)) right grown
+  called_end NestedTooDeep is right grown = called_refused codes.NestedTooDeep (is (λ e. cc)) right grown
+  called_end BadName is right grown = called_refused codes.BadName (is (λ e. cc)) right grown
+  called_end NoMemory is right grown = called_lost grown
 
 -- which is right
 pub right_end : (B : Base) (s : ℕ) (before : List Event) (end : ParseEnd) → (state s before ≡ InDoubt → ⊥) → IsRightAnswer B s before None (says.Error (code_of end))

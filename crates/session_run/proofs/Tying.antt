@@ -21,9 +21,9 @@ use Rattle.session_core.proofs.Tying.{here, idle_none}
 use Rattle.session_core.proofs.Holding.{locks_by, locks_in}
 use Rattle.session_core.proofs.Turning.{Agree}
 use Rattle.session_core.proofs.Beside.{whose, open-beside, agree_at, agree_of, newest_agrees}
-use Rattle.session_run.specs.Changes.{ChangeMap, no_changes, laid_over}
+use Rattle.xml_model.specs.Changes.{ChangeMap, no_changes, laid_over}
 use Rattle.session_run.specs.Tied.{AreChangesOf, IsTied}
-use Rattle.session_run.proofs.Laying.{laid-none}
+use Rattle.xml_model.proofs.Laying.{laid-none}
 
 -- ---- forests that agree
 

@@ -5,7 +5,7 @@ use Rattle.xq_ast.specs.declared.call.CallText.{CallText}
 use Rattle.session_core.specs.declared.event.Event.{Event}
 use Rattle.session_core.specs.declared.event.Event.TheVariants.{Began, Granted, Refused, Answered, Committed, Ended, RolledBack, Doubt, Settled, Left}
 use Rattle.session_core.specs.History.{AtEach, session_of, is_closing, last_of}
-use Rattle.session_core.specs.Transactions.{open_of}
+use Rattle.session_core.specs.Transactions.{Base, open_of}
 use Rattle.session_core.specs.Locks.{LocksAt}
 use Rattle.session_core.specs.Refusals.{RefusalsAt}
 use Rattle.session_core.specs.Legal.{SoFar}
@@ -16,7 +16,7 @@ use Rattle.session_run.specs.Calls as calls
 use Rattle.session_run.specs.Calls.{ClosesText, AreOfCall}
 use Rattle.session_run.specs.Called.{with_events, IsCalled, IsUnclosed, IsUntouched}
 use Rattle.session_core.specs.States.{in_doubt}
-use Rattle.session_run.specs.Changes.{ChangeMap}
+use Rattle.xml_model.specs.Changes.{ChangeMap}
 use Rattle.session_run.specs.Tied.{IsTied, EndsCall, IsReady}
 use Rattle.session_run.proofs.Tying.{tied_beside}
 
@@ -61,22 +61,22 @@ untouched_event t k e other apart legal = let more = past-more k.journal e in re
   tied = λ changes tied. subst (IsTied k.base t changes) (sym more) (tied_beside k.base (past k) legal.locks legal.refusals t changes e other tied);
 }
 
-untouched_closing : (t s : ℕ) (text : CallText) (k : Kept) (e : Event) (before : List Event) → (t ≡ s → ⊥) → ClosesText s text e before → IsLegalBefore (with_event e k) → IsUntouched t k (with_event e k)
-untouched_closing t s text k e before differ closes legal = untouched_event t k e
+untouched_closing : (B : Base) (t s : ℕ) (text : CallText) (k : Kept) (e : Event) (before : List Event) → (t ≡ s → ⊥) → ClosesText B s text e before → IsLegalBefore (with_event e k) → IsUntouched t k (with_event e k)
+untouched_closing B t s text k e before differ closes legal = untouched_event t k e
     (λ same. differ (sym same ∙ closing_whose e closes.closing ∙ closes.of_session)) (λ same. differ (sym same ∙ closes.of_session)) (before_event k e legal)
 
 untouched_grant : (t s : ℕ) (k : Kept) (e : Event) → (t ≡ s → ⊥) → session_of e ≡ s → whose e ≡ s → IsLegalBefore (with_event e k) → IsUntouched t k (with_event e k)
 untouched_grant t s k e differ own its legal = untouched_event t k e (λ same. differ (sym same ∙ its)) (λ same. differ (sym same ∙ own)) (before_event k e legal)
 
-by_events : (t s : ℕ) (text : CallText) (old : Kept) (events : List Event) → (t ≡ s → ⊥) → AreOfCall s text (past old) events → IsLegalBefore (with_events events old) → IsUntouched t old (with_events events old)
-by_events t s text old events differ (calls.AreOfCall.at_once {e} closes) legal = untouched_closing t s text old e (past old) differ closes legal
+by_events : (t s : ℕ) (text : CallText) (old : Kept) (events : List Event) → (t ≡ s → ⊥) → AreOfCall old.base s text (past old) events → IsLegalBefore (with_events events old) → IsUntouched t old (with_events events old)
+by_events t s text old events differ (calls.AreOfCall.at_once {e} closes) legal = untouched_closing old.base t s text old e (past old) differ closes legal
 by_events t s text old events differ (calls.AreOfCall.behind_grant {asked} {e} needed closes) legal =
     let mid : Kept = with_event (Granted s asked) old in
     let flat : with_event e mid ≡ with_events (Granted s asked ∷ e ∷ []) old = λ i. record { base = old.base; journal = append_assoc old.journal (Granted s asked ∷ []) (e ∷ []) i } in
     let legal_flat : IsLegalBefore (with_event e mid) = subst IsLegalBefore (sym flat) legal in
     subst (IsUntouched t old) flat (untouched_then t old mid (with_event e mid)
     (untouched_grant t s old (Granted s asked) differ refl refl (before_event mid e legal_flat))
-    (untouched_closing t s text mid e (Granted s asked ∷ past old) differ closes legal_flat))
+    (untouched_closing old.base t s text mid e (Granted s asked ∷ past old) differ closes legal_flat))
 
 module _ (t s : ℕ) (text : CallText) (old new : Kept) (differ : t ≡ s → ⊥) (legal : SoFar new.base new.journal) where
   legal_new : IsLegalBefore new

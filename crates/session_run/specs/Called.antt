@@ -10,8 +10,8 @@ use Rattle.session_core.specs.History.{session_of, is_closing, last_of}
 use Rattle.session_core.specs.Transactions.{open_of}
 use Rattle.session_core.specs.Closes.{ClosesCall, NeedsThese}
 use Rattle.session_core.specs.Kept.{Kept, with_event, past}
-use Rattle.session_run.specs.Calls.{AreOfCall}
-use Rattle.session_run.specs.Changes.{ChangeMap}
+use Rattle.session_run.specs.Calls.{TakesNoDevice, AreOfCall}
+use Rattle.xml_model.specs.Changes.{ChangeMap}
 use Rattle.session_run.specs.Tied.{IsTied}
 
 abbrev pub with_events : List Event → Kept → Kept
@@ -21,7 +21,7 @@ with_events events k = record { base = k.base; journal = k.journal ++ events }
 pub record IsCalled (s : ℕ) (text : CallText) (old new : Kept) : Type 0 where
   pub events : List Event
   pub grown : new ≡ with_events events old
-  pub of_call : AreOfCall s text (past old) events
+  pub of_call : AreOfCall old.base s text (past old) events
 
 -- locks were granted for the text, and nothing more is added
 pub record IsGrantedAlone (s : ℕ) (text : CallText) (old new : Kept) : Type 0 where
@@ -41,12 +41,13 @@ pub record IsUntouched (t : ℕ) (old new : Kept) : Type 0 where
 
 -- ---- a call that was read
 
--- One event of the session is added, which closes the call.
+-- One event of the session is added, which closes the call and in which no device takes part.
 pub record AddsClosing (s : ℕ) (call : Call) (old new : Kept) : Type 0 where
   pub event : Event
   pub of_session : session_of event ≡ s
   pub closing : is_closing event ≡ true
   pub closes : ClosesCall call event
+  pub right : TakesNoDevice old.base event (past old)
   pub grown : new ≡ with_event event old
 
 abbrev pub behind_grant : ℕ → Call → Kept → Kept

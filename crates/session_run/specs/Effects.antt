@@ -13,7 +13,7 @@ use Rattle.session_core.specs.declared.event.Says.TheVariants as says
 use Rattle.session_core.specs.Transactions.{says_of}
 use Rattle.session_run.specs.declared.changes.Change.{Change}
 use Rattle.session_run.specs.declared.statement.Effect.{Effect}
-use Rattle.session_run.specs.Changes.{ChangeMap, laid_over, unshared}
+use Rattle.xml_model.specs.Changes.{ChangeMap, laid_over, unshared}
 
 -- the changes with one more, if there is one
 abbrev pub with_change : Option Change → ChangeMap → ChangeMap

@@ -1,5 +1,4 @@
 pub mod Calls
-pub mod Changes
 pub mod Effects
 pub mod Tied
 pub mod Called

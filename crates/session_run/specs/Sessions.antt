@@ -1,7 +1,7 @@
 -- What contracts see of a `Session`.
 use Rattle.std.specs.Prelude.{ℕ, refl}
 use Rattle.std.specs.Coded.{Coded, code_by, coded×, coded_ℕ}
-use Rattle.session_run.specs.Changes.{ChangeMap, changes_code}
+use Rattle.xml_model.specs.Changes.{ChangeMap, changes_code}
 
 -- A session's number, and the changes of its open transaction.
 pub record Seat : Type 0 where

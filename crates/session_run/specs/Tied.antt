@@ -8,7 +8,7 @@ use Rattle.session_core.specs.History.{last_of}
 use Rattle.session_core.specs.Transactions.{Base, Transaction, open_of, updating, ran_all, run_calls, newest}
 use Rattle.session_core.specs.States.{in_doubt}
 use Rattle.session_core.specs.Kept.{Kept, past}
-use Rattle.session_run.specs.Changes.{ChangeMap, no_changes, laid_over}
+use Rattle.xml_model.specs.Changes.{ChangeMap, no_changes, laid_over}
 
 -- outside of an updating transaction there are no changes; within one, they make of every forest that has the newest
 -- documents under the transaction's locks what its calls leave of that forest

@@ -3,12 +3,12 @@ ghost use Rattle.std.specs.Prelude.{◌≡◌, ◌<◌, ◌∷◌, [], IfOk, OnO
 ghost use Rattle.std.specs.FinMap as map;
 ghost use Rattle.std.specs.Option.{option_copied};
 ghost use Rattle.indexmap.specs.IndexMap.{spare};
-ghost use Rattle.session_run.specs.Changes.{no_changes, laid_over, with_document, unshared, changes_of_entries};
+ghost use Rattle.xml_model.specs.Changes.{no_changes, laid_over, unshared, changes_of_entries};
 
 use indexmap::IndexMap;
 use std::alloc::Global;
 use std::sync::Arc;
-use xml_model::{Doc, DocMap};
+use xml_model::{Doc, DocChanges, DocMap};
 use xq_ast::{NoMemory, Str};
 
 /// A name and the document that it is to have, or none.
@@ -21,7 +21,7 @@ pub(crate) struct Change {
 /// Names with the document that each has now, or none where it is dropped.
 #[derive(Drop)]
 pub(crate) struct Changes {
-    pub docs: IndexMap<String, Option<Arc<Doc>>>,
+    pub docs: DocChanges,
 }
 
 fn shown(after: &Option<Arc<Doc>>) -> Option<&Doc>
@@ -31,28 +31,6 @@ fn shown(after: &Option<Arc<Doc>>) -> Option<&Doc>
         Some(doc) => Some(doc),
         None => None,
     }
-}
-
-// Lays one change over the documents.
-fn lay(
-    alloc: Global,
-    docs: &mut DocMap,
-    name: &str,
-    after: &Option<Arc<Doc>>,
-) -> Result<(), NoMemory>
-    ensures { OnOk result (docs.new ≡ with_document name.now (unshared after.now) docs.old) }
-{
-    let name = Str::of(alloc, name)?;
-    match after {
-        Some(doc) => {
-            let Ok(shared) = Arc::try_clone(doc) else {
-                return Err(NoMemory);
-            };
-            docs.insert_shared(name, shared)?;
-        }
-        None => docs.remove(&name),
-    }
-    Ok(())
 }
 
 impl Changes {
@@ -75,20 +53,12 @@ impl Changes {
         }
     }
 
-    /// The documents with the changes laid over them, which are shared. Takes time and memory by
-    /// the number of names.
-    pub fn laid_over(&self, alloc: Global, base: &DocMap) -> Result<DocMap, NoMemory>
+    /// The documents with the changes laid over them, which are shared. On average over a line of
+    /// commits, each change takes time and memory by the logarithm of the number of names.
+    pub fn laid_over(&self, base: &DocMap) -> Result<DocMap, NoMemory>
         ensures { IfOk result (λ docs. docs ≡ laid_over (changes_of_entries self.now.docs.entries) base.now) }
     {
-        let mut docs = base.copy()?;
-        let mut left = self.docs.len();
-        while left > 0 {
-            left -= 1;
-            if let Some((name, after)) = self.docs.get_index(left) {
-                lay(alloc, &mut docs, name.as_str(), after)?;
-            }
-        }
-        Ok(docs)
+        base.with_changes(&self.docs)
     }
 
     /// Takes the room for one change more.

@@ -8,7 +8,7 @@ ghost use Rattle.session_core.specs.Refusals.{refused_in, work_of};
 ghost use Rattle.session_core.specs.States.{state as state_of, in_doubt, is_open, is_reading};
 ghost use Rattle.session_core.specs.Transactions.{newest};
 ghost use Rattle.session_run.specs.Called.{AddsClosing, ClosesRead, LeavesRead};
-ghost use Rattle.session_run.specs.Changes.{changes_of_entries};
+ghost use Rattle.xml_model.specs.Changes.{changes_of_entries};
 ghost use Rattle.session_run.specs.Effects.{IsEffect};
 ghost use Rattle.session_run.specs.Tied.{IsTied, IsReady};
 ghost use Rattle.session_core.specs.declared.event.Event.TheVariants as events;

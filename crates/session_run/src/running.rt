@@ -5,7 +5,7 @@ ghost use Rattle.session_core.specs.Refusals.{refused_in, work_of};
 ghost use Rattle.session_core.specs.declared.event.State.TheVariants as states;
 ghost use Rattle.session_core.specs.States.{state as state_of};
 ghost use Rattle.session_run.specs.Called.{ClosesRead, IsCalled, IsUnclosed, LeavesRead};
-ghost use Rattle.session_run.specs.Changes.{changes_of_entries};
+ghost use Rattle.xml_model.specs.Changes.{changes_of_entries};
 ghost use Rattle.session_run.specs.Tied.{IsReady};
 
 use crate::answering::{answer, answer_unchanged};
@@ -37,7 +37,7 @@ fn run_passed(
     match call {
         Call::Begin => begin(core, session),
         Call::BeginRead => begin_read(core, session),
-        Call::Commit => finish(alloc, core, session, changes),
+        Call::Commit => finish(core, session, changes),
         Call::Rollback => {
             core.roll_back(session);
             changes.clear();

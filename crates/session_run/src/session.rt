@@ -4,7 +4,7 @@ ghost use Rattle.session_core.specs.declared.event.Event.TheVariants as events;
 ghost use Rattle.session_core.specs.Kept.{with_event, past};
 ghost use Rattle.session_core.specs.States.{state as state_of, is_open};
 ghost use Rattle.session_run.specs.Called.{IsCalled, IsUnclosed, IsUntouched};
-ghost use Rattle.session_run.specs.Changes.{no_changes, changes_of_entries};
+ghost use Rattle.xml_model.specs.Changes.{no_changes, changes_of_entries};
 ghost use Rattle.session_run.specs.Tied.{IsReady};
 
 use crate::changes::Changes;
@@ -24,7 +24,7 @@ pub struct Session {
 
 impl Model for Session {
     ghost use Rattle.session_run.specs.Sessions.{Seat, seat_code, seat_of};
-    ghost use Rattle.session_run.specs.Changes.{changes_of_entries};
+    ghost use Rattle.xml_model.specs.Changes.{changes_of_entries};
 
     ghost Value = { Seat };
 

@@ -3,7 +3,7 @@ ghost use Rattle.std.specs.Prelude.{◌≡◌, IfOk, map as list_map, ◌∷◌,
 ghost use Rattle.xml_model.specs.Statement.{answer_of};
 ghost use Rattle.xml_model.specs.Pyx.{read, text_of};
 ghost use Rattle.session_core.specs.Transactions.{says_of};
-ghost use Rattle.session_run.specs.Changes.{changes_of_entries};
+ghost use Rattle.xml_model.specs.Changes.{changes_of_entries};
 ghost use Rattle.session_run.specs.Effects.{IsEffect, IsPut, Spells};
 
 use crate::changes::{Change, Changes};
@@ -162,7 +162,7 @@ fn marked(alloc: Global, names: &StrList) -> Result<StrList, NoMemory>
 fn show(alloc: Global, base: &DocMap, changes: &Changes) -> Result<Effect, NoMemory>
     ensures { IfOk result (IsEffect Call.ShowDocuments (changes_of_entries changes.now.docs.entries) base.now) }
 {
-    let names = changes.laid_over(alloc, base)?.names()?;
+    let names = changes.laid_over(base)?.names()?;
     Ok(Effect {
         says: answer_with(marked(alloc, &names)?),
         change: None,

@@ -3,14 +3,13 @@ ghost use Rattle.std.specs.Prelude.{◌≡◌, None, IsTrue, OnOk, OnErr};
 ghost use Rattle.session_core.specs.Kept.{with_event, past, next_number, HasCommitLeft};
 ghost use Rattle.session_core.specs.States.{state as state_of, in_doubt, is_open};
 ghost use Rattle.session_run.specs.Called.{AddsClosing};
-ghost use Rattle.session_run.specs.Changes.{changes_of_entries};
+ghost use Rattle.xml_model.specs.Changes.{changes_of_entries};
 ghost use Rattle.session_run.specs.Tied.{IsBetweenCalls, IsReady, StaysReady};
 ghost use Rattle.session_core.specs.declared.event.Event.TheVariants as events;
 
 use crate::answering::answer_unchanged;
 use crate::changes::Changes;
 use session_core::{Core, Says, State};
-use std::alloc::Global;
 use xq_ast::{Call, Code, NoMemory, SpentKind};
 
 /// BEGIN: an updating transaction.
@@ -44,29 +43,19 @@ pub(crate) fn begin_read(core: &mut Core, session: u32) -> Result<(), NoMemory>
 }
 
 // Commits the newest documents with the changes laid over them.
-fn commit_changes(
-    alloc: Global,
-    core: &mut Core,
-    session: u32,
-    changes: &Changes,
-) -> Result<(), NoMemory>
+fn commit_changes(core: &mut Core, session: u32, changes: &Changes) -> Result<(), NoMemory>
     requires ready { IsReady session (changes_of_entries changes.now.docs.entries) core.old }
     requires updating { state_of session (past core.old) ≡ State.Updating }
     requires left { HasCommitLeft core.old.base (past core.old) }
     ensures ok { OnOk result (core.new ≡ with_event (events.Committed session (next_number core.old.base (past core.old))) core.old) }
     ensures err { OnErr result (core.new ≡ core.old) }
 {
-    let docs = changes.laid_over(alloc, core.forest(session))?;
+    let docs = changes.laid_over(core.forest(session))?;
     core.commit(session, docs)?;
     Ok(())
 }
 
-fn commit(
-    alloc: Global,
-    core: &mut Core,
-    session: u32,
-    changes: &mut Changes,
-) -> Result<(), NoMemory>
+fn commit(core: &mut Core, session: u32, changes: &mut Changes) -> Result<(), NoMemory>
     requires ready { IsReady session (changes_of_entries changes.old.docs.entries) core.old }
     requires updating { state_of session (past core.old) ≡ State.Updating }
     ensures closed { OnOk result (AddsClosing session Call.Commit core.old core.new) }
@@ -81,7 +70,7 @@ fn commit(
         };
         return answer_unchanged(core, session, Call::Commit, Says::Error(spent));
     }
-    match commit_changes(alloc, core, session, changes) {
+    match commit_changes(core, session, changes) {
         Ok(()) => {
             changes.clear();
             Ok(())
@@ -91,12 +80,7 @@ fn commit(
 }
 
 /// Ends the transaction by COMMIT.
-pub(crate) fn finish(
-    alloc: Global,
-    core: &mut Core,
-    session: u32,
-    changes: &mut Changes,
-) -> Result<(), NoMemory>
+pub(crate) fn finish(core: &mut Core, session: u32, changes: &mut Changes) -> Result<(), NoMemory>
     requires ready { IsReady session (changes_of_entries changes.old.docs.entries) core.old }
     requires inside { IsTrue (is_open (state_of session (past core.old))) }
     ensures closed { OnOk result (AddsClosing session Call.Commit core.old core.new) }
@@ -105,7 +89,7 @@ pub(crate) fn finish(
     ensures same { OnErr result (changes.new.docs.entries ≡ changes.old.docs.entries) }
 {
     if core.state(session) == State::Updating {
-        return commit(alloc, core, session, changes);
+        return commit(core, session, changes);
     }
     core.end_read(session);
     Ok(())

@@ -1,5 +1,5 @@
 -- Statements leave forests.
-use Rattle.std.proofs.Common.{◌≡◌, ℕ, Bool, true, false, IsTrue, List, [], ◌∷◌, Option, None, Some, Result, Ok, Err, IfSome, refl, sym, ap, subst, ◌∙◌}
+use Rattle.std.proofs.Common.{◌≡◌, ℕ, true, false, IsTrue, List, [], Option, None, Some, Result, Ok, Err, IfSome, refl, sym, subst}
 use Rattle.std.specs.FinMap as forests
 use Rattle.std.specs.Str.{bytes_eq}
 use Rattle.std.proofs.lemmas.Slice.Eq.{bytes_eq-Decides}
@@ -11,7 +11,7 @@ use Rattle.xml_model.specs.declared.node.RefusedLine.{RefusedLine}
 use Rattle.xml_model.specs.Document.{IsValid}
 use Rattle.xml_model.specs.Forest.{Forest, IsForest}
 use Rattle.xml_model.specs.Statement.{stmt, added_where_free, dropped}
-use Rattle.xml_model.specs.Pyx.{Line, read}
+use Rattle.xml_model.specs.Pyx.{read}
 use Rattle.xml_model.proofs.Framing.{get-put, get-beside, get-gone, get-beside-gone}
 use Rattle.xml_model.proofs.ReadIsValid.{read_is_valid}
 

@@ -1,5 +1,5 @@
 -- Forests at one name, and calls that keep to their needs.
-use Rattle.std.proofs.Common.{◌≡◌, ℕ, Bool, true, false, ◌||◌, cond, IsTrue, List, [], ◌∷◌, Option, None, Some, Result, Ok, Err, IfSome, refl, sym, ap, subst, ◌∙◌}
+use Rattle.std.proofs.Common.{◌≡◌, ℕ, Bool, true, false, ◌||◌, cond, List, [], Option, None, Some, Result, Ok, Err, refl, sym, ap, ◌∙◌}
 use Rattle.std.specs.FinMap as forests
 use Rattle.std.specs.Ordering.{nat_cmp, eq_by_cmp, is_eq}
 use Rattle.std.specs.Cmp.{tied_itself}
@@ -10,13 +10,11 @@ use Rattle.xq_ast.specs.declared.call.Call.{Call}
 use Rattle.xq_ast.specs.declared.call.Call.TheVariants.{Begin, BeginRead, Commit, Rollback, Checkpoint, ShowDocuments, Create, Drop, Load, Export}
 use Rattle.xml_model.specs.declared.node.Doc.{Doc}
 use Rattle.xml_model.specs.declared.node.RefusedLine.{RefusedLine}
-use Rattle.xml_model.specs.Document.{IsValid}
-use Rattle.xml_model.specs.Forest.{Forest, IsForest}
-use Rattle.xml_model.specs.Needs.{needs, has_exclusive, AgreeAt, KeepsToNeeds}
-use Rattle.xml_model.specs.Statement.{stmt, answer_of, exported, added, added_where_free, dropped}
-use Rattle.xml_model.specs.Pyx.{Line, read}
+use Rattle.xml_model.specs.Forest.{Forest}
+use Rattle.xml_model.specs.Needs.{KeepsToNeeds}
+use Rattle.xml_model.specs.Statement.{exported, added_where_free, dropped}
+use Rattle.xml_model.specs.Pyx.{read}
 use Rattle.xml_model.proofs.Lines.{bytes_eq_sym}
-use Rattle.xml_model.proofs.ReadIsValid.{read_is_valid}
 
 -- a name is tied with itself, and names of other bytes are not
 tied : (name : List ℕ) → eq_by_cmp (slice_cmp nat_cmp) name name ≡ true

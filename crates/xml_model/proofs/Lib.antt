@@ -2,6 +2,7 @@ pub mod Entries
 pub mod Escapes
 pub mod Forests
 pub mod Framing
+pub mod Laying
 pub mod Lines
 pub mod Nodes
 pub mod ReadAgain

@@ -1,5 +1,5 @@
 -- Worked rows of the definitions. Each computes, once a node is seen by its layer.
-use Rattle.std.specs.Prelude.{◌≡◌, List, [], ◌∷◌, ◌++◌, Option, Some, Result, Ok, Err, refl, codes}
+use Rattle.std.specs.Prelude.{◌≡◌, List, [], ◌∷◌, ◌++◌, Some, Ok, Err, refl, codes}
 use Rattle.std.specs.declared.cmp.Ordering.TheVariants.{Less}
 use Rattle.xq_ast.specs.declared.refusal.PyxRefusal.TheVariants.{AttributeLate, EndMismatch, Unclosed}
 use Rattle.xml_model.specs.declared.node.Attr.{Attr}

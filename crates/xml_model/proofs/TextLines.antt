@@ -1,5 +1,5 @@
 -- The first line of a text, at its first newline.
-use Rattle.std.proofs.Common.{◌≡◌, ◌≢◌, ℕ, suc, ◌+◌, ◌<◌, Bool, true, false, List, [], ◌∷◌, ◌++◌, length, get_or, nat_eq, refl, ap, sym, ◌∙◌, arith, length-append}
+use Rattle.std.proofs.Common.{◌≡◌, ◌≢◌, ℕ, suc, ◌<◌, true, false, List, [], ◌∷◌, ◌++◌, length, get_or, nat_eq, refl, ap, ◌∙◌, arith, length-append}
 use Rattle.xml_model.specs.Pyx.{Line, in_front, in_front_of_ended, split_lines, split_ended_lines, IsFirstLine, IsPlain, IsCutLine}
 use Rattle.xml_model.proofs.TextAgain.{first_line}
 

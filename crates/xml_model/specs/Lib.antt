@@ -6,5 +6,7 @@ pub mod Values
 pub mod Pyx
 pub mod Counts
 pub mod Forest
+pub mod Changes
+pub mod Below
 pub mod Statement
 pub mod Needs

@@ -1,9 +1,10 @@
-ghost use Rattle.std.specs.Prelude.{◌≡◌, IfOk, OnOk, OnErr};
+ghost use Rattle.std.specs.Prelude.{◌≡◌, [], ◌∷◌, ◌++◌, is_some, if◌then◌else◌, IfOk, OnOk, OnErr};
 ghost use Rattle.std.specs.FinMap as map;
-ghost use Rattle.std.specs.Arc.{arc_value};
 ghost use Rattle.std.specs.Option.{option_copied};
 ghost use Rattle.xml_model.specs.Forest.{no_documents};
+ghost use Rattle.xml_model.specs.Changes.{laid_over, changes_of_entries};
 
+use crate::layers::{DocChanges, Layer, add, document, flat};
 use crate::node::Doc;
 use indexmap::IndexMap;
 use std::alloc::Global;
@@ -11,20 +12,36 @@ use std::marker::Model;
 use std::sync::Arc;
 use xq_ast::{NoMemory, Sequence, Str, StrList};
 
-/// Documents by their names. Copies share the documents.
+/// Documents by their names. Copies share the documents and their names.
 #[derive(Drop)]
 pub struct DocMap {
-    docs: IndexMap<String, Arc<Doc>>,
+    layers: Vec<Layer>,
 }
 
 impl Model for DocMap {
-    ghost use Rattle.xml_model.specs.Forest.{Forest, forest_code, forest_of_entries};
+    ghost use Rattle.xml_model.specs.Forest.{Forest, forest_code};
+    ghost use Rattle.xml_model.specs.Changes.{forest_of_layers};
 
     ghost Value = { Forest };
 
     ghost coded = { forest_code };
 
-    ghost view = { λ m. forest_of_entries m.docs.entries };
+    ghost view = { λ m. forest_of_layers m.layers.items };
+}
+
+// Adds the name, where it has a document.
+fn push_present(
+    names: &mut StrList,
+    alloc: Global,
+    name: &str,
+    after: &Option<Arc<Doc>>,
+) -> Result<(), NoMemory>
+    ensures { OnOk result (names.new ≡ (if is_some after.now then names.old ++ name.now ∷ [] else names.old)) }
+{
+    if after.is_none() {
+        return Ok(());
+    }
+    names.push(Str::of(alloc, name)?)
 }
 
 impl DocMap {
@@ -33,7 +50,7 @@ impl DocMap {
         ensures { result ≡ no_documents }
     {
         DocMap {
-            docs: IndexMap::new(alloc),
+            layers: Vec::new(alloc),
         }
     }
 
@@ -41,10 +58,7 @@ impl DocMap {
     pub fn get(&self, name: &Str) -> Option<&Doc>
         ensures { option_copied result ≡ map.get self.now name.now }
     {
-        match self.docs.get(name.as_str()) {
-            Some(doc) => Some(doc),
-            None => None,
-        }
+        document(&self.layers, name.as_str())
     }
 
     /// Gives the name this document. After an error all is as before, and the document is gone.
@@ -52,44 +66,49 @@ impl DocMap {
         ensures ok { OnOk result (self.new ≡ map.insert self.old name doc) }
         ensures err { OnErr result (self.new ≡ self.old) }
     {
-        let shared = Arc::new(*self.docs.allocator(), doc)?;
-        self.insert_shared(name, shared)
-    }
-
-    /// The same for a document that is shared already.
-    pub fn insert_shared(&mut self, name: Str, doc: Arc<Doc>) -> Result<(), NoMemory>
-        ensures ok { OnOk result (self.new ≡ map.insert self.old name (arc_value doc)) }
-        ensures err { OnErr result (self.new ≡ self.old) }
-    {
-        let _ = self.docs.insert(name.into_string(), doc)?;
+        let alloc = *self.layers.allocator();
+        let shared = Arc::new(alloc, doc)?;
+        let mut change = IndexMap::new(alloc);
+        let _ = change.insert(name.into_string(), Some(shared))?;
+        *self = self.with_changes(&change)?;
         Ok(())
     }
 
-    /// Takes the name and its document away, where it is there. Takes no memory.
-    pub fn remove(&mut self, name: &Str)
-        ensures { self.new ≡ map.remove self.old name.now }
+    /// The map with these changes, which shares the documents. On average over a line of such
+    /// calls, each on what the one before gave, a change takes time and memory by the logarithm of
+    /// the most names that the line has had.
+    pub fn with_changes(&self, changes: &DocChanges) -> Result<DocMap, NoMemory>
+        ensures { IfOk result (λ docs. docs ≡ laid_over (changes_of_entries changes.now.entries) self.now) }
     {
-        let _ = self.docs.shift_remove(name.as_str());
+        let mut layers = self.layers.clone()?;
+        if changes.is_empty() {
+            return Ok(DocMap { layers });
+        }
+        add(&mut layers, changes)?;
+        Ok(DocMap { layers })
     }
+
     /// The names, in the order of their bytes.
     pub fn names(&self) -> Result<StrList, NoMemory>
         ensures { IfOk result (λ names. names ≡ map.keys self.now) }
     {
-        let mut docs = self.docs.clone()?;
-        docs.sort_keys()?;
-        let mut names = Sequence::new(*docs.allocator());
-        for name in docs.keys() {
-            names.push(Str::of(*docs.allocator(), name.as_str())?)?;
+        let alloc = *self.layers.allocator();
+        let mut all = flat(alloc, &self.layers)?;
+        all.sort_keys()?;
+        let mut names = Sequence::new(alloc);
+        for (name, after) in &all {
+            push_present(&mut names, alloc, name.as_str(), after)?;
         }
         Ok(names)
     }
 
-    /// A map of the same documents, which are shared. Takes time and memory by the number of names.
+    /// A map of the same documents, which are shared. Takes time and memory by the logarithm of
+    /// the most names that the map has had.
     pub fn copy(&self) -> Result<DocMap, NoMemory>
         ensures { IfOk result (λ map. map ≡ self.now) }
     {
         Ok(DocMap {
-            docs: self.docs.clone()?,
+            layers: self.layers.clone()?,
         })
     }
 }

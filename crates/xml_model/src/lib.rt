@@ -13,6 +13,7 @@ mod call_needs;
 mod copy;
 mod forest;
 mod laws;
+mod layers;
 mod limits;
 mod measure;
 mod names;
@@ -28,6 +29,7 @@ pub use laws::{
     calls_keep_to_their_needs, canonical_text_is_read_again, pyx_is_read_again,
     statements_keep_forests, what_is_counted, what_is_read_is_valid,
 };
+pub use layers::DocChanges;
 pub use limits::{DEPTH_MAX, NAME_BYTES_MAX, NODES_MAX, REPLY_BYTES_MAX, TEXT_BYTES_MAX};
 pub use names::is_name;
 pub use node::{Attr, AttrList, Doc, Measure, Node, NodeList, RefusedLine};

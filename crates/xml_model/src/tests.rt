@@ -1,9 +1,15 @@
+ghost use Rattle.std.specs.Prelude.{◌<◌};
+
 use crate::{
-    Attr, AttrList, Doc, DocMap, Measure, Node, NodeList, Place, PlaceStep, first_line, is_name,
-    needs, place_order,
+    Attr, AttrList, Doc, DocChanges, DocMap, Measure, Node, NodeList, Place, PlaceStep, first_line,
+    is_name, needs, place_order,
 };
+use indexmap::IndexMap;
 use std::alloc::Global;
 use std::cmp::Ordering;
+use std::collections::BTreeMap;
+use std::process::Abort;
+use std::sync::Arc;
 use std::test::Fail;
 use xq_ast::{Call, Items, LockMode, NoMemory, Sequence, Str};
 
@@ -218,6 +224,12 @@ fn calls_need_locks_on_their_names(rt: HostRuntime) -> Result<(), Fail> {
     Ok(())
 }
 
+fn dropping(alloc: Global, name: &str) -> Result<DocChanges, Fail> {
+    let mut changes: DocChanges = IndexMap::new(alloc);
+    let _ = changes.insert(String::from_str(alloc, name)?, None)?;
+    Ok(changes)
+}
+
 #[test]
 fn documents_are_kept_by_name(rt: HostRuntime) -> Result<(), Fail> {
     let alloc = rt.alloc();
@@ -233,9 +245,12 @@ fn documents_are_kept_by_name(rt: HostRuntime) -> Result<(), Fail> {
     )?;
     let count = docs.get(&name).map(|doc| doc.kids.as_slice().len());
     assert_eq!(rt; count, Some(every_kind(alloc)?.kids.as_slice().len()));
-    docs.remove(&name);
+    let docs = docs.with_changes(&dropping(alloc, "d")?)?;
     assert_eq!(rt; docs.get(&name).is_none(), true);
     assert_eq!(rt; docs.get(&other).is_some(), true);
+    let docs = docs.with_changes(&IndexMap::new(alloc))?;
+    assert_eq!(rt; docs.get(&name).is_none(), true);
+    assert_eq!(rt; docs.names()?.len(), 1);
     Ok(())
 }
 
@@ -249,7 +264,7 @@ fn copies_share_documents(rt: HostRuntime) -> Result<(), Fail> {
     docs.insert(name.copy()?, every_kind(alloc)?)?;
     docs.insert(other.copy()?, every_kind(alloc)?)?;
     let copy = docs.copy()?;
-    docs.remove(&name);
+    docs = docs.with_changes(&dropping(alloc, "d")?)?;
     docs.insert(
         other.copy()?,
         Doc {
@@ -268,6 +283,126 @@ fn copies_share_documents(rt: HostRuntime) -> Result<(), Fail> {
         let changed = docs.get(asked).map(|doc| doc.kids.as_slice().len());
         assert_eq!(rt; changed, now, "of {text}");
     }
+    Ok(())
+}
+
+// A plain table beside a map of documents, whose value is the number that a document's text says.
+type Plain = BTreeMap<String, u32>;
+
+fn numbered(alloc: Global, number: u32) -> Result<Doc, Fail> {
+    let mut kids: NodeList = Items::new(alloc);
+    let digits = number.to_string(alloc)?;
+    kids.push(text(alloc, digits.as_str())?)?;
+    Ok(Doc { kids })
+}
+
+fn number_of(doc: Option<&Doc>) -> Option<u32> {
+    match doc?.kids.as_slice().first()? {
+        Node::Text { value } => value.as_str().parse::<u32>().ok(),
+        _ => None,
+    }
+}
+
+// A small generator: its numbers only have to look unordered.
+fn draw(state: &mut u32, below: u32) -> u32
+    requires { 0 < below }
+{
+    *state = state.wrapping_mul(1_103_515_245).wrapping_add(12_345);
+    (*state >> 16) % below
+}
+
+// Makes or drops one document of forty names, in the changes and in the plain table.
+fn change_one(
+    alloc: Global,
+    state: &mut u32,
+    number: u32,
+    changes: &mut DocChanges,
+    plain: &mut Plain,
+) -> Result<(), Fail> {
+    let place = draw(state, 40);
+    let name = format!(in alloc; "d{place}")?;
+    if draw(state, 3) == 0 {
+        let _ = plain.remove(name.as_str());
+        let _ = changes.insert(name, None)?;
+    } else {
+        let _ = plain.insert(name.clone()?, number)?;
+        let doc = Arc::new(alloc, numbered(alloc, number)?)?;
+        let _ = changes.insert(name, Some(doc))?;
+    }
+    Ok(())
+}
+
+fn agree(
+    rt: &(impl Abort + Eprint),
+    alloc: Global,
+    docs: &DocMap,
+    plain: &Plain,
+) -> Result<(), Fail> {
+    for place in 0..40u32 {
+        let name = format!(in alloc; "d{place}")?;
+        let found = number_of(docs.get(&Str::of(alloc, name.as_str())?));
+        assert_eq!(rt; found, plain.get(name.as_str()).copied(), "of {name}");
+    }
+    let names = docs.names()?;
+    assert_eq!(rt; names.len(), plain.len());
+    for (name, want) in names.as_slice().iter().zip(plain.keys()) {
+        assert_eq!(rt; name.as_str(), want.as_str());
+    }
+    Ok(())
+}
+
+#[derive(Drop)]
+struct Kept {
+    docs: DocMap,
+    plain: Plain,
+}
+
+// Changes of many sizes follow one another, so layers of many sizes are made and merged.
+#[test]
+fn layers_are_one_table(rt: HostRuntime) -> Result<(), Fail> {
+    let alloc = rt.alloc();
+    let mut state = 7;
+    let mut docs = DocMap::new(alloc);
+    let mut plain: Plain = BTreeMap::new(alloc);
+    let mut kept = Vec::new(alloc);
+    for turn in 0..300u32 {
+        let mut changes: DocChanges = IndexMap::new(alloc);
+        let most = if turn % 7 == 0 { 30 } else { 4 };
+        for _ in 0..draw(&mut state, most) {
+            change_one(alloc, &mut state, turn, &mut changes, &mut plain)?;
+        }
+        docs = docs.with_changes(&changes)?;
+        agree(&rt, alloc, &docs, &plain)?;
+        if turn % 25 == 0 {
+            kept.push(Kept {
+                docs: docs.copy()?,
+                plain: plain.clone()?,
+            })?;
+        }
+    }
+    assert_eq!(rt; kept.len(), 12);
+    for before in &kept {
+        agree(&rt, alloc, &before.docs, &before.plain)?;
+    }
+    Ok(())
+}
+
+// The oldest layer is the largest, and keeps the name; a small layer above it drops it.
+#[test]
+fn a_dropped_name_is_not_seen_in_an_older_layer(rt: HostRuntime) -> Result<(), Fail> {
+    let alloc = rt.alloc();
+    let mut many: DocChanges = IndexMap::new(alloc);
+    for place in 0..20u32 {
+        let doc = Arc::new(alloc, numbered(alloc, place)?)?;
+        let _ = many.insert(format!(in alloc; "d{place}")?, Some(doc))?;
+    }
+    let docs = DocMap::new(alloc).with_changes(&many)?;
+    let after = docs.with_changes(&dropping(alloc, "d7")?)?;
+    let name = Str::of(alloc, "d7")?;
+    assert_eq!(rt; number_of(docs.get(&name)), Some(7));
+    assert_eq!(rt; number_of(after.get(&name)), None);
+    assert_eq!(rt; docs.names()?.len(), 20);
+    assert_eq!(rt; after.names()?.len(), 19);
     Ok(())
 }
 

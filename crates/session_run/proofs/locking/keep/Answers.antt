@@ -3,10 +3,10 @@ use Rattle.std.specs.FinMap as map
 use Rattle.session_core.specs.Answering as answers
 use Rattle.session_core.specs.Kept.{past}
 use Rattle.session_run.specs.Answers.{answered}
-use Rattle.session_run.specs.Changes.{ChangeMap, unshared, changes_of_entries}
+use Rattle.xml_model.specs.Changes.{ChangeMap, unshared, changes_of_entries}
 use Rattle.session_run.specs.Effects.{with_change}
 use Rattle.session_run.specs.Tied.{IsReady}
-use Rattle.session_run.proofs.Closing.{stays, ready_behind}
+use Rattle.session_run.proofs.Closing.{stays, ready_behind, answer_closes}
 use Rattle.session_run.proofs.Calling.{update_right, tied_effect}
 use Rattle.session_run.proofs.locking.keep.Goals as goal
 
@@ -40,3 +40,13 @@ returns-in_default-clause-ready c =
     subst (λ x. IsReady c.args.session x c.answer.new.core) (sym same)
     (ready_behind c.args.session after c.args.core.now c.answer.new.core (answered c.args.session (Some c.args.call) c.args.effect.says) c.in_ok-answer.ensures.ok refl tt c.requires.settled
     (tied_effect c.args.core.now.base c.args.session (past c.args.core.now) old c.requires.tied c.args.call c.args.effect c.requires.updating c.requires.granted c.requires.statement c.requires.effect))
+
+pub returns-in-Some-clause-closed : goal.returns-in-Some-clause-closed
+returns-in-Some-clause-closed c =
+    let right = update_right c.args.core.now.base c.args.session (past c.args.core.now) (changes_of_entries c.args.changes.now.docs.entries) c.requires.tied c.args.call c.args.effect c.requires.updating c.requires.granted c.requires.statement c.requires.effect c.requires.passes in
+    answer_closes c.args.session c.args.call c.args.effect.says c.args.core.now c.answer.new.core right c.in_ok-answer.ensures.ok
+
+pub returns-in_default-clause-closed : goal.returns-in_default-clause-closed
+returns-in_default-clause-closed c =
+    let right = update_right c.args.core.now.base c.args.session (past c.args.core.now) (changes_of_entries c.args.changes.now.docs.entries) c.requires.tied c.args.call c.args.effect c.requires.updating c.requires.granted c.requires.statement c.requires.effect c.requires.passes in
+    answer_closes c.args.session c.args.call c.args.effect.says c.args.core.now c.answer.new.core right c.in_ok-answer.ensures.ok

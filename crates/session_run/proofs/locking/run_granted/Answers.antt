@@ -1,6 +1,6 @@
 use Rattle.std.proofs.Common.{refl}
 use Rattle.session_core.specs.Answering as answers
-use Rattle.session_run.specs.Changes.{changes_of_entries}
+use Rattle.xml_model.specs.Changes.{changes_of_entries}
 use Rattle.session_run.proofs.Closing.{stays}
 use Rattle.session_run.proofs.locking.run_granted.Goals as goal
 

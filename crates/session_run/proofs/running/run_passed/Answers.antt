@@ -3,7 +3,7 @@ use Rattle.session_core.specs.Answering as answers
 use Rattle.session_core.specs.Kept.{past}
 use Rattle.session_core.specs.States.{state}
 use Rattle.session_core.specs.Refusals.{refused_in, work_of}
-use Rattle.session_run.specs.Changes.{changes_of_entries}
+use Rattle.xml_model.specs.Changes.{changes_of_entries}
 use Rattle.session_run.proofs.Closing.{stays}
 use Rattle.session_run.proofs.Calling.{checkpoints_idle}
 use Rattle.session_run.proofs.running.run_passed.Goals as goal

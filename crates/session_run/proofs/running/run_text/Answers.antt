@@ -4,7 +4,7 @@ use Rattle.session_core.specs.Answering.{IsRightAnswer}
 use Rattle.session_core.specs.Kept.{past, with_event}
 use Rattle.session_core.proofs.Beside.{none_in_doubt}
 use Rattle.session_run.specs.Answers.{answered}
-use Rattle.session_run.specs.Changes.{changes_of_entries}
+use Rattle.xml_model.specs.Changes.{changes_of_entries}
 use Rattle.session_run.proofs.Closing.{on_ok, ready_unrun}
 use Rattle.session_run.proofs.Texts.{called_read, called_end, right_end}
 use Rattle.session_run.proofs.running.run_text.Goals as goal
@@ -24,6 +24,7 @@ returns-in-Ok-clause-closed c =
 pub returns-in-Err-clause-closed : goal.returns-in-Err-clause-closed
 returns-in-Err-clause-closed c =
     on_ok c.answer.result (λ grown. called_end c.args.session c.args.text.now c.args.core.now c.answer.new.core c.in-Err.end c.in-Err.ensures.refused
+    (right_end c.args.core.now.base c.args.session (past c.args.core.now) c.in-Err.end (none_in_doubt c.args.core.now.base (past c.args.core.now) c.legal.ensures.settling c.requires.ready.settled c.args.session))
     (grown ∙ ap (λ code. with_event (answered c.args.session None (says.Error code)) c.args.core.now) c.code.ensures)) c.answer.ensures.ok
 
 pub returns-in-Err-clause-ready : goal.returns-in-Err-clause-ready

@@ -1,6 +1,6 @@
 use Rattle.std.proofs.Common.{sym, ap}
 use Rattle.xq_ast.specs.declared.call.Call.TheVariants.{Create}
-use Rattle.session_run.specs.Changes.{changes_of_entries}
+use Rattle.xml_model.specs.Changes.{changes_of_entries}
 use Rattle.session_run.specs.Effects.{IsEffect, IsPut}
 use Rattle.session_run.proofs.Statements.{if_ok, create_taken, create_free}
 use Rattle.session_run.proofs.statement.create.Goals as goal

@@ -1,6 +1,6 @@
 use Rattle.std.proofs.Common.{sym}
 use Rattle.xq_ast.specs.declared.call.Call.TheVariants.{Load}
-use Rattle.session_run.specs.Changes.{changes_of_entries}
+use Rattle.xml_model.specs.Changes.{changes_of_entries}
 use Rattle.session_run.specs.Effects.{IsEffect, IsPut}
 use Rattle.session_run.proofs.Statements.{if_ok, load_taken, load_free}
 use Rattle.session_run.proofs.statement.load.Goals as goal

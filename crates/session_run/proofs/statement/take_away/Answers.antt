@@ -1,6 +1,6 @@
 use Rattle.std.proofs.Common.{None, sym, ap, refl}
 use Rattle.std.specs.FinMap as map
-use Rattle.session_run.specs.Changes.{changes_of_entries}
+use Rattle.xml_model.specs.Changes.{changes_of_entries}
 use Rattle.session_run.proofs.Statements.{drop_there, drop_missing}
 use Rattle.session_run.proofs.statement.take_away.Goals as goal
 

@@ -1,7 +1,7 @@
 use Rattle.std.proofs.Common.{refl}
 use Rattle.session_core.specs.Answering as answers
 use Rattle.session_core.specs.Kept.{past}
-use Rattle.session_run.specs.Changes.{changes_of_entries}
+use Rattle.xml_model.specs.Changes.{changes_of_entries}
 use Rattle.session_run.proofs.Closing.{stays}
 use Rattle.session_run.proofs.Calling.{none_left}
 use Rattle.session_run.proofs.transaction.commit.Goals as goal

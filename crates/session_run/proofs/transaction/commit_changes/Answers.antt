@@ -1,6 +1,6 @@
 use Rattle.std.proofs.Common.{◌∙◌, ap, sym}
 use Rattle.session_core.specs.Kept.{past, forest_in}
-use Rattle.session_run.specs.Changes.{laid_over, changes_of_entries}
+use Rattle.xml_model.specs.Changes.{laid_over, changes_of_entries}
 use Rattle.session_run.proofs.Calling.{behind_changes}
 use Rattle.session_run.proofs.transaction.commit_changes.Goals as goal
 

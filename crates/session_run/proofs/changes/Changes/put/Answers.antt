@@ -1,7 +1,7 @@
 use Rattle.std.proofs.Common.{ap, ◌∙◌}
 use Rattle.std.specs.FinMap as map
-use Rattle.session_run.specs.Changes.{unshared, changes_of_entries}
-use Rattle.session_run.proofs.Entries.{on_ok, entries-insert}
+use Rattle.xml_model.specs.Changes.{unshared, changes_of_entries}
+use Rattle.xml_model.proofs.Entries.{on_ok, entries-insert}
 use Rattle.session_run.proofs.changes.Changes.put.Goals as goal
 
 pub returns : goal.returns

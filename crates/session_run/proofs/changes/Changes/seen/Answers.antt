@@ -1,8 +1,8 @@
 use Rattle.std.proofs.Common.{ap, sym, ◌∙◌}
 use Rattle.std.specs.FinMap as map
-use Rattle.session_run.specs.Changes.{changes_of_entries}
-use Rattle.session_run.proofs.Laying.{seen_as, get-laid}
-use Rattle.session_run.proofs.Entries.{entry_of, get-entries}
+use Rattle.xml_model.specs.Changes.{changes_of_entries}
+use Rattle.xml_model.proofs.Laying.{seen_as, get-laid}
+use Rattle.xml_model.proofs.Entries.{entry_of, get-entries}
 use Rattle.session_run.proofs.changes.Changes.seen.Goals as goal
 
 pub returns-in-Some : goal.returns-in-Some

@@ -1,5 +1,5 @@
--- What an open transaction has changed: names with the document that each has now, or none where it is dropped.
-use Rattle.std.specs.Prelude.{ℕ, List, [], ◌∷◌, map as list_map, string_bytes, Option, None, Some}
+-- What is changed in a forest: names with the document that each has now, or none where it is dropped.
+use Rattle.std.specs.Prelude.{ℕ, List, [], ◌∷◌, map as list_map, fold, string_bytes, Option, None, Some}
 use Rattle.std.specs.Coded.{Coded, coded_ℕ, coded_list, coded_option}
 use Rattle.std.specs.Arc.{arc_value}
 use Rattle.std.specs.declared.string.String.{String}
@@ -7,9 +7,10 @@ use Rattle.std.specs.declared.sync.Arc.{Arc}
 use Rattle.std.specs.FinMap as map
 use Rattle.std.specs.Ordering.{nat_cmp}
 use Rattle.std.specs.Cmp.Lexicographic.{slice_cmp}
+use Rattle.indexmap.specs.IndexMap.{IndexMap}
 use Rattle.xml_model.specs.declared.node.Doc.{Doc}
 use Rattle.xml_model.specs.contracts.node.Doc as the_doc
-use Rattle.xml_model.specs.Forest.{Forest}
+use Rattle.xml_model.specs.Forest.{Forest, no_documents}
 
 abbrev pub ChangeMap : Type 0
 ChangeMap = map.FinMap (slice_cmp nat_cmp) (Option Doc)
@@ -41,3 +42,11 @@ unshared (Some shared) = Some (arc_value shared)
 
 abbrev pub changes_of_entries : {A Z : Type 0} → List (String A × Option (Arc Doc Z)) → ChangeMap
 changes_of_entries es = map.from_entries (list_map (λ e. (string_bytes e.0, unshared e.1)) es)
+
+-- ---- how a forest is kept: layers of changes, the oldest first, each laid over those before it
+
+abbrev pub with_layer : {A S Y Z : Type 0} → Forest → Arc (IndexMap (String A) (Option (Arc Doc Z)) S) Y → Forest
+with_layer F layer = laid_over (changes_of_entries (arc_value layer).entries) F
+
+abbrev pub forest_of_layers : {A S Y Z : Type 0} → List (Arc (IndexMap (String A) (Option (Arc Doc Z)) S) Y) → Forest
+forest_of_layers layers = fold with_layer no_documents layers
