@@ -1,17 +1,17 @@
 -- One call more: its events are the next call's, and all else stays.
-use Rattle.std.proofs.Common.{◌≡◌, ℕ, zero, suc, ◌+◌, ◌<◌, ◌≤◌, ◌==◌, eqb, nat_lt, ◌&&◌, ◌||◌, ◌⊎◌, inl, inr, ◌≢◌, Bool, true, false, true≢false, IsTrue, Option, if◌then◌else◌, List, [], ◌∷◌, ◌++◌, length, slice_get, IfSome, None, Some, refl, sym, ap, subst, ◌∙◌, arith, rules}
+use Rattle.std.proofs.Common.{◌≡◌, ℕ, ◌+◌, ◌<◌, ◌==◌, eqb, ◌||◌, ◌⊎◌, inl, inr, ◌≢◌, Bool, true, false, true≢false, IsTrue, Option, if◌then◌else◌, List, [], ◌∷◌, length, slice_get, IfSome, None, Some, refl, sym, ap, subst, ◌∙◌, arith, rules, ◌++◌}
 use Rattle.std.proofs.lemmas.Option.{slice_get_within}
 use Rattle.std.proofs.lemmas.Bool.Decides.{eqb_tells}
 use Rattle.xq_ast.specs.declared.call.CallText.{CallText}
 use Rattle.xq_ast.specs.declared.need.Need.{Need}
 use Rattle.session_core.specs.declared.event.Event.{Event}
 use Rattle.session_core.specs.declared.event.Event.TheVariants.{Began, Granted, Refused, Answered, Committed, Ended, RolledBack, Doubt, Settled, Left}
-use Rattle.session_core.specs.History.{session_of, is_closing, AtEach}
-use Rattle.session_core.specs.Transactions.{Transaction, open_of, open_behind}
+use Rattle.session_core.specs.History.{session_of, is_closing}
+use Rattle.session_core.specs.Transactions.{Base, Transaction, open_of, open_behind}
 use Rattle.session_core.specs.States.{state, state_with, is_open}
-use Rattle.session_core.specs.Closes.{Scripts, calls_of, closed_of, more_closed, next_call, is_left_by, has_left, ClosesBy, IsSomeText, IsForCall, ClosesAt, IsAnswerTo, TextRefusalsAt, NeedsThese}
+use Rattle.session_core.specs.Closes.{Scripts, calls_of, closed_of, next_call, is_left_by, has_left, ClosesBy, IsSomeText, IsForCall, IsAnswerTo, TextRefusalsAt, NeedsThese}
 use Rattle.session_core.proofs.Tying.{here, elsewhere}
-use Rattle.xdb_top.specs.Turns.{LeavesAtOnce, IsBehindCall}
+use Rattle.xdb_top.specs.Turns.{LeavesAtOnce, FollowsAtOnce, IsAtRest, HasNext, IsOfNextTurn, IsBehindCall}
 use Rattle.session_run.specs.Calls.{AnswersText, ClosesText}
 use Rattle.xdb_top.specs.Played.{IsPlayed, IsUpTo}
 
@@ -68,6 +68,69 @@ leaves_nothing (Doubt t n mark) past is = tt
 leaves_nothing (Settled by t stands) past is = tt
 leaves_nothing (Left t) past is = no_grant is
 
+-- where no call is under way, none is out of turn
+pub next_at_rest : (past : List Event) (turns : List ℕ) → IsAtRest past → IsOfNextTurn past turns
+next_at_rest [] turns rests = tt
+next_at_rest (Began s kind ∷ past) turns rests = tt
+next_at_rest (Granted s needs ∷ past) turns rests = absurd rests
+next_at_rest (Refused s name holder needs ∷ past) turns rests = tt
+next_at_rest (Answered s reply ∷ past) turns rests = tt
+next_at_rest (Committed s n ∷ past) turns rests = tt
+next_at_rest (Ended s ∷ past) turns rests = tt
+next_at_rest (RolledBack s ∷ past) turns rests = tt
+next_at_rest (Doubt s n mark ∷ past) turns rests = tt
+next_at_rest (Settled by s stands ∷ past) turns rests = tt
+next_at_rest (Left s ∷ past) turns rests = tt
+
+-- nor where more turns are to come
+has_next-more : (s : ℕ) (turns more : List ℕ) → HasNext s turns → HasNext s (turns ++ more)
+has_next-more s [] more is = absurd is
+has_next-more s (t ∷ turns) more is = is
+
+pub next_turn-more : (past : List Event) (turns more : List ℕ) → IsOfNextTurn past turns → IsOfNextTurn past (turns ++ more)
+next_turn-more [] turns more is = tt
+next_turn-more (Began s kind ∷ past) turns more is = tt
+next_turn-more (Granted s needs ∷ past) turns more is = has_next-more s turns more is
+next_turn-more (Refused s name holder needs ∷ past) turns more is = tt
+next_turn-more (Answered s reply ∷ past) turns more is = tt
+next_turn-more (Committed s n ∷ past) turns more is = tt
+next_turn-more (Ended s ∷ past) turns more is = tt
+next_turn-more (RolledBack s ∷ past) turns more is = tt
+next_turn-more (Doubt s n mark ∷ past) turns more is = tt
+next_turn-more (Settled by s stands ∷ past) turns more is = tt
+next_turn-more (Left s ∷ past) turns more is = tt
+
+-- where no call is under way, any event may come next
+pub follows_rest : (e : Event) (past : List Event) → IsAtRest past → FollowsAtOnce e past
+follows_rest e [] rests = tt
+follows_rest e (Began s kind ∷ past) rests = tt
+follows_rest e (Granted s needs ∷ past) rests = absurd rests
+follows_rest e (Refused s name holder needs ∷ past) rests = tt
+follows_rest e (Answered s reply ∷ past) rests = tt
+follows_rest e (Committed s n ∷ past) rests = tt
+follows_rest e (Ended s ∷ past) rests = tt
+follows_rest e (RolledBack s ∷ past) rests = tt
+follows_rest e (Doubt s n mark ∷ past) rests = tt
+follows_rest e (Settled by s stands ∷ past) rests = tt
+follows_rest e (Left s ∷ past) rests = tt
+
+-- behind the closing of a call none is
+rests_closed : (e : Event) (past : List Event) → is_closing e ≡ true → IsAtRest (e ∷ past)
+rests_closed (Began s kind) past is = tt
+rests_closed (Granted s needs) past is = no_grant is
+rests_closed (Refused s name holder needs) past is = tt
+rests_closed (Answered s reply) past is = tt
+rests_closed (Committed s n) past is = tt
+rests_closed (Ended s) past is = tt
+rests_closed (RolledBack s) past is = tt
+rests_closed (Doubt s n mark) past is = tt
+rests_closed (Settled by s stands) past is = tt
+rests_closed (Left s) past is = tt
+
+pub rests_behind : (s : ℕ) (past : List Event) → IsBehindCall s past → IsAtRest past
+rests_behind s [] behind = absurd behind
+rests_behind s (e ∷ past) behind = rests_closed e past behind.1
+
 -- what another session closes leaves a session's transaction open as it is
 stays_open : (t : ℕ) (e : Event) (o : Option Transaction) → is_closing e ≡ true → (session_of e ≡ t → ⊥) → open_behind t e o ≡ o
 stays_open t (Began s kind) o is other = elsewhere s t o _ other
@@ -97,19 +160,21 @@ not_ended : (P : Scripts) (s : ℕ) (past : List Event) (text : CallText) → ne
 not_ended P s past text next all = let more = has_more (calls_of P s) (closed_of s past) text next in omega (arith, more, all)
 
 -- so it has not left
-not_left_yet : (P : Scripts) (s : ℕ) (past : List Event) (text : CallText) → IsPlayed P past → next_call P s past ≡ Some text → has_left s past ≡ false
-not_left_yet P s past text played next = by_test (has_left s past) refl
+not_left_yet : (B : Base) (P : Scripts) (s : ℕ) (past : List Event) (text : CallText) → IsPlayed B P past → next_call P s past ≡ Some text → has_left s past ≡ false
+not_left_yet B P s past text played next = by_test (has_left s past) refl
   where
     by_test : (b : Bool) → has_left s past ≡ b → has_left s past ≡ false
     by_test true is = absurd (not_ended P s past text next (played.stays s is))
     by_test false is = is
 
 -- the grant of its locks
-pub granted_played : (P : Scripts) (s : ℕ) (text : CallText) (asked : List Need) (past : List Event) → IsPlayed P past → next_call P s past ≡ Some text
-    → NeedsThese asked text → IsPlayed P (Granted s asked ∷ past)
-granted_played P s text asked past played next needed = record {
-  closes = ((subst (λ c. IsSomeText c (NeedsThese asked)) (sym next) needed, not_left_yet P s past text played next), played.closes);
+pub granted_played : (B : Base) (P : Scripts) (s : ℕ) (text : CallText) (asked : List Need) (past : List Event) → IsPlayed B P past → IsAtRest past → next_call P s past ≡ Some text
+    → NeedsThese asked text → IsPlayed B P (Granted s asked ∷ past)
+granted_played B P s text asked past played rests next needed = record {
+  closes = ((subst (λ c. IsSomeText c (NeedsThese asked)) (sym next) needed, not_left_yet B P s past text played next), played.closes);
   texts = (tt, played.texts);
+  right = (tt, played.right);
+  at_once = (follows_rest (Granted s asked) past rests, played.at_once);
   leaves = (tt, played.leaves);
   stays = λ t has. rw (zero_more (closed_of t past)) (played.stays t has);
   ends = λ t all. rw (elsewhere s t (open_of t past) _ (λ same. not_ended P s past text next (subst (λ u. closed_of u past ≡ length (calls_of P u)) (sym same) (sym (zero_more (closed_of t past)) ∙ all)))) (played.ends t (sym (zero_more (closed_of t past)) ∙ all));
@@ -123,15 +188,17 @@ pub next_behind_grant : (P : Scripts) (s : ℕ) (asked : List Need) (past : List
 next_behind_grant P s asked past = ap (λ n. slice_get (calls_of P s) n) (omega arith)
 
 -- what closes it
-pub closed_played : (P : Scripts) (s : ℕ) (text : CallText) (e : Event) (past : List Event) → IsPlayed P past → next_call P s past ≡ Some text
-    → ClosesText s text e past → IsUpTo P s (e ∷ past)
-closed_played P s text e past played next closed = record {
-  closes = ((as_call P e past closed.closing (subst (λ c. IsSomeText c (λ t. ClosesBy t e)) (sym here_next) closed.closes), ap (λ u. has_left u past) closed.of_session ∙ not_left_yet P s past text played next), played.closes);
+pub closed_played : (B : Base) (P : Scripts) (s : ℕ) (text : CallText) (e : Event) (past : List Event) → IsPlayed B P past → next_call P s past ≡ Some text
+    → ClosesText B s text e past → FollowsAtOnce e past → IsUpTo B P s (e ∷ past)
+closed_played B P s text e past played next closed follows = record {
+  closes = ((as_call P e past closed.closing (subst (λ c. IsSomeText c (λ t. ClosesBy t e)) (sym here_next) closed.closes), ap (λ u. has_left u past) closed.of_session ∙ not_left_yet B P s past text played next), played.closes);
   texts = (as_answer P text e past here_next closed.answers, played.texts);
+  right = (closed.right, played.right);
+  at_once = (follows, played.at_once);
   leaves = (leaves_nothing e past closed.closing, played.leaves);
   behind = (closed.of_session, closed.closing);
   stays = λ t has. by_session t (stays_left t has);
-  not_left = rw (is_no_leaving s e closed.closing) (not_left_yet P s past text played next);
+  not_left = rw (is_no_leaving s e closed.closing) (not_left_yet B P s past text played next);
   ends = λ t other all. ap (λ o. is_open (state_with o)) (stays_open t e (open_of t past) closed.closing (λ same. other (sym closed.of_session ∙ same)))
       ∙ played.ends t (sym (closed_elsewhere t e past closed.closing (λ same. other (sym closed.of_session ∙ same))) ∙ all);
 }
@@ -144,16 +211,18 @@ closed_played P s text e past played next closed = record {
 
     by_session : (t : ℕ) → has_left t past ≡ true → closed_of t (e ∷ past) ≡ length (calls_of P t)
     by_session t has = closed_elsewhere t e past closed.closing
-        (λ same. true≢false (sym has ∙ ap (λ u. has_left u past) (sym same ∙ closed.of_session) ∙ not_left_yet P s past text played next))
+        (λ same. true≢false (sym has ∙ ap (λ u. has_left u past) (sym same ∙ closed.of_session) ∙ not_left_yet B P s past text played next))
         ∙ played.stays t has
 
 -- ---- its session's end
 
 -- the session goes on, or its transaction is not open
-pub goes_on : (P : Scripts) (s : ℕ) (past : List Event) → IsUpTo P s past → (closed_of s past ≡ length (calls_of P s) → is_open (state s past) ≡ false) → IsPlayed P past
-goes_on P s past up ended = record {
+pub goes_on : (B : Base) (P : Scripts) (s : ℕ) (past : List Event) → IsUpTo B P s past → (closed_of s past ≡ length (calls_of P s) → is_open (state s past) ≡ false) → IsPlayed B P past
+goes_on B P s past up ended = record {
   closes = up.closes;
   texts = up.texts;
+  right = up.right;
+  at_once = up.at_once;
   leaves = up.leaves;
   stays = up.stays;
   ends = λ t all. by_session t all (eqb_tells s t);
@@ -167,10 +236,12 @@ no_state : (s : ℕ) (o : Option Transaction) → is_open (state_with (if s == s
 no_state s o = ap (λ x. is_open (state_with x)) (here s o None)
 
 -- or it leaves
-pub left_played : (P : Scripts) (s : ℕ) (past : List Event) → IsUpTo P s past → closed_of s past ≡ length (calls_of P s) → is_open (state s past) ≡ true → IsPlayed P (Left s ∷ past)
-left_played P s past up all is_open_still = record {
+pub left_played : (B : Base) (P : Scripts) (s : ℕ) (past : List Event) → IsUpTo B P s past → closed_of s past ≡ length (calls_of P s) → is_open (state s past) ≡ true → IsPlayed B P (Left s ∷ past)
+left_played B P s past up all is_open_still = record {
   closes = (((all, IsTrue-from is_open_still), up.not_left), up.closes);
   texts = (tt, up.texts);
+  right = (tt, up.right);
+  at_once = (follows_rest (Left s) past (rests_behind s past up.behind), up.at_once);
   leaves = (up.behind, up.leaves);
   stays = λ t has. zero_more (closed_of t past) ∙ stays_by t has (eqb_tells s t);
   ends = λ t all'. ends_by t (sym (zero_more (closed_of t past)) ∙ all') (eqb_tells s t);

@@ -1,5 +1,5 @@
 -- Lines are read one after another.
-use Rattle.std.proofs.Common.{◌≡◌, ℕ, ◌+◌, ◌==◌, Bool, List, [], ◌∷◌, Result, Ok, Err, IsOk, IsUtf8, count_by, length, eq-eqb, refl, ap, sym, ◌∙◌}
+use Rattle.std.proofs.Common.{◌≡◌, ℕ, ◌+◌, ◌==◌, List, [], ◌∷◌, Result, Ok, Err, IsOk, IsUtf8, count_by, length, eq-eqb, refl}
 use Rattle.std.proofs.lemmas.Str.{utf8_valid_len-IsUtf8}
 use Rattle.xdb_top.specs.Input.{not_text, spelled, of_text}
 use Rattle.xdb_top.specs.declared.fault.InputRefusal.TheVariants.{NotUtf8}

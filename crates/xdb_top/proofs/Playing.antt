@@ -1,20 +1,20 @@
 -- All seats while turns are had.
-use Rattle.std.proofs.Common.{◌≡◌, ◌≢◌, ℕ, zero, suc, ◌+◌, ◌-◌, ◌<◌, ◌≤◌, ◌⊎◌, inl, inr, eqb, Bool, true, false, List, [], ◌∷◌, ◌++◌, length, take, replicate, slice_get, slice_set, slice_index_or, get_or, add-one, None, Some, refl, sym, ap, subst, ◌∙◌, append_assoc, length-take, min, arith}
-use Rattle.std.proofs.lemmas.Option.{slice_get_read, slice_get_within, slice_get_past, slice_get-get_or, get_or_from_slice_get}
+use Rattle.std.proofs.Common.{◌≡◌, ◌≢◌, ℕ, zero, suc, ◌+◌, ◌<◌, ◌≤◌, ◌⊎◌, inl, inr, eqb, true, false, List, [], ◌∷◌, ◌++◌, length, take, replicate, slice_get, slice_set, slice_index_or, None, Some, Result, Ok, Err, OnErr, refl, sym, ap, subst, ◌∙◌, append_assoc, length-take, arith}
+use Rattle.std.proofs.lemmas.Option.{slice_get_within, slice_get_past, slice_get-get_or, get_or_from_slice_get}
 use Rattle.std.proofs.lemmas.List.{take_more, get_or-set_same, get_or-set_other, length-set, append-nil}
 use Rattle.std.proofs.lemmas.Bool.Decides.{eqb_tells}
 use Rattle.xq_ast.specs.declared.call.CallText.{CallText}
-use Rattle.session_core.specs.History.{last_of}
 use Rattle.session_core.specs.States.{in_doubt}
 use Rattle.session_core.specs.Closes.{Scripts, calls_of, or_none, closed_of}
 use Rattle.session_core.specs.Kept.{Kept, past}
 use Rattle.session_run.specs.Called.{IsUntouched}
-use Rattle.session_run.specs.Tied.{IsReady, EndsCall, IsBetweenCalls}
+use Rattle.session_run.specs.Tied.{EndsCall}
 use Rattle.xdb_top.specs.declared.play.Seat.{Seat}
-use Rattle.xdb_top.specs.Turns.{turns_of, turns_in, with_turn, ordered, one_by_one}
-use Rattle.xdb_top.specs.Played.{start, IsPlayed}
-use Rattle.xdb_top.specs.Playing.{IsSeated, IsPlaying, HasPlayed, HasHadTurn}
+use Rattle.xdb_top.specs.Turns.{turns_in, with_turn, ordered, one_by_one}
+use Rattle.xdb_top.specs.Playing.{IsSeated, IsPlaying, HasPlayed, HasHadTurn, HasBrokenOff}
+use Rattle.xdb_top.proofs.Turns.{IsFront, ordered_front}
 use Rattle.xdb_top.proofs.Seats.{passes}
+use Rattle.xdb_top.proofs.Closing.{next_turn-more}
 
 -- ---- one turn
 
@@ -44,6 +44,7 @@ seat_played P i old new seats seat playing within turn = record {
   playing = record {
     base = turn.base ∙ playing.base;
     played = turn.played;
+    at_rest = turn.at_rest;
     as_many = length-set seats i seat ∙ playing.as_many;
     seated = λ j found got. by_place j found got (eqb_tells j i);
   };
@@ -86,6 +87,32 @@ more_played P first second old mid new seats seats' one other = record {
   playing = other.playing;
   turns = other.turns ∙ ap (λ turns. ordered P turns second) one.turns ∙ sym (ordered-append P (turns_in old.journal) first second);
 }
+
+-- ---- a play that breaks off
+
+pub where_err : {T E P : Type 0} (r : Result T E) → P → OnErr r P
+where_err (Ok x) fact = tt
+where_err (Err e) fact = fact
+
+-- behind turns that were had
+pub played_and_off : (P : Scripts) (first second : List ℕ) (old mid new : Kept) (seats : List Seat) → HasPlayed P first old mid seats → HasBrokenOff P second mid new → HasBrokenOff P (first ++ second) old new
+played_and_off P first second old mid new seats one off = record {
+  played = off.played;
+  rest = off.rest;
+  turns = off.turns ∙ ap (λ turns. ordered P turns second) one.turns ∙ sym (ordered-append P (turns_in old.journal) first second);
+  under_way = off.under_way;
+}
+
+-- so that no later turn is had
+pub off_in_front : (P : Scripts) (first all : List ℕ) (old new : Kept) → IsFront first all → HasBrokenOff P first old new → HasBrokenOff P all old new
+off_in_front P first all old new before off =
+    let other = ordered_front P (ordered P (turns_in old.journal) first) before.rest in
+    subst (λ order. HasBrokenOff P order old new) before.is (record {
+      played = off.played;
+      rest = off.rest ++ other.rest;
+      turns = sym (append_assoc (turns_in new.journal) off.rest other.rest) ∙ ap (λ turns. turns ++ other.rest) off.turns ∙ other.is ∙ sym (ordered-append P (turns_in old.journal) first before.rest);
+      under_way = next_turn-more (past new) off.rest other.rest off.under_way;
+    })
 
 -- one session more, of those that have their turns one by one
 pub one_by_one-more : (first : ℕ) (P : Scripts) (calls : List CallText) → one_by_one first (P ++ calls ∷ []) ≡ one_by_one first P ++ replicate (length calls) (first + length P)

@@ -1,17 +1,19 @@
 -- The seats before any call, and what an empty journal is.
-use Rattle.std.proofs.Common.{◌≡◌, ◌≢◌, ℕ, zero, suc, ◌+◌, ◌<◌, ◌≤◌, ◌⊎◌, inl, inr, eqb, true, false, true≢false, List, [], ◌∷◌, ◌++◌, length, slice_get, get_or, None, Some, refl, sym, ap, subst, ◌∙◌, arith, length-append}
+use Rattle.std.proofs.Common.{◌≡◌, ◌≢◌, ℕ, ◌+◌, ◌<◌, ◌⊎◌, inl, inr, eqb, true, false, true≢false, List, [], ◌∷◌, ◌++◌, length, slice_get, Some, refl, sym, ap, subst, ◌∙◌, arith, length-append}
 use Rattle.std.proofs.lemmas.Option.{slice_get_within, slice_get-get_or, get_or_from_slice_get}
 use Rattle.std.proofs.lemmas.List.{get_or_push, get_or_append_left}
 use Rattle.std.proofs.lemmas.Bool.Decides.{eqb_tells}
+use Rattle.session_core.specs.Transactions.{Base}
 use Rattle.session_core.specs.Closes.{Scripts}
-use Rattle.session_core.specs.Kept.{Kept, past}
-use Rattle.session_run.specs.Changes.{no_changes}
+use Rattle.session_core.specs.Kept.{Kept}
+use Rattle.xml_model.specs.Changes.{no_changes}
 use Rattle.session_run.specs.Sessions.{seat_of}
 use Rattle.script_text.specs.declared.session_calls.Script.{Script}
 use Rattle.xdb_top.specs.declared.play.Seat.{Seat}
 use Rattle.xdb_top.specs.Turns.{one_by_one}
-use Rattle.xdb_top.specs.Played.{IsPlayed}
-use Rattle.xdb_top.specs.Playing.{IsSeated, IsPlaying, HasPlayed, AreNewSeats, start_kept, IsPlayedWhole}
+use Rattle.xdb_top.specs.Played.{start, IsPlayed}
+use Rattle.xdb_top.specs.Playing.{IsPlaying, HasPlayed, HasBrokenOff, AreNewSeats, start_kept, IsPlayedWhole}
+use Rattle.xdb_top.proofs.Seats.{broke_off_at}
 
 abbrev pub new_seat : ℕ → Seat
 new_seat i = record { session = seat_of (i + 1) no_changes; made = 0 }
@@ -35,13 +37,18 @@ one_seat_more n seats are = record {
         let within : i < length seats = omega (arith, below, length-append seats (new_seat n ∷ []), are.as_many, other) in
         are.each i seat (slice_get-get_or seats i seat within ∙ ap Some (sym (get_or_append_left seats (new_seat n ∷ []) seat i within) ∙ get_or_from_slice_get (seats ++ new_seat n ∷ []) i seat seat got))
 
-pub nothing_played_yet : (P : Scripts) → IsPlayed P []
-nothing_played_yet P = record { closes = tt; texts = tt; leaves = tt; stays = λ s has. absurd (true≢false (sym has)); ends = λ s all. refl }
+pub nothing_played_yet : (B : Base) (P : Scripts) → IsPlayed B P []
+nothing_played_yet B P = record { closes = tt; texts = tt; right = tt; at_once = tt; leaves = tt; stays = λ s has. absurd (true≢false (sym has)); ends = λ s all. refl }
+
+-- a play that breaks off before its first turn
+pub off_at_start : (P : Scripts) (order : List ℕ) (k : Kept) → k ≡ start_kept → HasBrokenOff P order start_kept k
+off_at_start P order k is = subst (HasBrokenOff P order start_kept) (sym is) (broke_off_at P order start_kept start_kept (nothing_played_yet start P) tt refl)
 
 pub starts : (P : Scripts) (seats : List Seat) → AreNewSeats (length P) seats → IsPlaying P start_kept seats
 starts P seats are = record {
   base = refl;
-  played = nothing_played_yet P;
+  played = nothing_played_yet start P;
+  at_rest = tt;
   as_many = are.as_many;
   seated = λ i seat got. record {
     number = ap (λ s. s.number) (are.each i seat got).0;
@@ -51,4 +58,4 @@ starts P seats are = record {
 }
 
 pub whole : (script : Script) (k : Kept) (seats : List Seat) → HasPlayed script.sessions (script.order ++ one_by_one 1 script.sessions) start_kept k seats → IsPlayedWhole script k
-whole script k seats played = record { base = played.playing.base; played = played.playing.played; in_turn = played.turns }
+whole script k seats played = record { base = played.playing.base; played = played.playing.played; at_rest = played.playing.at_rest; in_turn = played.turns }

@@ -1,9 +1,8 @@
 -- Turns: all turns of some scripts are as many for each session as it has calls.
-use Rattle.std.proofs.Common.{◌≡◌, ℕ, zero, suc, ◌+◌, ◌≤◌, ◌<◌, ◌==◌, ◌&&◌, eqb, min, nat_lt, ◌⊎◌, inl, inr, ◌≢◌, Bool, true, false, if◌then◌else◌, List, [], ◌∷◌, ◌++◌, length, replicate, slice_get, None, Some, refl, sym, ap, subst, add-zero, append-nil, ◌∙◌, arith}
-use Rattle.std.proofs.lemmas.List.{reverse-append}
+use Rattle.std.proofs.Common.{◌≡◌, ℕ, zero, suc, ◌+◌, ◌≤◌, ◌<◌, ◌==◌, ◌&&◌, eqb, min, nat_lt, ◌⊎◌, inl, inr, ◌≢◌, Bool, true, false, if◌then◌else◌, List, [], ◌∷◌, ◌++◌, length, replicate, take, drop, slice_get, refl, sym, ap, subst, add-zero, append-nil, append_assoc, ◌∙◌, arith}
+use Rattle.std.proofs.lemmas.List.{reverse-append, take-append-drop, take-replicate}
 use Rattle.std.proofs.lemmas.Bool.{ltb-true, ltb-false}
 use Rattle.std.proofs.lemmas.Bool.Decides.{eqb_tells}
-use Rattle.xq_ast.specs.declared.call.CallText.{CallText}
 use Rattle.session_core.specs.declared.event.Event.{Event}
 use Rattle.session_core.specs.History.{past_of, session_of, is_closing}
 use Rattle.session_core.specs.Closes.{Scripts, calls_of, or_none, closed_of, more_closed}
@@ -82,6 +81,43 @@ all_had P order s =
     let sum = turns_of-append s order (one_by_one 1 P) in
     let each = turns_of-one_by_one P s in
     omega arith
+
+-- ---- turns that come first in others
+
+pub record IsFront (turns all : List ℕ) : Type 0 where
+  pub rest : List ℕ
+  pub is : turns ++ rest ≡ all
+
+pub front_itself : (turns : List ℕ) → IsFront turns turns
+front_itself turns = record { rest = []; is = append-nil turns }
+
+pub front_then : (a b c : List ℕ) → IsFront a b → IsFront b c → IsFront a c
+front_then a b c one other = record { rest = one.rest ++ other.rest; is = sym (append_assoc a one.rest other.rest) ∙ ap (λ x. x ++ other.rest) one.is ∙ other.is }
+
+with_turn_front : (P : Scripts) (turns : List ℕ) (s : ℕ) → IsFront turns (with_turn P turns s)
+with_turn_front P turns s = by_test (nat_lt (turns_of s turns) (length (calls_of P s)))
+  where
+    by_test : (b : Bool) → IsFront turns (if b then turns ++ s ∷ [] else turns)
+    by_test true = record { rest = s ∷ []; is = refl }
+    by_test false = front_itself turns
+
+pub ordered_front : (P : Scripts) (turns order : List ℕ) → IsFront turns (ordered P turns order)
+ordered_front P turns [] = front_itself turns
+ordered_front P turns (s ∷ order) = front_then turns (with_turn P turns s) (ordered P (with_turn P turns s) order) (with_turn_front P turns s) (ordered_front P (with_turn P turns s) order)
+
+pub take_front : (k : ℕ) (turns : List ℕ) → IsFront (take k turns) turns
+take_front k turns = record { rest = drop k turns; is = take-append-drop k turns }
+
+pub replicate_front : (k n turn : ℕ) → k ≤ n → IsFront (replicate k turn) (replicate n turn)
+replicate_front k n turn within = subst (λ turns. IsFront turns (replicate n turn)) (take-replicate k n turn within) (take_front k (replicate n turn))
+
+pub one_by_one_front : (first k : ℕ) (P : Scripts) → IsFront (one_by_one first (take k P)) (one_by_one first P)
+one_by_one_front first zero P = record { rest = one_by_one first P; is = refl }
+one_by_one_front first (suc k) [] = front_itself []
+one_by_one_front first (suc k) (calls ∷ more) = let front = one_by_one_front (first + 1) k more in record {
+  rest = front.rest;
+  is = append_assoc (replicate (length calls) first) (one_by_one (first + 1) (take k more)) front.rest ∙ ap (λ turns. replicate (length calls) first ++ turns) front.is;
+}
 
 -- ---- the turns of a journal
 

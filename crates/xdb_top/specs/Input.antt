@@ -8,7 +8,6 @@ use Rattle.script_text.specs.declared.fault.RefusedScript.{RefusedScript}
 use Rattle.script_text.specs.declared.session_calls.Script.{Script}
 use Rattle.script_text.specs.Scripts.{script}
 use Rattle.xdb_top.specs.declared.fault.InputFault.{InputFault}
-use Rattle.xdb_top.specs.declared.fault.InputRefusal.{InputRefusal}
 use Rattle.xdb_top.specs.declared.fault.InputRefusal.TheVariants.{NotUtf8, Pyx, Script as ScriptWhy}
 
 -- a refusal of PYX as a fault of the input

@@ -1,5 +1,5 @@
 -- What the tool does, by its words and its answer.
-use Rattle.std.specs.Prelude.{◌≡◌, ℕ, ◌+◌, ◌<◌, ◌≤◌, Bool, true, false, if◌then◌else◌, List, [], ◌∷◌, length, map, codes, Option, None, Some, Result, Ok, Err, String, string_bytes}
+use Rattle.std.specs.Prelude.{◌≡◌, ℕ, ◌+◌, ◌<◌, ◌≤◌, ◌⊎◌, Bool, true, false, if◌then◌else◌, List, [], ◌∷◌, length, map, codes, Option, None, Some, Result, Ok, Err, String, string_bytes}
 use Rattle.std.specs.Str.{bytes_eq}
 use Rattle.std.specs.Io.KnownBytes.{prepend_known, append_known, IsAtEnd}
 use Rattle.std.specs.declared.alloc.Global.{Global}
@@ -18,7 +18,7 @@ use Rattle.xdb_top.specs.declared.fault.TopFault.{TopFault}
 use Rattle.xdb_top.specs.declared.fault.TopFault.TheVariants.{BadWords, BadInput, TooLarge, ReadFault, WriteFault, NoMemory}
 use Rattle.xdb_top.specs.declared.fault.TheConstants.{INPUT_BYTES_MAX}
 use Rattle.xdb_top.specs.Input.{spelled, spelled_script}
-use Rattle.xdb_top.specs.Played.{start, IsWholePlay}
+use Rattle.xdb_top.specs.Played.{start, IsWholePlay, IsPartPlay}
 
 -- ---- words and statuses
 
@@ -82,22 +82,23 @@ pub record IsPartlyWritten {X : Type 0} (spells : List ℕ → Result X InputFau
   pub text_is : IsText what text
   pub prefix : AppendedPrefix text written new
 
--- What each answer says of the input that was taken, of what the source has left, and of what the sink holds.
-abbrev pub Answers : {X : Type 0} → (List ℕ → Result X InputFault) → (X → List ℕ → Type 0) → List ℕ → Option (List ℕ) → Option (List ℕ) → Option (List ℕ) → Option TopFault → Type 0
-Answers spells IsText input rest written new None = IsWhole input rest × IsWritten spells IsText input written new
-Answers spells IsText input rest written new (Some BadWords) = ⊥
-Answers spells IsText input rest written new (Some (BadInput line why)) = IsWhole input rest × (spells input ≡ Err (record { line = line; why = why })) × (new ≡ written)
-Answers spells IsText input rest written new (Some TooLarge) = (INPUT_BYTES_MAX < length input) × (new ≡ written)
-Answers spells IsText input rest written new (Some ReadFault) = (length input ≤ INPUT_BYTES_MAX) × (new ≡ written)
-Answers spells IsText input rest written new (Some WriteFault) = IsWhole input rest × IsPartlyWritten spells IsText input written new
-Answers spells IsText input rest written new (Some NoMemory) = new ≡ written
+-- What each answer says of the input that was taken, of what the source has left, and of what the sink holds. Where memory
+-- was wanting, `Lacks` says what else is known of the input.
+abbrev pub Answers : {X : Type 0} → (List ℕ → Result X InputFault) → (X → List ℕ → Type 0) → (List ℕ → Option (List ℕ) → Type 0) → List ℕ → Option (List ℕ) → Option (List ℕ) → Option (List ℕ) → Option TopFault → Type 0
+Answers spells IsText Lacks input rest written new None = IsWhole input rest × IsWritten spells IsText input written new
+Answers spells IsText Lacks input rest written new (Some BadWords) = ⊥
+Answers spells IsText Lacks input rest written new (Some (BadInput line why)) = IsWhole input rest × (spells input ≡ Err (record { line = line; why = why })) × (new ≡ written)
+Answers spells IsText Lacks input rest written new (Some TooLarge) = (INPUT_BYTES_MAX < length input) × (new ≡ written)
+Answers spells IsText Lacks input rest written new (Some ReadFault) = (length input ≤ INPUT_BYTES_MAX) × (new ≡ written)
+Answers spells IsText Lacks input rest written new (Some WriteFault) = IsWhole input rest × IsPartlyWritten spells IsText input written new
+Answers spells IsText Lacks input rest written new (Some NoMemory) = (new ≡ written) × Lacks input rest
 
 -- The command took some bytes from the front of what the source had, one more than the limit at most, and answered for them.
-pub record IsAnswered {X : Type 0} (spells : List ℕ → Result X InputFault) (IsText : X → List ℕ → Type 0) (before after written new : Option (List ℕ)) (fault : Option TopFault) : Type 0 where
+pub record IsAnswered {X : Type 0} (spells : List ℕ → Result X InputFault) (IsText : X → List ℕ → Type 0) (Lacks : List ℕ → Option (List ℕ) → Type 0) (before after written new : Option (List ℕ)) (fault : Option TopFault) : Type 0 where
   pub input : List ℕ
   pub taken : before ≡ prepend_known input after
   pub at_most : length input ≤ INPUT_BYTES_MAX + 1
-  pub answer : Answers spells IsText input after written new fault
+  pub answer : Answers spells IsText Lacks input after written new fault
 
 -- ---- the commands
 
@@ -109,6 +110,21 @@ IsCanonical doc text = text ≡ text_of (pyx doc)
 abbrev pub IsPlayedText : List Event → Script → List ℕ → Type 0
 IsPlayedText journal script text = IsWholePlay script journal × (text ≡ journals.text journal)
 
+-- where memory was wanting nothing is said of a document
+abbrev pub LacksForDocument : List ℕ → Option (List ℕ) → Type 0
+LacksForDocument input rest = Unit {0}
+
+-- the whole input was taken, it spells a script, and that script was played in part
+pub record IsPlayedInPart (journal : List Event) (input : List ℕ) (rest : Option (List ℕ)) : Type 0 where
+  pub whole : IsWhole input rest
+  pub script : Script
+  pub is : spelled_script input ≡ Ok script
+  pub part : IsPartPlay script journal
+
+-- where memory was wanting there are no events, or the script was played in part
+abbrev pub LacksForPlay : List Event → List ℕ → Option (List ℕ) → Type 0
+LacksForPlay journal input rest = (journal ≡ []) ⊎ IsPlayedInPart journal input rest
+
 -- a journal is there only where scripts were played
 abbrev pub HasJournal : Option TopFault → List Event → Type 0
 HasJournal None journal = Unit {0}
@@ -119,9 +135,10 @@ HasJournal (Some ReadFault) journal = journal ≡ []
 HasJournal (Some WriteFault) journal = Unit {0}
 HasJournal (Some NoMemory) journal = Unit {0}
 
--- What the tool did: where the words are no command, nothing. `play` has a journal that is legal so far, whatever it answers.
+-- What the tool did: where the words are no command, nothing. `play` has a journal that is legal so far, whatever it
+-- answers: that of the whole script where a text was to be written, and of a part of it where memory was wanting.
 abbrev pub DoesCommand : Option Command → (before after written new : Option (List ℕ)) → Option TopFault → List Event → Type 0
 DoesCommand None before after written new fault journal = (fault ≡ Some BadWords) × (after ≡ before) × (new ≡ written) × (journal ≡ [])
-DoesCommand (Some Pyx) before after written new fault journal = IsAnswered spelled IsCanonical before after written new fault × (journal ≡ [])
+DoesCommand (Some Pyx) before after written new fault journal = IsAnswered spelled IsCanonical LacksForDocument before after written new fault × (journal ≡ [])
 DoesCommand (Some Play) before after written new fault journal =
-    IsAnswered spelled_script (IsPlayedText journal) before after written new fault × HasJournal fault journal × SoFar start journal
+    IsAnswered spelled_script (IsPlayedText journal) (LacksForPlay journal) before after written new fault × HasJournal fault journal × SoFar start journal

@@ -2,7 +2,7 @@
 -- session by session the calls that are left.
 use Rattle.std.specs.Prelude.{◌≡◌, ℕ, ◌+◌, ◌==◌, nat_lt, Bool, true, if◌then◌else◌, List, [], ◌∷◌, ◌++◌, length, replicate}
 use Rattle.session_core.specs.declared.event.Event.{Event}
-use Rattle.session_core.specs.declared.event.Event.TheVariants.{Left}
+use Rattle.session_core.specs.declared.event.Event.TheVariants.{Granted, Left}
 use Rattle.session_core.specs.History.{session_of, is_closing}
 use Rattle.session_core.specs.Closes.{Scripts, calls_of}
 
@@ -46,3 +46,23 @@ IsBehindCall s (e ∷ past) = (session_of e ≡ s) × (is_closing e ≡ true)
 abbrev pub LeavesAtOnce : Event → List Event → Type 0
 LeavesAtOnce (Left s) past = IsBehindCall s past
 LeavesAtOnce _ past = Unit {0}
+
+-- directly behind the grant of a session's locks comes what closes its call
+abbrev pub FollowsAtOnce : Event → List Event → Type 0
+FollowsAtOnce e (Granted s asked ∷ past) = (session_of e ≡ s) × (is_closing e ≡ true)
+FollowsAtOnce e _ = Unit {0}
+
+-- no call is under way: the newest event is no grant
+abbrev pub IsAtRest : List Event → Type 0
+IsAtRest (Granted s asked ∷ past) = ⊥
+IsAtRest _ = Unit {0}
+
+-- the session has the next of these turns
+abbrev pub HasNext : ℕ → List ℕ → Type 0
+HasNext s [] = ⊥
+HasNext s (t ∷ turns) = t ≡ s
+
+-- a call that is under way, for which locks were granted, is that of the session that has the next turn
+abbrev pub IsOfNextTurn : List Event → List ℕ → Type 0
+IsOfNextTurn (Granted s asked ∷ past) turns = HasNext s turns
+IsOfNextTurn _ turns = Unit {0}

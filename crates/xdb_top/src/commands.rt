@@ -5,7 +5,7 @@ ghost use Rattle.byte_edge.specs.Took.{AppendedPrefix};
 ghost use Rattle.script_text.specs.JournalText.{text};
 ghost use Rattle.session_core.specs.Legal.{SoFar};
 ghost use Rattle.xdb_top.specs.Tool as spec;
-ghost use Rattle.xdb_top.specs.Tool.{IsAnswered, DoesCommand, HasFaultCause, HasJournal, IsCanonical, IsPlayedText, is_read_fault, is_write_fault, words_of, command_of as command_by};
+ghost use Rattle.xdb_top.specs.Tool.{IsAnswered, DoesCommand, HasFaultCause, HasJournal, IsCanonical, IsPlayedText, LacksForDocument, LacksForPlay, is_read_fault, is_write_fault, words_of, command_of as command_by};
 ghost use Rattle.xdb_top.specs.Parts as parts;
 ghost use Rattle.xdb_top.specs.Parts.{IsRead, fault_of};
 ghost use Rattle.xdb_top.specs.Input.{spelled, spelled_script};
@@ -132,7 +132,7 @@ fn read_calls<R: Source>(alloc: Global, from: &mut R) -> Result<Script, TopFault
 fn run_pyx<R: Source, W: Sink>(alloc: Global, from: &mut R, to: &mut W) -> Option<TopFault>
     ensures read_fault { HasFaultCause (is_read_fault result) (R.faults from.old) (R.faults from.new) }
     ensures write_fault { HasFaultCause (is_write_fault result) (W.faults to.old) (W.faults to.new) }
-    ensures answer { IsAnswered spelled IsCanonical (R.rest from.old) (R.rest from.new) (W.written to.old) (W.written to.new) result }
+    ensures answer { IsAnswered spelled IsCanonical LacksForDocument (R.rest from.old) (R.rest from.new) (W.written to.old) (W.written to.new) result }
 {
     let doc = match read_doc(alloc, from) {
         Ok(doc) => doc,
@@ -168,7 +168,7 @@ fn write_events<W: Sink>(journal: &Journal, to: &mut W) -> Option<TopFault>
 fn run_play<R: Source, W: Sink>(alloc: Global, from: &mut R, to: &mut W) -> PlayEnd
     ensures read_fault { HasFaultCause (is_read_fault result.fault) (R.faults from.old) (R.faults from.new) }
     ensures write_fault { HasFaultCause (is_write_fault result.fault) (W.faults to.old) (W.faults to.new) }
-    ensures answer { IsAnswered spelled_script (IsPlayedText result.journal) (R.rest from.old) (R.rest from.new) (W.written to.old) (W.written to.new) result.fault }
+    ensures answer { IsAnswered spelled_script (IsPlayedText result.journal) (LacksForPlay result.journal) (R.rest from.old) (R.rest from.new) (W.written to.old) (W.written to.new) result.fault }
     ensures journal { HasJournal result.fault result.journal }
     ensures so_far { SoFar start result.journal }
 {
@@ -191,14 +191,15 @@ fn run_play<R: Source, W: Sink>(alloc: Global, from: &mut R, to: &mut W) -> Play
 }
 
 /// Does what the words say, over this source and this sink. The order of refusals is: words, reading, input, the
-/// work, writing. Nothing is written with a status other than 0, but with 5 a prefix.
+/// work, writing. Nothing is written with a status other than 0, but with 5 a prefix. The journal of `play` is whole with
+/// 0 and 5, and with 6 it is empty or has the first of the calls.
 pub fn tool<R: Source, W: Sink>(alloc: Global, words: &[String], from: &mut R, to: &mut W) -> TopEnd
     ensures status { result.status ≡ spec.status_of result.fault }
     // BadWords exactly where the words are no command, ReadFault and WriteFault exactly where source and sink failed.
     ensures words { (result.fault ≡ Some TopFault.BadWords) ↔ (command_by (words_of words.now) ≡ None) }
     ensures read_fault { HasFaultCause (is_read_fault result.fault) (R.faults from.old) (R.faults from.new) }
     ensures write_fault { HasFaultCause (is_write_fault result.fault) (W.faults to.old) (W.faults to.new) }
-    // What was taken, what it spells, what was written, and what the journal is.
+    // What was taken, what it spells, what was written, and what the journal is: of the whole script, or of a part of it.
     ensures answer { DoesCommand (command_by (words_of words.now)) (R.rest from.old) (R.rest from.new) (W.written to.old) (W.written to.new) result.fault result.journal }
 {
     match command_of(words) {

@@ -1,10 +1,9 @@
 //! Scripts that are played on one thread over documents in memory.
-ghost use Rattle.std.specs.Prelude.{◌≡◌, ◌<◌, ◌+◌, ◌∷◌, ◌++◌, ◌^◌, [], length, replicate, slice_get, Some, IsTrue, IfOk, OnOk};
+ghost use Rattle.std.specs.Prelude.{◌≡◌, ◌<◌, ◌+◌, ◌∷◌, ◌++◌, ◌^◌, [], length, replicate, slice_get, Some, IsTrue, IfOk, OnOk, OnErr};
 ghost use Rattle.session_core.specs.Kept.{past};
-ghost use Rattle.session_core.specs.Legal.{SoFar};
-ghost use Rattle.xdb_top.specs.Played.{start, IsPlayed, IsWholePlay};
-ghost use Rattle.xdb_top.specs.Playing.{IsSeated, IsPlaying, HasPlayed, HasHadTurn, AreNewSeats, start_kept, IsPlayedWhole};
-ghost use Rattle.xdb_top.specs.Turns.{one_by_one};
+ghost use Rattle.xdb_top.specs.Played.{start, IsPlayed, IsWholePlay, IsPartPlay};
+ghost use Rattle.xdb_top.specs.Playing.{IsSeated, IsPlaying, HasPlayed, HasHadTurn, HasBrokenOff, AreNewSeats, start_kept, IsPlayedWhole};
+ghost use Rattle.xdb_top.specs.Turns.{IsAtRest, one_by_one};
 
 use script_text::{CallTextListList, Script};
 use session_core::{Core, Journal};
@@ -36,9 +35,11 @@ fn play_seat(
     index: usize,
 ) -> Result<(), NoMemory>
     requires index { index < length sessions.now }
-    requires played { IsPlayed sessions.now (past core.old) }
+    requires played { IsPlayed core.old.base sessions.now (past core.old) }
+    requires at_rest { IsAtRest (past core.old) }
     requires seated { IsSeated (index + 1) seat.old core.old }
     ensures turn { OnOk result (HasHadTurn sessions.now (index + 1) core.old core.new seat.new) }
+    ensures off { OnErr result (HasBrokenOff sessions.now ((index + 1) ∷ []) core.old core.new) }
     ensures base { core.new.base ≡ core.old.base }
 {
     let calls = &sessions.as_slice()[index];
@@ -62,6 +63,7 @@ fn play_turn(
 ) -> Result<(), NoMemory>
     requires { IsPlaying sessions.now core.old seats.old }
     ensures played { OnOk result (HasPlayed sessions.now (number ∷ []) core.old core.new seats.new) }
+    ensures off { OnErr result (HasBrokenOff sessions.now (number ∷ []) core.old core.new) }
     ensures base { core.new.base ≡ start }
 {
     if number == 0 || number > seats.len() as u64 {
@@ -80,6 +82,7 @@ fn play_order(
 ) -> Result<(), NoMemory>
     requires { IsPlaying sessions.now core.old seats.old }
     ensures played { OnOk result (HasPlayed sessions.now order.now core.old core.new seats.new) }
+    ensures off { OnErr result (HasBrokenOff sessions.now order.now core.old core.new) }
     ensures base { core.new.base ≡ start }
 {
     for number in order {
@@ -98,6 +101,7 @@ fn play_turns(
 ) -> Result<(), NoMemory>
     requires { IsPlaying sessions.now core.old seats.old }
     ensures played { OnOk result (HasPlayed sessions.now (replicate count number) core.old core.new seats.new) }
+    ensures off { OnErr result (HasBrokenOff sessions.now (replicate count number) core.old core.new) }
     ensures base { core.new.base ≡ start }
 {
     for _turn in 0..count {
@@ -114,6 +118,7 @@ fn play_rest(
 ) -> Result<(), NoMemory>
     requires { IsPlaying sessions.now core.old seats.old }
     ensures played { OnOk result (HasPlayed sessions.now (one_by_one 1 sessions.now) core.old core.new seats.new) }
+    ensures off { OnErr result (HasBrokenOff sessions.now (one_by_one 1 sessions.now) core.old core.new) }
     ensures base { core.new.base ≡ start }
 {
     for index in 0..sessions.len() {
@@ -141,6 +146,7 @@ fn seats_for(alloc: Global, count: u32) -> Result<Vec<Seat>, NoMemory>
 fn play_all(core: &mut Core, seats: &mut [Seat], script: &Script) -> Result<(), NoMemory>
     requires { IsPlaying script.now.sessions core.old seats.old }
     ensures played { OnOk result (HasPlayed script.now.sessions (script.now.order ++ one_by_one 1 script.now.sessions) core.old core.new seats.new) }
+    ensures off { OnErr result (HasBrokenOff script.now.sessions (script.now.order ++ one_by_one 1 script.now.sessions) core.old core.new) }
     ensures base { core.new.base ≡ start }
 {
     play_order(core, seats, &script.sessions, script.order.as_slice())?;
@@ -153,6 +159,7 @@ fn play_on(alloc: Global, core: &mut Core, script: &Script) -> Result<(), NoMemo
     requires few { length script.now.sessions < 2 ^ 32 }
     requires empty { core.old ≡ start_kept }
     ensures played { OnOk result (IsPlayedWhole script.now core.new) }
+    ensures off { OnErr result (HasBrokenOff script.now.sessions (script.now.order ++ one_by_one 1 script.now.sessions) start_kept core.new) }
     ensures base { core.new.base ≡ start }
 {
     let mut seats = seats_for(alloc, script.sessions.len() as u32)?;
@@ -160,11 +167,12 @@ fn play_on(alloc: Global, core: &mut Core, script: &Script) -> Result<(), NoMemo
     Ok(())
 }
 
-/// Plays a script over documents in memory, of which there are none at first.
+/// Plays a script over documents in memory, of which there are none at first. Whatever comes of it, the journal is of a
+/// part of the script.
 pub(crate) fn play(alloc: Global, script: &Script) -> Played
     requires { length script.now.sessions < 2 ^ 32 }
     ensures whole { IsTrue result.is_whole → IsWholePlay script.now result.journal }
-    ensures so_far { SoFar start result.journal }
+    ensures part { IsPartPlay script.now result.journal }
 {
     let Ok(mut core) = Core::new(alloc, 0, 1, DocMap::new(alloc)) else {
         return Played {

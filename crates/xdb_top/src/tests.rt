@@ -126,7 +126,8 @@ fn check_play(
 
 #[test]
 fn nothing_from_nothing(rt: HostRuntime) -> Result<(), Fail> {
-    check_pyx(&rt, rt.alloc(), b"", DONE, b"")
+    check_pyx(&rt, rt.alloc(), b"", DONE, b"")?;
+    check_play(&rt, rt.alloc(), b"", b"")
 }
 
 #[test]
@@ -216,6 +217,78 @@ fn check_faults(
 fn faulty_source_and_sink(rt: HostRuntime) -> Result<(), Fail> {
     check_faults(&rt, rt.alloc(), "pyx", b"(a\n)a\n")?;
     check_faults(&rt, rt.alloc(), "play", b"SESSION\nBEGIN\n")
+}
+
+/// A command whose source and sink fail at these calls, and how it is to end with how many events.
+#[derive(Clone, Copy)]
+struct Case<'a> {
+    words: &'a [&'a str],
+    input: &'a [u8],
+    source_fails: &'a [u64],
+    sink_fails: &'a [u64],
+    want: Want,
+    events: usize,
+}
+
+fn check_case(rt: &(impl Abort + Print), alloc: Global, case: Case<'_>) -> Result<(), Fail> {
+    let words = words_of(alloc, case.words)?;
+    let mut source = MemSource::of(case.input.to_vec(alloc)?, case.source_fails.to_vec(alloc)?);
+    let mut sink = MemSink::of(alloc, case.sink_fails.to_vec(alloc)?);
+    let end = tool(alloc, &words, &mut source, &mut sink);
+    assert_eq!(rt; ended(&end), case.want);
+    assert_eq!(rt; end.journal.len(), case.events);
+    Ok(())
+}
+
+#[test]
+fn a_journal_has_what_was_played(rt: HostRuntime) -> Result<(), Fail> {
+    // The events are began, granted, done and committed of the first session, and began and left of the other.
+    let script: &[u8] = b"SESSION\nBEGIN\nLOAD 'd'\n.\nCOMMIT\nSESSION\nBEGIN\n";
+    let done = Case {
+        words: &["play"],
+        input: script,
+        source_fails: &[],
+        sink_fails: &[],
+        want: DONE,
+        events: 6,
+    };
+    let nothing = Case { events: 0, ..done };
+    let rows = [
+        done,
+        Case {
+            sink_fails: &[1],
+            want: faulty(5, TopFault::WriteFault),
+            ..done
+        },
+        Case {
+            input: b"",
+            ..nothing
+        },
+        Case {
+            words: &["play", "1"],
+            want: faulty(1, TopFault::BadWords),
+            ..nothing
+        },
+        Case {
+            input: b"BEGIN",
+            want: refused_script(1, ScriptRefusal::BadScript),
+            ..nothing
+        },
+        Case {
+            source_fails: &[1],
+            want: faulty(4, TopFault::ReadFault),
+            ..nothing
+        },
+        Case {
+            words: &["pyx"],
+            input: b"(a\n)a\n",
+            ..nothing
+        },
+    ];
+    for case in rows {
+        check_case(&rt, rt.alloc(), case)?;
+    }
+    Ok(())
 }
 
 #[test]

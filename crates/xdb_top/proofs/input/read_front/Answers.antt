@@ -1,4 +1,4 @@
-use Rattle.std.proofs.Common.{◌≡◌, ap, ◌∙◌, IsOk}
+use Rattle.std.proofs.Common.{◌≡◌, ap, ◌∙◌}
 use Rattle.xml_model.specs.Pyx.{start, after, split_ended_lines, ◌>>=◌}
 use Rattle.xdb_top.proofs.Lines.{not_text-Ok}
 use Rattle.xdb_top.proofs.input.read_front.Goals as goal

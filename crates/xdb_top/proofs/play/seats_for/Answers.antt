@@ -1,4 +1,4 @@
-use Rattle.std.proofs.Common.{◌≡◌, ◌+◌, ◌∷◌, [], ◌++◌, ap, sym, subst, ◌∙◌, arith}
+use Rattle.std.proofs.Common.{◌+◌, ◌∷◌, [], ◌++◌, ap, sym, subst, ◌∙◌, arith}
 use Rattle.xdb_top.specs.Playing.{AreNewSeats}
 use Rattle.xdb_top.proofs.Starting.{no_seats, one_seat_more}
 use Rattle.xdb_top.proofs.play.seats_for.Goals as goal
