@@ -1,0 +1,9 @@
+-top
+(a
+Ax
+Ay b c
+?t
+?u v w
+-\ta\\b\x
+-
+)a

@@ -1,0 +1,1 @@
+yes '1 error NoTransaction' | head -n 1048576

@@ -1,0 +1,1 @@
+echo SESSION; yes COMMIT | head -n 1048577

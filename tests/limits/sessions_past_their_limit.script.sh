@@ -1,0 +1,1 @@
+yes SESSION | head -n 65
