@@ -1,5 +1,7 @@
+// Each call over sources and sinks in memory and of std.
 use crate::{
-    MemSink, MemSource, ReadEnd, Sink, Source, StdSink, StdSource, WriteFault, read_all, write_all,
+    MemSink, MemSource, Pending, ReadEnd, Sink, Source, StdSink, StdSource, WriteFault, flush, read_all,
+    send_byte, send_bytes, write_all,
 };
 use std::test::Fail;
 
@@ -61,5 +63,20 @@ fn std_is_read_and_written(rt: HostRuntime) -> Result<(), Fail> {
     let mut sink = StdSink::of(Vec::new(alloc));
     assert_eq!(rt; write_all(&mut sink, &[3, 4]).err(), None);
     assert_eq!(rt; sink.into_writer().as_slice(), [3, 4].as_slice());
+    Ok(())
+}
+
+#[test]
+fn what_waits_is_put_in_pieces(rt: HostRuntime) -> Result<(), Fail> {
+    let alloc = rt.alloc();
+    let mut sink = MemSink::of(alloc, Vec::new(alloc));
+    let mut pending = Pending::new();
+    let bytes = vec![in alloc; 7; 9000]?;
+    assert_eq!(rt; send_bytes(&mut sink, &mut pending, &bytes).err(), None);
+    assert_eq!(rt; send_byte(&mut sink, &mut pending, 8).err(), None);
+    assert_eq!(rt; sink.bytes().len(), 8192);
+    assert_eq!(rt; flush(&mut sink, &mut pending).err(), None);
+    assert_eq!(rt; sink.bytes().len(), 9001);
+    assert_eq!(rt; sink.bytes().last(), Some(&8));
     Ok(())
 }

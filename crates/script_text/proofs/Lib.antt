@@ -1,5 +1,4 @@
 mod Rows
-pub mod Sent
 pub mod EventText
 pub mod ScriptLines
 pub mod OrderNumbers

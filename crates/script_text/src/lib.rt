@@ -17,7 +17,6 @@ mod kinds;
 mod laws;
 mod limits;
 mod numbers;
-mod pending;
 mod pieces;
 mod reading;
 mod session_calls;

@@ -3,10 +3,9 @@ ghost use Rattle.std.specs.Prelude.{◌∷◌, []};
 ghost use Rattle.std.specs.Fmt.{decimal};
 ghost use Rattle.script_text.specs.JournalText.{doubled};
 ghost use Rattle.script_text.specs.Pieces.{piece_text, pieces_text};
-ghost use Rattle.script_text.specs.Sending.{Sends, stage};
+ghost use Rattle.byte_edge.specs.Sending.{Sends, stage};
 
-use crate::pending::{Pending, send_byte, send_bytes};
-use byte_edge::{Sink, WriteFault};
+use byte_edge::{Pending, Sink, WriteFault, send_byte, send_bytes};
 use itoa::Buffer;
 
 /// A part of a line.

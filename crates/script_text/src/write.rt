@@ -12,11 +12,10 @@ ghost use Rattle.session_core.specs.declared.event.Says.TheVariants as answers;
 ghost use Rattle.script_text.specs.JournalText as spec;
 ghost use Rattle.script_text.specs.JournalText.{answer_lines, event_lines};
 ghost use Rattle.script_text.specs.Pieces.{others_text};
-ghost use Rattle.script_text.specs.Sending.{Sends, stage};
+ghost use Rattle.byte_edge.specs.Sending.{Sends, stage};
 
-use crate::pending::{Pending, flush, send_byte, send_bytes};
 use crate::pieces::{Piece, send_pieces};
-use byte_edge::{Sink, WriteFault};
+use byte_edge::{Pending, Sink, WriteFault, flush, send_byte, send_bytes};
 use session_core::{BeginKind, Event, Journal, Says};
 use xq_ast::{Code, LockMode, Need, NeedList, SpentKind, Str, StrList, name_of_refusal};
 

@@ -1,7 +1,7 @@
 use Rattle.std.proofs.Common.{refl, ◌∷◌, []}
 use Rattle.script_text.specs.JournalText.{doubled}
 use Rattle.script_text.proofs.EventText.{doubled-append}
-use Rattle.script_text.proofs.Sent.{failed, sent_none, sent_next, broke_next}
+use Rattle.byte_edge.proofs.Sent.{failed, sent_none, sent_next, broke_next}
 use Rattle.script_text.proofs.pieces.send_doubled.Goals as goal
 
 pub loop-byte-init : goal.loop-byte-init

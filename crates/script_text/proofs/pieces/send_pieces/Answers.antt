@@ -1,7 +1,7 @@
 use Rattle.std.proofs.Common.{refl}
 use Rattle.script_text.specs.Pieces.{piece_text, pieces_text}
 use Rattle.script_text.proofs.EventText.{pieces_text-append, pieces_text-one}
-use Rattle.script_text.proofs.Sent.{failed, sent_none, sent_next, broke_next}
+use Rattle.byte_edge.proofs.Sent.{failed, sent_none, sent_next, broke_next}
 use Rattle.script_text.proofs.pieces.send_pieces.Goals as goal
 
 pub loop-piece-init : goal.loop-piece-init

@@ -1,6 +1,6 @@
 use Rattle.std.proofs.Common.{take}
 use Rattle.script_text.specs.Pieces.{pieces_text}
-use Rattle.script_text.specs.Sending.{Sent, stage}
+use Rattle.byte_edge.specs.Sending.{Sent, stage}
 use Rattle.script_text.proofs.pieces.send_pieces.Given as goal
 
 abbrev pub invariant-loop-piece : goal.invariant-loop-piece

@@ -1,6 +1,6 @@
 use Rattle.xml_model.specs.Pyx.{text_of}
 use Rattle.script_text.proofs.EventText.{answer_parts}
-use Rattle.script_text.proofs.Sent.{failed, broke_as, broke_before, sends_as, sends_then}
+use Rattle.byte_edge.proofs.Sent.{failed, broke_as, broke_before, sends_as, sends_then}
 use Rattle.script_text.proofs.write.send_answer.Goals as goal
 
 pub returns-in_err-send_numbered : goal.returns-in_err-send_numbered

@@ -1,7 +1,7 @@
 use Rattle.std.proofs.Common.{◌∷◌, [], append_assoc, sym}
 use Rattle.std.specs.Prelude.{codes}
 use Rattle.std.specs.Fmt.{decimal}
-use Rattle.script_text.proofs.Sent.{sends_as}
+use Rattle.byte_edge.proofs.Sent.{sends_as}
 use Rattle.script_text.proofs.write.send_began.Goals as goal
 
 pub returns-in-Updating : goal.returns-in-Updating

@@ -2,7 +2,7 @@ use Rattle.std.proofs.Common.{◌++◌, [], ◌∷◌}
 use Rattle.std.specs.Prelude.{codes}
 use Rattle.xq_ast.specs.CodeText.{code_text}
 use Rattle.script_text.proofs.EventText.{line_parts}
-use Rattle.script_text.proofs.Sent.{failed, broke_as, broke_before, broke_then, sends_as, sends_then}
+use Rattle.byte_edge.proofs.Sent.{failed, broke_as, broke_before, broke_then, sends_as, sends_then}
 use Rattle.script_text.proofs.write.send_error.Goals as goal
 
 pub returns-in_err-send_pieces : goal.returns-in_err-send_pieces

@@ -2,7 +2,7 @@ use Rattle.std.proofs.Common.{rules}
 use Rattle.xml_model.specs.Pyx.{text_of}
 use Rattle.script_text.specs.JournalText.{text, event_lines}
 use Rattle.script_text.proofs.EventText.{text-append, text-one}
-use Rattle.script_text.proofs.Sent.{failed, sent_none, sent_next, broke_next}
+use Rattle.byte_edge.proofs.Sent.{failed, sent_none, sent_next, broke_next}
 use Rattle.script_text.proofs.write.send_events.Goals as goal
 
 pub loop-event-init : goal.loop-event-init

@@ -1,6 +1,6 @@
 use Rattle.std.proofs.Common.{take}
 use Rattle.script_text.specs.JournalText.{text}
-use Rattle.script_text.specs.Sending.{Sent, stage}
+use Rattle.byte_edge.specs.Sending.{Sent, stage}
 use Rattle.script_text.proofs.write.send_events.Given as goal
 
 abbrev pub invariant-loop-event : goal.invariant-loop-event

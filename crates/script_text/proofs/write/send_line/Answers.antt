@@ -1,5 +1,5 @@
 use Rattle.std.proofs.Common.{◌∷◌, []}
-use Rattle.script_text.proofs.Sent.{failed, broke_as, broke_before, sent_as, sends_then}
+use Rattle.byte_edge.proofs.Sent.{failed, broke_as, broke_before, sent_as, sends_then}
 use Rattle.script_text.proofs.write.send_line.Goals as goal
 
 pub returns-in_err-send_bytes : goal.returns-in_err-send_bytes

@@ -1,7 +1,7 @@
 use Rattle.std.proofs.Common.{rules, refl, ◌∷◌, []}
 use Rattle.xml_model.specs.Pyx.{text_of}
 use Rattle.script_text.proofs.EventText.{text_of-append}
-use Rattle.script_text.proofs.Sent.{failed, sent_none, sent_next, broke_next}
+use Rattle.byte_edge.proofs.Sent.{failed, sent_none, sent_next, broke_next}
 use Rattle.script_text.proofs.write.send_lines.Goals as goal
 
 pub loop-line-init : goal.loop-line-init

@@ -1,6 +1,6 @@
 use Rattle.std.proofs.Common.{take}
 use Rattle.xml_model.specs.Pyx.{text_of}
-use Rattle.script_text.specs.Sending.{Sent, stage}
+use Rattle.byte_edge.specs.Sending.{Sent, stage}
 use Rattle.script_text.proofs.write.send_lines.Given as goal
 
 abbrev pub invariant-loop-line : goal.invariant-loop-line

@@ -1,7 +1,7 @@
 use Rattle.std.proofs.Common.{◌-◌, length, take, drop}
 use Rattle.script_text.specs.Pieces.{others_text}
 use Rattle.script_text.proofs.EventText.{needs_parts}
-use Rattle.script_text.proofs.Sent.{failed, broke_as, broke_before, sends_as, sends_then}
+use Rattle.byte_edge.proofs.Sent.{failed, broke_as, broke_before, sends_as, sends_then}
 use Rattle.script_text.proofs.write.send_needs.Goals as goal
 
 pub returns-in_err-send_need-in-len1-up : goal.returns-in_err-send_need-in-len1-up

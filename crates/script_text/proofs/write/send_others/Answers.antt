@@ -3,7 +3,7 @@ use Rattle.std.specs.Prelude.{codes}
 use Rattle.script_text.specs.JournalText.{need_text}
 use Rattle.script_text.specs.Pieces.{others_text}
 use Rattle.script_text.proofs.EventText.{others_text-append, others_text-one}
-use Rattle.script_text.proofs.Sent.{failed, sent_none, sent_next, broke_next}
+use Rattle.byte_edge.proofs.Sent.{failed, sent_none, sent_next, broke_next}
 use Rattle.script_text.proofs.write.send_others.Goals as goal
 
 pub loop-need-init : goal.loop-need-init

@@ -1,6 +1,6 @@
 use Rattle.std.proofs.Common.{take}
 use Rattle.script_text.specs.Pieces.{others_text}
-use Rattle.script_text.specs.Sending.{Sent, stage}
+use Rattle.byte_edge.specs.Sending.{Sent, stage}
 use Rattle.script_text.proofs.write.send_others.Given as goal
 
 abbrev pub invariant-loop-need : goal.invariant-loop-need

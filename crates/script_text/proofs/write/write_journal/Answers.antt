@@ -1,6 +1,6 @@
 use Rattle.std.proofs.Common.{append-nil}
 use Rattle.script_text.specs.JournalText.{text}
-use Rattle.script_text.proofs.Sent.{failed, sends_then, sends_as, sends_prefix}
+use Rattle.byte_edge.proofs.Sent.{failed, sends_then, sends_as, sends_prefix}
 use Rattle.script_text.proofs.write.write_journal.Goals as goal
 
 pub returns-in_err-send_events-clause-prefix : goal.returns-in_err-send_events-clause-prefix

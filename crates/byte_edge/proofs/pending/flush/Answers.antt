@@ -1,7 +1,7 @@
 use Rattle.std.proofs.Common.{refl}
-use Rattle.script_text.specs.Sending.{stage}
-use Rattle.script_text.proofs.Sent.{failed, broke_waiting}
-use Rattle.script_text.proofs.pending.flush.Goals as goal
+use Rattle.byte_edge.specs.Sending.{stage}
+use Rattle.byte_edge.proofs.Sent.{failed, broke_waiting}
+use Rattle.byte_edge.proofs.pending.flush.Goals as goal
 
 pub returns-in_err-write_all-clause-sends : goal.returns-in_err-write_all-clause-sends
 returns-in_err-write_all-clause-sends g c =

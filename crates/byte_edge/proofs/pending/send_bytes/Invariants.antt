@@ -1,6 +1,6 @@
 use Rattle.std.proofs.Common.{take}
-use Rattle.script_text.specs.Sending.{Sent, stage}
-use Rattle.script_text.proofs.pending.send_bytes.Given as goal
+use Rattle.byte_edge.specs.Sending.{Sent, stage}
+use Rattle.byte_edge.proofs.pending.send_bytes.Given as goal
 
 abbrev pub invariant-loop-byte : goal.invariant-loop-byte
 invariant-loop-byte g l =

@@ -1,17 +1,19 @@
 // A small buffer before a sink, so that the sink is called for large pieces alone.
 ghost use Rattle.std.specs.Prelude.{◌≡◌, ◌<◌, ◌++◌, ◌∷◌, [], length, OnOk, nat_lt};
-ghost use Rattle.script_text.specs.Sending.{Sends, stage};
+ghost use Rattle.byte_edge.specs.Sending.{Sends, stage};
 
-use byte_edge::{Sink, WriteFault, write_all};
+use crate::sink::Sink;
+use crate::writing::{WriteFault, write_all};
 use std::marker::Model;
 
-// The most bytes that wait.
-const PENDING_MAX: usize = 8192;
+/// The most bytes that wait.
+pub const PENDING_BYTES_MAX: usize = 8192;
 
-/// Bytes that wait to be put. Contracts see them as a list.
+/// Bytes that wait to be put, at most `PENDING_BYTES_MAX` of them. Contracts see them as a list.
+/// What was sent is what was written and what waits: `flush` puts the rest. It takes no memory.
 #[derive(Drop)]
-pub(crate) struct Pending {
-    bytes: [u8; PENDING_MAX],
+pub struct Pending {
+    bytes: [u8; PENDING_BYTES_MAX],
     len: usize,
 }
 
@@ -26,11 +28,12 @@ impl Model for Pending {
 }
 
 impl Pending {
-    pub(crate) fn new() -> Pending
+    /// No bytes.
+    pub fn new() -> Pending
         ensures { result ≡ [] }
     {
         Pending {
-            bytes: [0; PENDING_MAX],
+            bytes: [0; PENDING_BYTES_MAX],
             len: 0,
         }
     }
@@ -42,13 +45,13 @@ impl Pending {
     }
 
     fn has_room(&self) -> bool
-        ensures { result ≡ nat_lt (length self.now) PENDING_MAX }
+        ensures { result ≡ nat_lt (length self.now) PENDING_BYTES_MAX }
     {
-        self.len < PENDING_MAX
+        self.len < PENDING_BYTES_MAX
     }
 
     fn push(&mut self, byte: u8)
-        requires { length self.old < PENDING_MAX }
+        requires { length self.old < PENDING_BYTES_MAX }
         ensures { self.new ≡ self.old ++ byte ∷ [] }
     {
         self.bytes[self.len] = byte;
@@ -62,8 +65,8 @@ impl Pending {
     }
 }
 
-/// Puts what waits.
-pub(crate) fn flush<W: Sink>(to: &mut W, pending: &mut Pending) -> Result<(), WriteFault>
+/// Puts what waits. After a fault a prefix of it was appended, and the rest is lost.
+pub fn flush<W: Sink>(to: &mut W, pending: &mut Pending) -> Result<(), WriteFault>
     ensures sends { Sends result []
         (stage (W.written to.old) (W.faults to.old) pending.old)
         (stage (W.written to.new) (W.faults to.new) pending.new) }
@@ -79,7 +82,7 @@ fn make_room<W: Sink>(to: &mut W, pending: &mut Pending) -> Result<(), WriteFaul
     ensures sends { Sends result []
         (stage (W.written to.old) (W.faults to.old) pending.old)
         (stage (W.written to.new) (W.faults to.new) pending.new) }
-    ensures room { OnOk result (length pending.new < PENDING_MAX) }
+    ensures room { OnOk result (length pending.new < PENDING_BYTES_MAX) }
 {
     if pending.has_room() {
         return Ok(());
@@ -87,12 +90,8 @@ fn make_room<W: Sink>(to: &mut W, pending: &mut Pending) -> Result<(), WriteFaul
     flush(to, pending)
 }
 
-/// Sends a byte.
-pub(crate) fn send_byte<W: Sink>(
-    to: &mut W,
-    pending: &mut Pending,
-    byte: u8,
-) -> Result<(), WriteFault>
+/// Sends a byte: it waits, or where the buffer is full what waits is put first.
+pub fn send_byte<W: Sink>(to: &mut W, pending: &mut Pending, byte: u8) -> Result<(), WriteFault>
     ensures { Sends result (byte ∷ [])
         (stage (W.written to.old) (W.faults to.old) pending.old)
         (stage (W.written to.new) (W.faults to.new) pending.new) }
@@ -102,8 +101,8 @@ pub(crate) fn send_byte<W: Sink>(
     Ok(())
 }
 
-/// Sends bytes as they are.
-pub(crate) fn send_bytes<W: Sink>(
+/// Sends bytes, one after another.
+pub fn send_bytes<W: Sink>(
     to: &mut W,
     pending: &mut Pending,
     bytes: &[u8],

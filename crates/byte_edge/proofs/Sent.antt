@@ -4,7 +4,7 @@ use Rattle.std.proofs.lemmas.List.{take_more, take_at}
 use Rattle.std.specs.Io.KnownBytes.{append_known}
 use Rattle.byte_edge.specs.Faults.{Rose, HasCause}
 use Rattle.byte_edge.specs.Took.{AppendedPrefix}
-use Rattle.script_text.specs.Sending.{Stage, Sent, Broke, Sends}
+use Rattle.byte_edge.specs.Sending.{Stage, Sent, Broke, Sends}
 
 append-append : (o : Option (List ℕ)) (xs ys : List ℕ) → append_known (append_known o xs) ys ≡ append_known o (xs ++ ys)
 append-append None xs ys = refl

@@ -1,6 +1,6 @@
 use Rattle.std.proofs.Common.{refl, ◌∷◌, []}
-use Rattle.script_text.proofs.Sent.{failed, sent_none, sent_next, broke_next}
-use Rattle.script_text.proofs.pending.send_bytes.Goals as goal
+use Rattle.byte_edge.proofs.Sent.{failed, sent_none, sent_next, broke_next}
+use Rattle.byte_edge.proofs.pending.send_bytes.Goals as goal
 
 pub loop-byte-init : goal.loop-byte-init
 loop-byte-init g c = sent_none _
