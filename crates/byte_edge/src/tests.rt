@@ -1,7 +1,7 @@
 // Each call over sources and sinks in memory and of std.
 use crate::{
-    MemSink, MemSource, Pending, ReadEnd, Sink, Source, StdSink, StdSource, WriteFault, flush, read_all,
-    send_byte, send_bytes, write_all,
+    MemSink, MemSource, Pending, ReadEnd, Sink, Source, StdSink, StdSource, WriteFault, flush,
+    read_all, send_byte, send_bytes, write_all,
 };
 use std::test::Fail;
 
