@@ -9,7 +9,7 @@ use Rattle.script_text.specs.declared.fault.RefusedScript.{RefusedScript}
 use Rattle.script_text.specs.declared.fault.ScriptRefusal.{ScriptRefusal}
 use Rattle.script_text.specs.declared.fault.ScriptRefusal.TheVariants.{NotUtf8, BadScript, TooManySessions, TooManyCalls, LoadOpen}
 use Rattle.script_text.specs.declared.session_calls.Script.{Script}
-use Rattle.script_text.specs.declared.reading.Reading.{Reading}
+use Rattle.script_text.specs.Scripts.{Reading}
 use Rattle.script_text.specs.declared.kinds.LineKind.{LineKind}
 use Rattle.script_text.specs.declared.kinds.LineKind.TheVariants.{Skipped, Continuation, Session, Order, Call}
 use Rattle.script_text.specs.Scripts.{sessions_of, with_session, with_pyx, with_continuation, with_numbers, with_call, loaded, read_kind, read_line, at_line, step, after, script_of, script, start, sessions_in, opens_load, stays_open, is_end, is_text, kind_of, numbers, split_words, ◌>>=◌}

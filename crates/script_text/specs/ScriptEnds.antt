@@ -8,7 +8,7 @@ use Rattle.script_text.specs.declared.fault.ScriptFault.{ScriptFault}
 use Rattle.script_text.specs.declared.fault.ScriptFault.TheVariants.{Refused, NoMemory}
 use Rattle.script_text.specs.declared.fault.Stop.{Stop}
 use Rattle.script_text.specs.declared.fault.Stop.TheVariants as stops
-use Rattle.script_text.specs.declared.reading.Reading.{Reading}
+use Rattle.script_text.specs.Scripts.{Reading}
 
 -- the answer is what the definition gives, unless memory ran out
 abbrev pub Gives : {A : Type 0} → Result A ScriptFault → Result A RefusedScript → Type 0

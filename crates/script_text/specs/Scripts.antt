@@ -11,7 +11,6 @@ use Rattle.script_text.specs.declared.fault.ScriptRefusal.{ScriptRefusal}
 use Rattle.script_text.specs.declared.fault.ScriptRefusal.TheVariants.{NotUtf8, BadScript, TooManySessions, TooManyCalls, LoadOpen}
 use Rattle.script_text.specs.declared.fault.RefusedScript.{RefusedScript}
 use Rattle.script_text.specs.declared.session_calls.Script.{Script}
-use Rattle.script_text.specs.declared.reading.Reading.{Reading}
 use Rattle.script_text.specs.declared.kinds.LineKind.{LineKind}
 use Rattle.script_text.specs.declared.kinds.LineKind.TheVariants.{Skipped, Continuation, Session, Order, Call}
 
@@ -96,6 +95,18 @@ split_words [] = [] ∷ []
 split_words (b ∷ bs) = if b == 32 then [] ∷ split_words bs else in_front b (split_words bs)
 
 -- ---- reading line by line
+
+-- What has been read: the sessions before the one that has begun last, the calls of that one but for its last, that one, how
+-- many sessions have begun, the order, whether the next line is one of a LOAD, and how many calls and lines there were.
+pub record Reading : Type 0 where
+  pub ended : List (List CallText)
+  pub calls : List CallText
+  pub last : Option CallText
+  pub begun : ℕ
+  pub order : List ℕ
+  pub in_load : Bool
+  pub count : ℕ
+  pub lines : ℕ
 
 abbrev pub start : Reading
 start = record { ended = []; calls = []; last = None; begun = 0; order = []; in_load = false; count = 0; lines = 0 }

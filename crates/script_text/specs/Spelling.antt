@@ -1,91 +1,170 @@
--- How a script is spelled, line by line.
-use Rattle.std.specs.Prelude.{◌≡◌, ◌+◌, ◌<◌, ◌≤◌, ℕ, true, false, List, [], ◌∷◌, ◌++◌, map, length, codes, IsUtf8, Ok}
+-- How a script is spelled, line by line: sessions, each with its calls, and between them any lines that are skipped or that
+-- add to the order.
+use Rattle.std.specs.Prelude.{◌≡◌, ◌+◌, ◌<◌, ◌≤◌, ℕ, true, false, List, [], ◌∷◌, ◌++◌, length, codes, IsUtf8, Ok}
 use Rattle.std.specs.Fmt.{decimal}
 use Rattle.xq_ast.specs.declared.call.CallText.{CallText}
 use Rattle.xml_model.specs.Pyx.{Line}
 use Rattle.script_text.specs.declared.limits.TheConstants.{SESSIONS_MAX, CALLS_MAX}
 use Rattle.script_text.specs.declared.session_calls.Script.{Script}
-use Rattle.script_text.specs.declared.kinds.LineKind.TheVariants.{Continuation, Call}
+use Rattle.script_text.specs.declared.kinds.LineKind.TheVariants.{Skipped, Continuation, Call}
 use Rattle.script_text.specs.Scripts.{is_end, kind_of, opens_load, script}
+
+-- ---- lines beside the calls
+
+-- a line that is skipped, blank or a comment; or a line of an order with its numbers
+pub data Aside : Type 0 where
+  skipped : Line → Aside
+  ordered : List ℕ → Aside
+
+-- each number after a space
+abbrev pub spaced : List ℕ → Line
+spaced [] = []
+spaced (n ∷ ns) = 32 ∷ (decimal n ++ spaced ns)
+
+abbrev pub line_of_aside : Aside → Line
+line_of_aside (skipped line) = line
+line_of_aside (ordered ns) = codes "ORDER" ++ spaced ns
+
+abbrev pub lines_of_asides : List Aside → List Line
+lines_of_asides [] = []
+lines_of_asides (a ∷ more) = line_of_aside a ∷ lines_of_asides more
+
+-- the numbers that they add to the order
+abbrev pub numbers_of : Aside → List ℕ
+numbers_of (skipped line) = []
+numbers_of (ordered ns) = ns
+
+abbrev pub order_of : List Aside → List ℕ
+order_of [] = []
+order_of (a ∷ more) = numbers_of a ++ order_of more
+
+-- numbers of some of these sessions
+abbrev pub AreNumbers : ℕ → List ℕ → Type 0
+AreNumbers most [] = Unit {0}
+AreNumbers most (n ∷ ns) = (0 < n) × (n ≤ most) × AreNumbers most ns
+
+abbrev pub IsAside : ℕ → Aside → Type 0
+IsAside most (skipped line) = IsUtf8 line × (kind_of line ≡ Skipped)
+IsAside most (ordered ns) = (0 < length ns) × AreNumbers most ns
+
+abbrev pub AreAsides : ℕ → List Aside → Type 0
+AreAsides most [] = Unit {0}
+AreAsides most (a ∷ more) = IsAside most a × AreAsides most more
+
+-- ---- calls
+
+-- A line that continues a call, and the lines between.
+pub record MoreLine : Type 0 where
+  pub between : List Aside
+  pub line : Line
 
 -- a call by its lines: a LOAD with its PYX lines, or another with the lines that continue it
 pub data CallLines : Type 0 where
   load : Line → List Line → CallLines
-  other : Line → List Line → CallLines
+  other : Line → List MoreLine → CallLines
+
+abbrev pub lines_of_more : List MoreLine → List Line
+lines_of_more [] = []
+lines_of_more (x ∷ more) = lines_of_asides x.between ++ x.line ∷ lines_of_more more
 
 abbrev pub lines_of_call : CallLines → List Line
 lines_of_call (load first pyx) = first ∷ (pyx ++ codes "." ∷ [])
-lines_of_call (other first more) = first ∷ more
+lines_of_call (other first more) = first ∷ lines_of_more more
 
-abbrev pub joined_by_newlines : List ℕ → List Line → List ℕ
+abbrev pub joined_by_newlines : List ℕ → List MoreLine → List ℕ
 joined_by_newlines text [] = text
-joined_by_newlines text (line ∷ more) = joined_by_newlines (text ++ 10 ∷ line) more
+joined_by_newlines text (x ∷ more) = joined_by_newlines (text ++ 10 ∷ x.line) more
 
 -- the call that these lines spell
 abbrev pub call_spelled : CallLines → CallText
 call_spelled (load first pyx) = record { text = first; pyx = pyx }
 call_spelled (other first more) = record { text = joined_by_newlines first more; pyx = [] }
 
+abbrev pub order_of_more : List MoreLine → List ℕ
+order_of_more [] = []
+order_of_more (x ∷ more) = order_of x.between ++ order_of_more more
+
+abbrev pub order_of_call : CallLines → List ℕ
+order_of_call (load first pyx) = []
+order_of_call (other first more) = order_of_more more
+
 abbrev pub ArePyx : List Line → Type 0
 ArePyx [] = Unit {0}
 ArePyx (line ∷ more) = IsUtf8 line × (is_end line ≡ false) × ArePyx more
 
-abbrev pub AreContinuations : List Line → Type 0
-AreContinuations [] = Unit {0}
-AreContinuations (line ∷ more) = IsUtf8 line × (kind_of line ≡ Continuation) × AreContinuations more
+abbrev pub AreContinuations : ℕ → List MoreLine → Type 0
+AreContinuations most [] = Unit {0}
+AreContinuations most (x ∷ more) = AreAsides most x.between × IsUtf8 x.line × (kind_of x.line ≡ Continuation) × AreContinuations most more
 
 -- each line may stand where it stands
-abbrev pub IsCall : CallLines → Type 0
-IsCall (load first pyx) = IsUtf8 first × (kind_of first ≡ Call) × (opens_load first ≡ true) × ArePyx pyx
-IsCall (other first more) = IsUtf8 first × (kind_of first ≡ Call) × (opens_load first ≡ false) × AreContinuations more
+abbrev pub IsCall : ℕ → CallLines → Type 0
+IsCall most (load first pyx) = IsUtf8 first × (kind_of first ≡ Call) × (opens_load first ≡ true) × ArePyx pyx
+IsCall most (other first more) = IsUtf8 first × (kind_of first ≡ Call) × (opens_load first ≡ false) × AreContinuations most more
 
-abbrev pub lines_of_calls : List CallLines → List Line
+-- ---- sessions
+
+-- A call, and the lines after it that are no call.
+pub record CallPart : Type 0 where
+  pub call : CallLines
+  pub after : List Aside
+
+-- A session: the lines after its first that are no call, and its calls.
+pub record SessionPart : Type 0 where
+  pub before : List Aside
+  pub calls : List CallPart
+
+abbrev pub lines_of_calls : List CallPart → List Line
 lines_of_calls [] = []
-lines_of_calls (c ∷ cs) = lines_of_call c ++ lines_of_calls cs
+lines_of_calls (c ∷ cs) = lines_of_call c.call ++ (lines_of_asides c.after ++ lines_of_calls cs)
 
-abbrev pub AreCalls : List CallLines → Type 0
-AreCalls [] = Unit {0}
-AreCalls (c ∷ cs) = IsCall c × AreCalls cs
+abbrev pub calls_spelled : List CallPart → List CallText
+calls_spelled [] = []
+calls_spelled (c ∷ cs) = call_spelled c.call ∷ calls_spelled cs
 
-abbrev pub lines_of_sessions : List (List CallLines) → List Line
+abbrev pub order_of_calls : List CallPart → List ℕ
+order_of_calls [] = []
+order_of_calls (c ∷ cs) = order_of_call c.call ++ (order_of c.after ++ order_of_calls cs)
+
+abbrev pub AreCalls : ℕ → List CallPart → Type 0
+AreCalls most [] = Unit {0}
+AreCalls most (c ∷ cs) = IsCall most c.call × AreAsides most c.after × AreCalls most cs
+
+abbrev pub lines_of_sessions : List SessionPart → List Line
 lines_of_sessions [] = []
-lines_of_sessions (s ∷ ss) = codes "SESSION" ∷ (lines_of_calls s ++ lines_of_sessions ss)
+lines_of_sessions (s ∷ ss) = codes "SESSION" ∷ (lines_of_asides s.before ++ (lines_of_calls s.calls ++ lines_of_sessions ss))
 
-abbrev pub AreSessions : List (List CallLines) → Type 0
-AreSessions [] = Unit {0}
-AreSessions (s ∷ ss) = AreCalls s × AreSessions ss
+abbrev pub sessions_spelled : List SessionPart → List (List CallText)
+sessions_spelled [] = []
+sessions_spelled (s ∷ ss) = calls_spelled s.calls ∷ sessions_spelled ss
 
-abbrev pub calls_in : List (List CallLines) → ℕ
+abbrev pub order_of_sessions : List SessionPart → List ℕ
+order_of_sessions [] = []
+order_of_sessions (s ∷ ss) = order_of s.before ++ (order_of_calls s.calls ++ order_of_sessions ss)
+
+abbrev pub AreSessions : ℕ → List SessionPart → Type 0
+AreSessions most [] = Unit {0}
+AreSessions most (s ∷ ss) = AreAsides most s.before × AreCalls most s.calls × AreSessions most ss
+
+abbrev pub calls_in : List SessionPart → ℕ
 calls_in [] = 0
-calls_in (s ∷ ss) = length s + calls_in ss
+calls_in (s ∷ ss) = length s.calls + calls_in ss
 
--- each number behind a space
-abbrev pub spaced : List ℕ → Line
-spaced [] = []
-spaced (n ∷ ns) = 32 ∷ (decimal n ++ spaced ns)
+-- ---- scripts
 
--- the line of an order, where there is one
-abbrev pub order_lines : List ℕ → List Line
-order_lines [] = []
-order_lines (n ∷ ns) = (codes "ORDER" ++ spaced (n ∷ ns)) ∷ []
-
-abbrev pub AreNumbers : ℕ → List ℕ → Type 0
-AreNumbers most [] = Unit {0}
-AreNumbers most (n ∷ ns) = (0 < n) × (n ≤ most) × AreNumbers most ns
-
--- sessions and an order within the limits
-pub record IsSpelled (order : List ℕ) (sessions : List (List CallLines)) : Type 0 where
-  pub calls : AreSessions sessions
+-- lines before the first session, and sessions, within the limits; an order names sessions of the whole script
+pub record IsSpelled (before : List Aside) (sessions : List SessionPart) : Type 0 where
+  pub asides : AreAsides (length sessions) before
+  pub calls : AreSessions (length sessions) sessions
   pub few_sessions : length sessions ≤ SESSIONS_MAX
   pub few_calls : calls_in sessions ≤ CALLS_MAX
-  pub numbers : AreNumbers (length sessions) order
 
-abbrev pub lines_of_script : List ℕ → List (List CallLines) → List Line
-lines_of_script order sessions = order_lines order ++ lines_of_sessions sessions
+abbrev pub lines_of_script : List Aside → List SessionPart → List Line
+lines_of_script before sessions = lines_of_asides before ++ lines_of_sessions sessions
 
-abbrev pub script_spelled : List ℕ → List (List CallLines) → Script
-script_spelled order sessions = record { sessions = map (map call_spelled) sessions; order = order }
+abbrev pub script_spelled : List Aside → List SessionPart → Script
+script_spelled before sessions = record { sessions = sessions_spelled sessions; order = order_of before ++ order_of_sessions sessions }
 
 -- what is spelled is read
 abbrev pub IsReadAgain : Type 0
-IsReadAgain = (order : List ℕ) (sessions : List (List CallLines)) → IsSpelled order sessions → script (lines_of_script order sessions) ≡ Ok (script_spelled order sessions)
+IsReadAgain = (before : List Aside) (sessions : List SessionPart) → IsSpelled before sessions
+    → script (lines_of_script before sessions) ≡ Ok (script_spelled before sessions)

@@ -2,8 +2,8 @@
 ghost use Rattle.script_text.specs.JournalRead.{TextTellsItsJournal};
 ghost use Rattle.script_text.specs.Spelling.{IsReadAgain};
 
-/// A script is read as it was spelled.
-#[tactic(auto, using(crate::proofs::SpelledOrder::spelled_is_read))]
+/// A script is read as it was spelled, with lines that are skipped and orders anywhere.
+#[tactic(auto, using(crate::proofs::SpelledAgain::spelled_is_read))]
 pub fn scripts_are_read_again()
     ensures { IsReadAgain }
 {}

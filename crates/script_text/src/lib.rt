@@ -31,8 +31,4 @@ pub use session_calls::{CallTextList, CallTextListList, NumberList, Script};
 pub use write::write_journal;
 
 #[cfg(test)]
-mod journal_tests;
-#[cfg(test)]
-mod script_tests;
-#[cfg(test)]
 mod tests;

@@ -10,6 +10,7 @@ use crate::limits::{CALLS_MAX, SESSIONS_MAX};
 use crate::numbers::push_numbers;
 use crate::session_calls::{CallTextList, CallTextListList, NumberList};
 use std::alloc::Global;
+use std::marker::Model;
 use std::mem;
 use xq_ast::{CallText, NoMemory, Sequence, Str};
 
@@ -29,6 +30,14 @@ pub(crate) struct Reading {
     /// How many calls all sessions have.
     pub count: u64,
     pub lines: u64,
+}
+
+impl Model for Reading {
+    ghost use Rattle.script_text.specs.Scripts as spec;
+
+    ghost Value = { spec.Reading };
+
+    ghost view = { λ r. record { ended = r.ended; calls = r.calls; last = r.last; begun = r.begun; order = r.order; in_load = r.in_load; count = r.count; lines = r.lines } };
 }
 
 pub(crate) fn nothing_read(alloc: Global) -> Reading

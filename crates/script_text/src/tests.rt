@@ -1,125 +1,105 @@
-use crate::write_journal;
+// Scripts and journals: each public call with ample memory, and a sink that fails. What the program shows of scripts that are
+// read or refused stands in pairs of files.
+use crate::{
+    a_text_tells_its_journal, read_journal, read_script, scripts_are_read_again, write_journal,
+};
 use byte_edge::{MemSink, WriteFault};
-use session_core::{BeginKind, Event, Journal, Reply, Says};
+use session_core::{Event, Journal};
 use std::alloc::Global;
 use std::test::Fail;
-use xq_ast::{Code, LockMode, Mark, Need, NeedList, PyxRefusal, Sequence, SpentKind, Str, StrList};
+use xq_ast::{CallText, Sequence, Str};
 
-fn need(alloc: Global, name: &str, mode: LockMode) -> Result<Need, Fail> {
-    Ok(Need {
-        name: Str::of(alloc, name)?,
-        mode,
-    })
+fn show_call(shown: &mut Str, call: &CallText) -> Result<(), Fail> {
+    shown.push_str("<")?;
+    shown.push_str(call.text.as_str())?;
+    for line in call.pyx.as_slice() {
+        shown.push_str("|")?;
+        shown.push_str(line.as_str())?;
+    }
+    shown.push_str(">")?;
+    Ok(())
 }
 
-fn two_needs(alloc: Global) -> Result<NeedList, Fail> {
-    let mut needs = Sequence::new(alloc);
-    needs.push(need(alloc, "a", LockMode::S)?)?;
-    needs.push(need(alloc, "it's", LockMode::X)?)?;
-    Ok(needs)
+// Each call of the first session between brackets, with its lines behind bars.
+fn shown(alloc: Global, text: &str) -> Result<Str, Fail> {
+    let script = read_script(alloc, text.as_bytes())?;
+    let mut shown = Str::new(alloc);
+    if let Some(session) = script.sessions.as_slice().first() {
+        for call in session.as_slice() {
+            show_call(&mut shown, call)?;
+        }
+    }
+    Ok(shown)
 }
 
-fn answered(session: u32, says: Says) -> Event {
-    Event::Answered(session, Reply { call: None, says })
+#[test]
+fn calls_are_read_with_their_lines(rt: HostRuntime) -> Result<(), Fail> {
+    scripts_are_read_again();
+    for (given, wanted) in [
+        ("SESSION\na\n# no\n\nORDER 1\n  b\n\tc\n", "<a\n  b\n\tc>"),
+        (
+            "SESSION\nLOAD 'd'\n(a\n# x\nSESSION\n\n)a\n.\nb\n",
+            "<LOAD 'd'|(a|# x|SESSION||)a><b>",
+        ),
+        (
+            "SESSION\nLOAD\"d\"\n.\nLOAD\n.\nLOADS\n.",
+            "<LOAD\"d\"><LOAD><LOADS><.>",
+        ),
+    ] {
+        assert_eq!(rt; shown(rt.alloc(), given)?.as_str(), wanted);
+    }
+    Ok(())
 }
 
-fn written(alloc: Global, event: Event) -> Result<Vec<u8>, Fail> {
-    let mut journal: Journal = Sequence::new(alloc);
-    journal.push(event)?;
+fn written(alloc: Global, journal: &Journal) -> Result<Vec<u8>, Fail> {
     let mut sink = MemSink::of(alloc, Vec::new(alloc));
-    write_journal(&journal, &mut sink)?;
+    write_journal(journal, &mut sink)?;
     Ok(Vec::from_slice(alloc, sink.bytes())?)
 }
 
 #[test]
-fn lines_of_locks(rt: HostRuntime) -> Result<(), Fail> {
+fn journals_are_read_and_written_back(rt: HostRuntime) -> Result<(), Fail> {
+    a_text_tells_its_journal();
     let alloc = rt.alloc();
-    let granted = Event::Granted(3, two_needs(alloc)?);
-    assert_eq!(rt;
-        written(alloc, granted)?.as_slice(),
-        b"3 granted 'a' S, 'it''s' X\n".as_slice()
-    );
-    let refused = Event::Refused(2, Str::of(alloc, "it's")?, 64, two_needs(alloc)?);
-    assert_eq!(rt;
-        written(alloc, refused)?.as_slice(),
-        b"2 refused 'it''s' by 64\n".as_slice()
-    );
-    Ok(())
-}
-
-#[test]
-fn lines_of_answers(rt: HostRuntime) -> Result<(), Fail> {
-    let alloc = rt.alloc();
-    let mut lines: StrList = Sequence::new(alloc);
-    lines.push(Str::of(alloc, "(a")?)?;
-    lines.push(Str::of(alloc, ")a")?)?;
-    let all = written(alloc, answered(1, Says::Lines(lines)))?;
-    assert_eq!(rt; all.as_slice(), b"1 answer 2\n(a\n)a\n".as_slice());
-    let done = written(alloc, answered(2, Says::Done))?;
-    assert_eq!(rt; done.as_slice(), b"2 done\n".as_slice());
-    let none = written(alloc, answered(2, Says::Ended))?;
-    assert_eq!(rt; none.as_slice(), b"".as_slice());
-    Ok(())
-}
-
-#[test]
-fn lines_of_errors(rt: HostRuntime) -> Result<(), Fail> {
-    let alloc = rt.alloc();
-    let mark = Mark {
-        before: 1,
-        after: 2,
-    };
-    for (code, text) in [
-        (Code::FODC0002, "7 error FODC0002\n"),
-        (Code::Failed { mark }, "7 error Failed\n"),
+    for (text, events) in [
+        ("", 0),
         (
-            Code::Pyx {
-                why: PyxRefusal::EndMismatch,
-                line: 12,
-            },
-            "7 error Pyx EndMismatch 12\n",
+            "1 began update\n1 granted 'd' X\n1 done\n1 doubt 1\n2 began read 0\n2 answer 0\n2 ended\n2 began update\n2 settled 1 yes\n2 committed 2\n",
+            10,
         ),
         (
-            Code::Spent {
-                kind: SpentKind::Commit,
-                number: 18_446_744_073_709_551_615,
-            },
-            "7 error Spent commit 18446744073709551615\n",
+            "1 granted '''' X, 'a'' S, ''b' S, '\u{e9} \u{1f600}' X\n1 refused 'it''s by 1' by 4294967295\n1 rolled back\n1 left\n2 settled 1 no\n",
+            5,
         ),
         (
-            Code::Damaged {
-                commit: 3,
-                ordinal: 0,
-                page: 10,
-            },
-            "7 error Damaged 3 0 10\n",
+            "1 answer 3\n1 done\n\n=\u{e9}\n1 error Pyx BadLine 2\n1 error Damaged 1 0 0\n1 error Failed\n64 began read 18446744073709551615\n",
+            5,
         ),
     ] {
-        let all = written(alloc, answered(7, Says::Error(code)))?;
-        assert_eq!(rt; all.as_slice(), text.as_bytes());
+        let journal = read_journal(alloc, text.as_bytes())?.ok_or("no journal")?;
+        assert_eq!(rt; journal.len(), events);
+        assert_eq!(rt; written(alloc, &journal)?.as_slice(), text.as_bytes());
     }
     Ok(())
 }
 
 #[test]
-fn lines_of_transactions(rt: HostRuntime) -> Result<(), Fail> {
-    let alloc = rt.alloc();
-    let mark = Mark {
-        before: 1,
-        after: 2,
-    };
-    for (event, text) in [
-        (Event::Began(1, BeginKind::Updating), "1 began update\n"),
-        (Event::Began(1, BeginKind::Reading(7)), "1 began read 7\n"),
-        (Event::Committed(1, 8), "1 committed 8\n"),
-        (Event::Ended(4_294_967_295), "4294967295 ended\n"),
-        (Event::RolledBack(1), "1 rolled back\n"),
-        (Event::Doubt(1, 8, mark), "1 doubt 8\n"),
-        (Event::Settled(2, 1, true), "2 settled 1 yes\n"),
-        (Event::Settled(2, 1, false), "2 settled 1 no\n"),
-        (Event::Left(1), "1 left\n"),
+fn no_journal(rt: HostRuntime) -> Result<(), Fail> {
+    for text in [
+        "1 done",
+        "\n1 done\n",
+        "1 done\r\n",
+        "01 done\n",
+        "4294967296 done\n",
+        "1 began read 18446744073709551616\n",
+        "1 granted \n",
+        "1 granted 'a' S,'b' X\n",
+        "1 granted 'it's' S\n",
+        "1 answer 18446744073709551615\n",
+        "1 error FODC0009\n",
+        "1 settled 2 maybe\n",
     ] {
-        assert_eq!(rt; written(alloc, event)?.as_slice(), text.as_bytes());
+        assert!(rt; read_journal(rt.alloc(), text.as_bytes())?.is_none());
     }
     Ok(())
 }
