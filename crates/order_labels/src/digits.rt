@@ -1,3 +1,4 @@
+// The digits of an integer to the base 254.
 ghost use Rattle.std.specs.Prelude.{◌≡◌, ℕ, ◌+◌, ◌^◌, ◌<◌, ◌≤◌, ◌++◌, ◌∷◌, map, IfOk};
 ghost use Rattle.order_labels.specs.LabelOrder.{digit_count, digits};
 ghost use Rattle.order_labels.specs.Sign.{first_byte, digit_byte, number_code};

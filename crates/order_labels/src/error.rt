@@ -1,3 +1,4 @@
+// What a call answers where there is no memory.
 use std::alloc::{AllocError, AllocFailed};
 use thiserror::Error;
 

@@ -1,3 +1,4 @@
+// Fractions of keys: what stands next to one, above and below.
 ghost use Rattle.std.specs.Prelude.{◌≡◌, ◌≢◌, ℕ, List, ◌<◌, ◌+◌, ◌≤◌, ◌++◌, ◌∷◌, max, [], length, IfOk};
 ghost use Rattle.order_labels.specs.KeyValue.{IsFraction};
 ghost use Rattle.order_labels.specs.LabelOrder.{IsBelow};

@@ -1,3 +1,4 @@
+// Keys: an integer and a fraction, and their codes.
 ghost use Rattle.std.specs.Prelude.{◌≡◌, ◌++◌, ◌∷◌, [], ℤ, pos, negsuc, ◌≤ℤ◌, ◌<ℤ◌, ◌-◌, ◌^◌, IfOk};
 ghost use Rattle.order_labels.specs.KeyValue.{whole, IsKey, least_integer};
 ghost use Rattle.order_labels.specs.LabelOrder.{code, integer_code, byte_order};

@@ -1,3 +1,4 @@
+// Labels of nodes: the codes of the keys on the way from the document.
 ghost use Rattle.std.specs.Prelude.{◌≡◌, ◌≢◌, ℕ, List, ◌++◌, ◌∷◌, [], ◌↔◌, length, IfOk, IfSome, IfNone, IsTrue};
 ghost use Rattle.order_labels.specs.KeyValue.{KeyValue, IsKey};
 ghost use Rattle.order_labels.specs.LabelOrder.{byte_order};

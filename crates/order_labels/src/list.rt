@@ -1,3 +1,4 @@
+// Lists of keys, and keys that are spread evenly.
 ghost use Rattle.std.specs.Prelude.{◌≡◌, length, IfOk};
 ghost use Rattle.order_labels.specs.Insertions.{first_keys, IsRising};
 

@@ -1,3 +1,4 @@
+// Keys between neighbours.
 ghost use Rattle.std.specs.Prelude.{◌≡◌, ◌+◌, ◌^◌, ◌≤◌, pos, ◌+ℤ◌, ◌<ℤ◌, max, length, IfOk};
 ghost use Rattle.std.specs.Option.{option_copied};
 ghost use Rattle.order_labels.specs.KeyValue.{IsKey, whole, least_integer};

@@ -1,3 +1,4 @@
+// The order of keys, told without their codes.
 ghost use Rattle.std.specs.Prelude.{◌≡◌};
 ghost use Rattle.order_labels.specs.LabelOrder.{byte_order};
 

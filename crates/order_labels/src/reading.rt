@@ -1,3 +1,4 @@
+// Keys read from their codes, and from labels.
 ghost use Rattle.std.specs.Prelude.{◌≡◌, ◌≢◌, ◌^◌, ◌<◌, ◌≤◌, ◌↔◌, pos, ◌≤ℤ◌, ◌<ℤ◌, length, IfOk, IfSome, IfNone, IsTrue};
 ghost use Rattle.order_labels.specs.KeyValue.{KeyValue, IsKey, IsFraction, least_integer};
 ghost use Rattle.order_labels.specs.LabelOrder.{code};

@@ -1,3 +1,4 @@
+// Keys and labels: the worked codes, many insertions in all directions, and each call once.
 use super::*;
 use std::alloc::Global;
 use std::cmp::Ordering;
@@ -59,34 +60,6 @@ fn spread_of_255(rt: HostRuntime) -> Result<(), Fail> {
     assert_eq!(rt; keys[0].code(alloc)?.as_slice(), [129, 2].as_slice());
     assert_eq!(rt; keys[253].code(alloc)?.as_slice(), [129, 255].as_slice());
     assert_eq!(rt; keys[254].code(alloc)?.as_slice(), [130, 3, 2].as_slice());
-    Ok(())
-}
-
-#[test]
-fn always_before_the_first(rt: HostRuntime) -> Result<(), Fail> {
-    let alloc = rt.alloc();
-    let mut first = between(alloc, None, None)?;
-    for _ in 0..INSERTIONS {
-        let key = between(alloc, None, Some(&first))?;
-        assert!(rt; cmp_keys(&key, &first) == Ordering::Less);
-        first = key;
-    }
-    println!(rt; "before the first: {} bytes", code_len(&first, alloc)?)?;
-    assert_eq!(rt; first.integer(), -2000);
-    Ok(())
-}
-
-#[test]
-fn always_after_the_last(rt: HostRuntime) -> Result<(), Fail> {
-    let alloc = rt.alloc();
-    let mut last = between(alloc, None, None)?;
-    for _ in 0..INSERTIONS {
-        let key = after(alloc, &last)?;
-        assert!(rt; cmp_keys(&last, &key) == Ordering::Less);
-        last = key;
-    }
-    println!(rt; "after the last: {} bytes", code_len(&last, alloc)?)?;
-    assert_eq!(rt; last.integer(), 2000);
     Ok(())
 }
 
