@@ -1,4 +1,4 @@
-// Lists of keys, and keys that are spread evenly.
+// Lists of keys, and keys that are spread evenly: one for each number from 0 on.
 ghost use Rattle.std.specs.Prelude.{◌≡◌, length, IfOk};
 ghost use Rattle.order_labels.specs.Insertions.{first_keys, IsRising};
 

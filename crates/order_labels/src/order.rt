@@ -1,4 +1,4 @@
-// The order of keys, told without their codes.
+// The order of bytes.
 ghost use Rattle.std.specs.Prelude.{◌≡◌};
 ghost use Rattle.order_labels.specs.LabelOrder.{byte_order};
 
