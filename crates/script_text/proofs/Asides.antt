@@ -7,9 +7,9 @@ use Rattle.std.proofs.lemmas.Fmt.{IsAscii-decimal}
 use Rattle.std.proofs.lemmas.Str.{IsUtf8-append, IsUtf8-from_ascii, IsUtf8-nil}
 use Rattle.xq_ast.proofs.Numbers.{has_space-decimal}
 use Rattle.xml_model.specs.Pyx.{Line, next_line, behind_space}
-use Rattle.script_text.specs.declared.fault.ScriptRefusal.TheVariants.{NotUtf8}
-use Rattle.script_text.specs.declared.kinds.LineKind.{LineKind}
-use Rattle.script_text.specs.declared.kinds.LineKind.TheVariants.{Skipped, Order}
+use Rattle.script_text.specs.declared.scripts.fault.ScriptRefusal.TheVariants.{NotUtf8}
+use Rattle.script_text.specs.declared.scripts.kinds.LineKind.{LineKind}
+use Rattle.script_text.specs.declared.scripts.kinds.LineKind.TheVariants.{Skipped, Order}
 use Rattle.script_text.specs.Scripts.{Reading, after, at_line, read_line, read_kind, loaded, is_text, kind_of, both, numbers, split_words, with_numbers, ◌>>=◌}
 use Rattle.script_text.specs.Spelling.{Aside, skipped, ordered, spaced, line_of_aside, lines_of_asides, numbers_of, order_of, AreNumbers, IsAside, AreAsides}
 use Rattle.script_text.proofs.OrderNumbers.{split_words-cut, split_words-one, named_found}

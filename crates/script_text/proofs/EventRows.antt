@@ -18,9 +18,9 @@ use Rattle.session_core.specs.declared.event.Says.{Says}
 use Rattle.session_core.specs.declared.event.Says.TheVariants as says
 use Rattle.session_core.specs.declared.event.Event.{Event}
 use Rattle.session_core.specs.declared.event.Event.TheVariants.{Began, Granted, Refused, Answered, Committed, Ended, RolledBack, Doubt, Settled, Left}
-use Rattle.script_text.specs.declared.journal_rows.Row.{Row}
-use Rattle.script_text.specs.declared.journal_rows.Row.TheVariants as rows
-use Rattle.script_text.specs.declared.journal_rows.TheConstants.{ROWS}
+use Rattle.script_text.specs.declared.journals.rows.Row.{Row}
+use Rattle.script_text.specs.declared.journals.rows.Row.TheVariants as rows
+use Rattle.script_text.specs.declared.journals.rows.TheConstants.{ROWS}
 use Rattle.script_text.specs.JournalText.{doubled, quoted, mode_text, need_text, needs_text, line_of, stands_text, event_lines, told, IsOneLine, AreLines, HaveNames, IsAnswer, IsSession, IsPrinted}
 use Rattle.script_text.specs.JournalRows.{row_word, MissesRows, answer_event, lines_behind, AreUtf8, IsWhole, IsNumbered, IsRow}
 use Rattle.script_text.specs.JournalSteps.{begins_quoted, ReadsLines, ReadsRow}

@@ -5,13 +5,13 @@ use Rattle.std.proofs.lemmas.Bool.{leb-false}
 use Rattle.xq_ast.specs.declared.call.CallText.{CallText}
 use Rattle.xml_model.specs.Pyx.{Line, split_lines, behind_space, next_line}
 use Rattle.script_text.specs.declared.limits.TheConstants.{SESSIONS_MAX, CALLS_MAX}
-use Rattle.script_text.specs.declared.fault.RefusedScript.{RefusedScript}
-use Rattle.script_text.specs.declared.fault.ScriptRefusal.{ScriptRefusal}
-use Rattle.script_text.specs.declared.fault.ScriptRefusal.TheVariants.{NotUtf8, BadScript, TooManySessions, TooManyCalls, LoadOpen}
-use Rattle.script_text.specs.declared.session_calls.Script.{Script}
+use Rattle.script_text.specs.declared.scripts.fault.RefusedScript.{RefusedScript}
+use Rattle.script_text.specs.declared.scripts.fault.ScriptRefusal.{ScriptRefusal}
+use Rattle.script_text.specs.declared.scripts.fault.ScriptRefusal.TheVariants.{NotUtf8, BadScript, TooManySessions, TooManyCalls, LoadOpen}
+use Rattle.script_text.specs.declared.scripts.session_calls.Script.{Script}
 use Rattle.script_text.specs.Scripts.{Reading}
-use Rattle.script_text.specs.declared.kinds.LineKind.{LineKind}
-use Rattle.script_text.specs.declared.kinds.LineKind.TheVariants.{Skipped, Continuation, Session, Order, Call}
+use Rattle.script_text.specs.declared.scripts.kinds.LineKind.{LineKind}
+use Rattle.script_text.specs.declared.scripts.kinds.LineKind.TheVariants.{Skipped, Continuation, Session, Order, Call}
 use Rattle.script_text.specs.Scripts.{sessions_of, with_session, with_pyx, with_continuation, with_numbers, with_call, loaded, read_kind, read_line, at_line, step, after, script_of, script, start, sessions_in, opens_load, stays_open, is_end, is_text, kind_of, numbers, split_words, ◌>>=◌}
 
 -- so many sessions at most have begun, and as many at most are there

@@ -7,8 +7,8 @@ use Rattle.std.proofs.lemmas.Slice.Eq.{bytes_eq-Decides}
 use Rattle.xq_ast.specs.CodeWords.{IsCut, has_space}
 use Rattle.xml_model.specs.Pyx.{in_front}
 use Rattle.script_text.specs.Scripts.{number_named, numbers, both, split_words}
-use Rattle.script_text.specs.declared.fault.Stop.{Stop}
-use Rattle.script_text.specs.declared.fault.Stop.TheVariants as stops
+use Rattle.script_text.specs.declared.scripts.fault.Stop.{Stop}
+use Rattle.script_text.specs.declared.scripts.fault.Stop.TheVariants as stops
 use Rattle.script_text.specs.ScriptEnds.{with_more, Lists}
 
 -- neither holds where not one of two holds

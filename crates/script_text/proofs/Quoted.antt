@@ -6,7 +6,7 @@ use Rattle.xq_ast.specs.declared.memory.NoMemory.{NoMemory}
 use Rattle.xq_ast.specs.declared.need.LockMode.{LockMode}
 use Rattle.xq_ast.specs.declared.need.LockMode.TheVariants.{S, X}
 use Rattle.xq_ast.specs.declared.need.Need.{Need}
-use Rattle.script_text.specs.declared.journal_parts.NameText.{NameText}
+use Rattle.script_text.specs.declared.journals.parts.NameText.{NameText}
 use Rattle.script_text.specs.Pieces.{others_text}
 use Rattle.script_text.specs.JournalText.{doubled, quoted, mode_text, need_text, needs_text}
 use Rattle.script_text.specs.JournalRows.{AreUtf8}

@@ -4,8 +4,8 @@ use Rattle.std.specs.Prelude.{codes, option_to_list}
 use Rattle.xq_ast.specs.declared.call.CallText.{CallText}
 use Rattle.xml_model.specs.Pyx.{Line, next_line}
 use Rattle.script_text.specs.declared.limits.TheConstants.{SESSIONS_MAX, CALLS_MAX}
-use Rattle.script_text.specs.declared.fault.ScriptRefusal.TheVariants.{NotUtf8, BadScript, TooManySessions, TooManyCalls, LoadOpen}
-use Rattle.script_text.specs.declared.kinds.LineKind.TheVariants.{Continuation, Session, Call}
+use Rattle.script_text.specs.declared.scripts.fault.ScriptRefusal.TheVariants.{NotUtf8, BadScript, TooManySessions, TooManyCalls, LoadOpen}
+use Rattle.script_text.specs.declared.scripts.kinds.LineKind.TheVariants.{Continuation, Session, Call}
 use Rattle.script_text.specs.Scripts.{Reading, after, read_line, loaded, continued, with_session, is_end, has_end, kind_of, opens_load, sessions_of, call_of}
 use Rattle.script_text.specs.Spelling.{lines_of_asides, order_of, AreAsides, MoreLine, CallLines, load, other, lines_of_more, lines_of_call, joined_by_newlines, call_spelled, order_of_more, order_of_call, ArePyx, AreContinuations, IsCall, CallPart, SessionPart, lines_of_calls, calls_spelled, order_of_calls, AreCalls, lines_of_sessions, sessions_spelled, order_of_sessions, AreSessions, calls_in}
 use Rattle.script_text.proofs.ScriptLines.{text_is_text}

@@ -3,8 +3,8 @@ use Rattle.std.proofs.Common.{◌≡◌, ℕ, ◌+◌, ◌<◌, ◌≤◌, ◌^�
 use Rattle.std.specs.Prelude.{codes}
 use Rattle.xml_model.specs.Pyx.{Line}
 use Rattle.script_text.specs.declared.limits.TheConstants.{SESSIONS_MAX, CALLS_MAX}
-use Rattle.script_text.specs.declared.session_calls.Script.{Script}
-use Rattle.script_text.specs.declared.kinds.LineKind.TheVariants.{Skipped, Continuation, Session, Order, Call}
+use Rattle.script_text.specs.declared.scripts.session_calls.Script.{Script}
+use Rattle.script_text.specs.declared.scripts.kinds.LineKind.TheVariants.{Skipped, Continuation, Session, Order, Call}
 use Rattle.script_text.specs.Scripts.{Reading, after, is_blank, is_blank_byte, begins_with, is_session, is_order, kind_of, one_if, opens_load, sessions_in, sessions_of, script_of, start, ◌>>=◌}
 use Rattle.script_text.specs.Spelling.{Aside, skipped, ordered, line_of_aside, lines_of_asides, order_of, IsAside, AreAsides, MoreLine, CallLines, load, other, lines_of_more, lines_of_call, ArePyx, AreContinuations, IsCall, CallPart, SessionPart, lines_of_calls, AreCalls, lines_of_sessions, sessions_spelled, order_of_sessions, AreSessions, calls_in, lines_of_script, script_spelled, IsReadAgain}
 use Rattle.script_text.proofs.Asides.{at, plus, asides_read}

@@ -3,8 +3,8 @@ use Rattle.std.proofs.Common.{◌≡◌, ◌≢◌, ℕ, List, [], ◌∷◌, �
 use Rattle.xq_ast.specs.declared.memory.NoMemory.{NoMemory}
 use Rattle.xml_model.specs.Pyx.{Line, IsPlain, IsCutLine, text_of}
 use Rattle.session_core.specs.declared.event.Event.{Event}
-use Rattle.script_text.specs.declared.journal_rows.Row.{Row}
-use Rattle.script_text.specs.declared.journal_read.EventText.{EventText}
+use Rattle.script_text.specs.declared.journals.rows.Row.{Row}
+use Rattle.script_text.specs.declared.journals.reading.EventText.{EventText}
 use Rattle.script_text.specs.JournalText.{line_of, event_lines, journal_lines, text, told, AreLines, IsSession, IsPrinted, ArePrinted}
 use Rattle.script_text.specs.JournalRows.{row_word, lines_behind, IsRow}
 use Rattle.script_text.specs.JournalRead.{TellNothing, Tells, TextTellsItsJournal}

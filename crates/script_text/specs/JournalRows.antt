@@ -10,8 +10,8 @@ use Rattle.session_core.specs.declared.event.Says.{Says}
 use Rattle.session_core.specs.declared.event.Says.TheVariants as says
 use Rattle.session_core.specs.declared.event.Event.{Event}
 use Rattle.session_core.specs.declared.event.Event.TheVariants.{Began, Granted, Refused, Answered, Committed, Ended, RolledBack, Doubt, Settled, Left}
-use Rattle.script_text.specs.declared.journal_rows.Row.{Row}
-use Rattle.script_text.specs.declared.journal_rows.Row.TheVariants as rows
+use Rattle.script_text.specs.declared.journals.rows.Row.{Row}
+use Rattle.script_text.specs.declared.journals.rows.Row.TheVariants as rows
 use Rattle.script_text.specs.JournalText.{quoted, needs_text, stands_text, AreLines, IsSession}
 
 -- the words of a row, up to where events of one row differ

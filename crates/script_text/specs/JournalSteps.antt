@@ -4,12 +4,12 @@ use Rattle.xq_ast.specs.declared.need.LockMode.{LockMode}
 use Rattle.xq_ast.specs.declared.need.Need.{Need}
 use Rattle.xml_model.specs.Pyx.{Line, text_of}
 use Rattle.session_core.specs.declared.event.Event.{Event}
-use Rattle.script_text.specs.declared.journal_rows.Row.{Row}
-use Rattle.script_text.specs.declared.journal_parts.NameText.{NameText}
-use Rattle.script_text.specs.declared.journal_parts.ModeText.{ModeText}
-use Rattle.script_text.specs.declared.journal_parts.NeedText.{NeedText}
-use Rattle.script_text.specs.declared.journal_parts.LinesText.{LinesText}
-use Rattle.script_text.specs.declared.journal_read.EventText.{EventText}
+use Rattle.script_text.specs.declared.journals.rows.Row.{Row}
+use Rattle.script_text.specs.declared.journals.parts.NameText.{NameText}
+use Rattle.script_text.specs.declared.journals.parts.ModeText.{ModeText}
+use Rattle.script_text.specs.declared.journals.parts.NeedText.{NeedText}
+use Rattle.script_text.specs.declared.journals.parts.LinesText.{LinesText}
+use Rattle.script_text.specs.declared.journals.reading.EventText.{EventText}
 use Rattle.script_text.specs.JournalText.{quoted, mode_text, need_text, needs_text, event_lines, told, AreLines, IsPrinted}
 use Rattle.script_text.specs.JournalRows.{AreUtf8, IsRow, lines_behind}
 

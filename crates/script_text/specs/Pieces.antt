@@ -1,8 +1,8 @@
 -- The parts that a line of a journal is put together of.
 use Rattle.std.specs.Prelude.{ℕ, List, [], ◌∷◌, ◌++◌, codes}
 use Rattle.std.specs.Fmt.{decimal}
-use Rattle.script_text.specs.declared.pieces.Piece.{Piece}
-use Rattle.script_text.specs.declared.pieces.Piece.TheVariants.{Words, Number, Doubled}
+use Rattle.script_text.specs.declared.journals.pieces.Piece.{Piece}
+use Rattle.script_text.specs.declared.journals.pieces.Piece.TheVariants.{Words, Number, Doubled}
 use Rattle.xq_ast.specs.declared.need.Need.{Need}
 use Rattle.script_text.specs.JournalText.{doubled, need_text}
 

@@ -1,13 +1,13 @@
 -- What the parts of reading a script answer.
 use Rattle.std.specs.Prelude.{◌≡◌, ◌<◌, ℕ, List, ◌∷◌, ◌++◌, length, Option, None, Some, Result, Ok, Err}
 use Rattle.xml_model.specs.Pyx.{split_lines}
-use Rattle.script_text.specs.declared.fault.ScriptRefusal.{ScriptRefusal}
-use Rattle.script_text.specs.declared.fault.ScriptRefusal.TheVariants.{BadScript}
-use Rattle.script_text.specs.declared.fault.RefusedScript.{RefusedScript}
-use Rattle.script_text.specs.declared.fault.ScriptFault.{ScriptFault}
-use Rattle.script_text.specs.declared.fault.ScriptFault.TheVariants.{Refused, NoMemory}
-use Rattle.script_text.specs.declared.fault.Stop.{Stop}
-use Rattle.script_text.specs.declared.fault.Stop.TheVariants as stops
+use Rattle.script_text.specs.declared.scripts.fault.ScriptRefusal.{ScriptRefusal}
+use Rattle.script_text.specs.declared.scripts.fault.ScriptRefusal.TheVariants.{BadScript}
+use Rattle.script_text.specs.declared.scripts.fault.RefusedScript.{RefusedScript}
+use Rattle.script_text.specs.declared.scripts.fault.ScriptFault.{ScriptFault}
+use Rattle.script_text.specs.declared.scripts.fault.ScriptFault.TheVariants.{Refused, NoMemory}
+use Rattle.script_text.specs.declared.scripts.fault.Stop.{Stop}
+use Rattle.script_text.specs.declared.scripts.fault.Stop.TheVariants as stops
 use Rattle.script_text.specs.Scripts.{Reading}
 
 -- the answer is what the definition gives, unless memory ran out

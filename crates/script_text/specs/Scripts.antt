@@ -7,12 +7,12 @@ use Rattle.std.specs.Str.Lossy.{utf8_valid_len}
 use Rattle.xq_ast.specs.declared.call.CallText.{CallText}
 use Rattle.xml_model.specs.Pyx.{Line, before_space, behind_space, in_front, next_line}
 use Rattle.script_text.specs.declared.limits.TheConstants.{SESSIONS_MAX, CALLS_MAX}
-use Rattle.script_text.specs.declared.fault.ScriptRefusal.{ScriptRefusal}
-use Rattle.script_text.specs.declared.fault.ScriptRefusal.TheVariants.{NotUtf8, BadScript, TooManySessions, TooManyCalls, LoadOpen}
-use Rattle.script_text.specs.declared.fault.RefusedScript.{RefusedScript}
-use Rattle.script_text.specs.declared.session_calls.Script.{Script}
-use Rattle.script_text.specs.declared.kinds.LineKind.{LineKind}
-use Rattle.script_text.specs.declared.kinds.LineKind.TheVariants.{Skipped, Continuation, Session, Order, Call}
+use Rattle.script_text.specs.declared.scripts.fault.ScriptRefusal.{ScriptRefusal}
+use Rattle.script_text.specs.declared.scripts.fault.ScriptRefusal.TheVariants.{NotUtf8, BadScript, TooManySessions, TooManyCalls, LoadOpen}
+use Rattle.script_text.specs.declared.scripts.fault.RefusedScript.{RefusedScript}
+use Rattle.script_text.specs.declared.scripts.session_calls.Script.{Script}
+use Rattle.script_text.specs.declared.scripts.kinds.LineKind.{LineKind}
+use Rattle.script_text.specs.declared.scripts.kinds.LineKind.TheVariants.{Skipped, Continuation, Session, Order, Call}
 
 -- ---- lines
 

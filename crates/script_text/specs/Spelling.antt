@@ -5,8 +5,8 @@ use Rattle.std.specs.Fmt.{decimal}
 use Rattle.xq_ast.specs.declared.call.CallText.{CallText}
 use Rattle.xml_model.specs.Pyx.{Line}
 use Rattle.script_text.specs.declared.limits.TheConstants.{SESSIONS_MAX, CALLS_MAX}
-use Rattle.script_text.specs.declared.session_calls.Script.{Script}
-use Rattle.script_text.specs.declared.kinds.LineKind.TheVariants.{Skipped, Continuation, Call}
+use Rattle.script_text.specs.declared.scripts.session_calls.Script.{Script}
+use Rattle.script_text.specs.declared.scripts.kinds.LineKind.TheVariants.{Skipped, Continuation, Call}
 use Rattle.script_text.specs.Scripts.{is_end, kind_of, opens_load, script}
 
 -- ---- lines beside the calls

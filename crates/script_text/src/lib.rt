@@ -8,27 +8,18 @@
 //! no journal as programs print them; a text determines its journal but for what it does not tell.
 #![tactic(auto)]
 
-mod by_lines;
-mod fault;
-mod journal_parts;
-mod journal_read;
-mod journal_rows;
-mod kinds;
+mod journals;
 mod laws;
 mod limits;
-mod numbers;
-mod pieces;
-mod reading;
-mod session_calls;
-mod write;
+mod scripts;
 
-pub use by_lines::read_script;
-pub use fault::{RefusedScript, ScriptFault, ScriptRefusal};
-pub use journal_read::read_journal;
+pub use journals::reading::read_journal;
+pub use journals::writing::write_journal;
 pub use laws::{a_text_tells_its_journal, scripts_are_read_again};
 pub use limits::{CALLS_MAX, SESSIONS_MAX};
-pub use session_calls::{CallTextList, CallTextListList, NumberList, Script};
-pub use write::write_journal;
+pub use scripts::by_lines::read_script;
+pub use scripts::fault::{RefusedScript, ScriptFault, ScriptRefusal};
+pub use scripts::session_calls::{CallTextList, CallTextListList, NumberList, Script};
 
 #[cfg(test)]
 mod tests;

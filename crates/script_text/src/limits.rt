@@ -1,3 +1,4 @@
+// How large a script may be.
 /// The most sessions of a script.
 pub const SESSIONS_MAX: u64 = 64;
 

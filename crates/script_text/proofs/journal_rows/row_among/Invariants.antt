@@ -1,6 +1,0 @@
-use Rattle.std.proofs.Common.{drop}
-use Rattle.script_text.specs.JournalRows.{MissesRows}
-use Rattle.script_text.proofs.journal_rows.row_among.Given as goal
-
-abbrev pub invariant-loop-row : goal.invariant-loop-row
-invariant-loop-row l = MissesRows l.words (drop l.row-index l.rows) → MissesRows l.words l.fn.rows

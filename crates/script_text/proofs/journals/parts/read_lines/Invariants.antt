@@ -1,0 +1,7 @@
+use denote.Text.{Utf8}
+use denote.Shadow.{shadow}
+use Rattle.script_text.proofs.EventRows.{LinesSoFar}
+use Rattle.script_text.proofs.journals.parts.read_lines.Given as goal
+
+abbrev pub invariant-loop : goal.invariant-loop
+invariant-loop l = shadow (Utf8 l.rest) × LinesSoFar l.counter l.lines l.rest l.fn.text

@@ -1,0 +1,13 @@
+use Rattle.std.proofs.Common.{append-nil}
+use Rattle.script_text.specs.JournalText.{text}
+use Rattle.byte_edge.proofs.Sent.{failed, sends_then, sends_as, sends_prefix}
+use Rattle.script_text.proofs.journals.writing.write_journal.Goals as goal
+
+pub returns-in_err-send_events-clause-prefix : goal.returns-in_err-send_events-clause-prefix
+returns-in_err-send_events-clause-prefix g c =
+    sends_prefix c.from_residual.result _ _ _ c.new-pending.ensures (failed c.from_residual.result c.from_residual.ensures.0 c.in_err-send_events.ensures)
+
+pub returns-clause-prefix : goal.returns-clause-prefix
+returns-clause-prefix g c =
+    sends_prefix c.flush.result _ _ _ c.new-pending.ensures
+    (sends_as c.flush.result _ _ _ _ (append-nil (text c.args.journal.now)) (sends_then c.flush.result _ _ c.in_ok-send_events.ensures c.flush.ensures.sends))
