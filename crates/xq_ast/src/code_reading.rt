@@ -112,8 +112,8 @@ fn begins_as_number(bytes: &[u8]) -> bool
     }
 }
 
-/// The number that is written so in decimal without leading zeros.
-fn number_of(text: &str) -> Option<u64>
+/// The number of 64 bits that is written so in decimal, without a sign and without leading zeros.
+pub fn number_of(text: &str) -> Option<u64>
     ensures found { IfSome result (λ n. decimal n ≡ text.now) }
     ensures none { IsNone result → (n : ℕ) → n < 2 ^ 64 → decimal n ≢ text.now }
 {
@@ -126,8 +126,8 @@ fn number_of(text: &str) -> Option<u64>
     }
 }
 
-/// What stands before the first space, and what behind it.
-fn cut(text: &str) -> Option<(&str, &str)>
+/// What stands before the first space, and what behind it; none where there is no space.
+pub fn cut(text: &str) -> Option<(&str, &str)>
     ensures { MatchOption result (has_space text.now ≡ false) (λ x. IsCut text.now x.0.now x.1.now) }
 {
     text.split_once(' ')

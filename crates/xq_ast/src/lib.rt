@@ -31,7 +31,7 @@ mod update;
 
 pub use call::{Call, CallText};
 pub use code::{Code, Mark, SpentKind};
-pub use code_reading::text_determines_code;
+pub use code_reading::{cut, number_of, text_determines_code};
 pub use kind::Kind;
 pub use limits::{
     BRACKETS_MAX, CALL_BYTES_MAX, DOCUMENT_NAME_BYTES_MAX, INTEGER_MAX, NAME_BYTES_MAX,

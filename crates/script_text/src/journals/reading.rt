@@ -9,10 +9,9 @@ ghost use Rattle.script_text.specs.JournalText.{ArePrinted};
 
 use crate::journals::parts::{cut_line, read_lines, read_needs, read_quoted, stands_of};
 use crate::journals::rows::{LineStart, Row, behind, line_start, session_of};
-use crate::scripts::numbers::{cut, number_of};
 use session_core::{BeginKind, Event, Journal, Reply, Says};
 use std::alloc::Global;
-use xq_ast::{Code, Mark, NoMemory, Sequence, Str};
+use xq_ast::{Code, Mark, NoMemory, Sequence, Str, cut, number_of};
 
 const NO_MARK: Mark = Mark {
     before: 0,

@@ -4,7 +4,7 @@ ghost use Rattle.std.specs.Fmt.{decimal};
 ghost use Rattle.script_text.specs.JournalRows.{MissesRows, row_word};
 ghost use Rattle.script_text.specs.JournalText.{IsSession, line_of};
 
-use crate::scripts::numbers::{cut, number_of};
+use xq_ast::{cut, number_of};
 
 /// The rows of the table of a journal's lines. `Began` has two, and each answer one.
 #[derive(Clone, Copy, Debug, PartialEq, Eq)]

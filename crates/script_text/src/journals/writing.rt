@@ -17,7 +17,7 @@ ghost use Rattle.byte_edge.specs.Sending.{Sends, stage};
 use crate::journals::pieces::{Piece, send_pieces};
 use byte_edge::{Pending, Sink, WriteFault, flush, send_byte, send_bytes};
 use session_core::{BeginKind, Event, Journal, Says};
-use xq_ast::{Code, LockMode, Need, NeedList, SpentKind, Str, StrList, name_of_refusal};
+use xq_ast::{Code, LockMode, Need, NeedList, SpentKind, Str, StrList};
 
 fn word_of_mode(mode: LockMode) -> &'static str
     ensures { result.now ≡ spec.mode_text mode }
@@ -294,7 +294,7 @@ fn send_code<W: Sink>(to: &mut W, pending: &mut Pending, code: &Code) -> Result<
             pending,
             &[
                 Piece::Words("Pyx "),
-                Piece::Words(name_of_refusal(*why)),
+                Piece::Words(why.name()),
                 Piece::Words(" "),
                 Piece::Number(*line),
             ],

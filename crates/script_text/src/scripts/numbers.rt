@@ -1,44 +1,11 @@
-// Numbers of scripts and journals.
-ghost use Rattle.std.specs.Prelude.{◌≡◌, ◌≢◌, ◌↔◌, ◌<◌, ◌^◌, ◌≤◌, ◌∷◌, [], ℕ, length, slice_index, IsTrue, IsNone, IfSome, MatchOption, false};
-ghost use Rattle.std.specs.Fmt.{decimal};
-ghost use Rattle.xq_ast.specs.CodeWords.{IsCut, has_space};
+// The numbers of an order.
+ghost use Rattle.std.specs.Prelude.{◌≡◌, ◌∷◌, []};
 ghost use Rattle.script_text.specs.Scripts as spec;
 ghost use Rattle.script_text.specs.ScriptEnds.{Lists};
 
 use crate::scripts::fault::{ScriptRefusal, Stop};
 use crate::scripts::session_calls::NumberList;
-
-/// What stands before the first space, and what behind it.
-pub(crate) fn cut(text: &str) -> Option<(&str, &str)>
-    ensures { MatchOption result (has_space text.now ≡ false) (λ x. IsCut text.now x.0.now x.1.now) }
-{
-    text.split_once(' ')
-}
-
-// Whether a number may begin so: with no sign, and with a zero only where it is 0.
-fn begins_as_number(bytes: &[u8]) -> bool
-    ensures { IsTrue result ↔ ((slice_index bytes.now 0 ≢ 43) × (slice_index bytes.now 0 ≡ 48 → length bytes.now ≡ 1)) }
-{
-    match bytes {
-        [] => true,
-        [first] => *first != b'+',
-        [first, _, ..] => *first != b'+' && *first != b'0',
-    }
-}
-
-/// The number that is written so in decimal without leading zeros.
-pub(crate) fn number_of(text: &str) -> Option<u64>
-    ensures found { IfSome result (λ n. decimal n ≡ text.now) }
-    ensures none { IsNone result → (n : ℕ) → n < 2 ^ 64 → decimal n ≢ text.now }
-{
-    if !begins_as_number(text.as_bytes()) {
-        return None;
-    }
-    match text.parse::<u64>() {
-        Ok(number) => Some(number),
-        Err(_) => None,
-    }
-}
+use xq_ast::{cut, number_of};
 
 // The number from 1 to `most` that is written so.
 #[tactic(auto, using(crate::proofs::OrderNumbers::number_laws))]
