@@ -1,5 +1,6 @@
 pub mod Entries
 pub mod Escapes
+pub mod Formed
 pub mod Forests
 pub mod Framing
 pub mod Laying

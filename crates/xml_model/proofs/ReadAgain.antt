@@ -10,7 +10,8 @@ use Rattle.xml_model.specs.declared.node.Node.TheVariants.{Element}
 use Rattle.xq_ast.specs.Names.{is_name}
 use Rattle.xml_model.specs.Trees.{count_of, count_node, count_step, bytes_of, bytes_node, bytes_step, depth_of, depth_step, has_attribute, value_bytes}
 use Rattle.xml_model.specs.Values.{escaped}
-use Rattle.xml_model.specs.Document.{IsValid, IsFormed, AreFormed, AllFormed, IsApart, AreAttributes, is_text}
+use Rattle.xml_model.specs.Document.{IsValid}
+use Rattle.xml_model.proofs.Formed.{IsFormed, AreFormed, AllFormed, IsApart, AreAttributes, is_text, valid_has_form}
 use Rattle.xml_model.specs.Pyx.{Line, OpenElement, ends_in_text, after, next_line, attribute_line, behind_target, pyx_step, pyx_node, pyx_of, start, ended, ◌>>=◌, read, pyx}
 use Rattle.xml_model.proofs.Lines.{bytes_eq_sym, state, opened, begins_after, ends_after, attribute_after, characters_after, instruction_after}
 use Rattle.xml_model.proofs.Nodes.{fold-Text, fold-Pi, fold-Element, fold-Element', made-Element', is_text-layer}
@@ -245,5 +246,6 @@ list_reads (x ∷ xs) here tag n b l formed apart fits =
 pub read_again : (doc : Doc) → IsValid doc → read (pyx doc) ≡ Ok doc
 read_again doc valid =
     let fits : Fits 0 0 0 doc.kids = record { deep = omega (arith, valid.depth); few = omega (arith, valid.nodes); short = omega (arith, valid.text) } in
-    let all = list_reads doc.kids [] false 0 0 0 valid.formed valid.apart fits in
+    let form = valid_has_form doc valid in
+    let all = list_reads doc.kids [] false 0 0 0 form.formed form.apart fits in
     ap (λ lines. after lines start >>= ended) (sym (append-nil (pyx doc))) ∙ ap (λ r. r >>= ended) all.reads

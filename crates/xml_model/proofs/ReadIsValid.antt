@@ -13,7 +13,8 @@ use Rattle.xml_model.specs.declared.node.Node.TheVariants.{Element, outs-Element
 use Rattle.xq_ast.specs.Names.{is_name}
 use Rattle.xml_model.specs.Trees.{count_of, count_step, bytes_of, bytes_step, depth_of, depth_step, has_attribute, value_bytes}
 use Rattle.xml_model.specs.Counts.{open_nodes, open_bytes, IsCounted}
-use Rattle.xml_model.specs.Document.{IsValid, AllFormed, IsApart, AreAttributes, is_text}
+use Rattle.xml_model.specs.Document.{IsValid}
+use Rattle.xml_model.proofs.Formed.{AllFormed, IsApart, AreAttributes, is_text, HasForm, form_is_valid}
 use Rattle.xml_model.specs.Pyx.{Line, Form, no_form, begins, ends, attribute, characters, instruction, form, OpenElement, Reading, start, refusal, taken, next_line, closed, step, stepped, after, ended, ended_at, ◌>>=◌, read, closes, has_already, texts_added, with_characters, with_attribute}
 use Rattle.xml_model.proofs.Lines.{bytes_eq_sym}
 use Rattle.xml_model.proofs.Nodes.{fold-Text, fold-Pi, fold-Element, count_of-push, bytes_of-push, depth_of-push, AllFormed-push, IsApart-push, formed-Element}
@@ -268,10 +269,10 @@ after_kept (line ∷ lines) r then e s =
 
 -- at the end no element is open
 
-ended_valid : (stack : List OpenElement) (r : Reading) (doc : Doc) → ended_at stack r ≡ Ok doc → IsSound stack r.here r.in_tag r.nodes r.bytes → IsValid doc
+ended_valid : (stack : List OpenElement) (r : Reading) (doc : Doc) → ended_at stack r ≡ Ok doc → IsSound stack r.here r.in_tag r.nodes r.bytes → HasForm doc
 ended_valid [] r doc e s =
     let same : record { kids = r.here } ≡ doc = cc in
-    subst IsValid same (record { formed = s.formed; apart = s.apart; depth = omega (arith, s.deep); nodes = omega (arith, s.counted, s.few); text = omega (arith, s.measured, s.short) })
+    subst HasForm same (record { formed = s.formed; apart = s.apart; depth = omega (arith, s.deep); nodes = omega (arith, s.counted, s.few); text = omega (arith, s.measured, s.short) })
 ended_valid (f ∷ outer) r doc e s = cc
 
 -- it holds at the start
@@ -282,7 +283,7 @@ start_sound = record { inside = λ h. absurd (true≢false (sym h)); are_open = 
 pub read_is_valid : (lines : List Line) (doc : Doc) → read lines ≡ Ok doc → IsValid doc
 read_is_valid lines doc e =
     let p = ok_parts (after lines start) ended doc e in
-    ended_valid p.0.stack p.0 doc p.2 (after_kept lines start p.0 p.1 start_sound)
+    form_is_valid doc (ended_valid p.0.stack p.0 doc p.2 (after_kept lines start p.0 p.1 start_sound))
 
 -- what has been read is counted
 pub read_is_counted : (lines : List Line) (r : Reading) → after lines start ≡ Ok r → IsCounted r

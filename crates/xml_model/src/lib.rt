@@ -19,7 +19,10 @@ mod limits;
 mod measure;
 mod node;
 mod place;
+#[cfg(test)]
+mod tests;
 mod text_lines;
+mod valid;
 
 pub use call_needs::needs;
 pub use changes::DocChanges;
@@ -32,4 +35,5 @@ pub use limits::{DEPTH_MAX, NODES_MAX, REPLY_BYTES_MAX, TEXT_BYTES_MAX};
 pub use node::{Attr, AttrList, Doc, Measure, Node, NodeList, RefusedLine};
 pub use place::{Place, PlaceStep, place_order};
 pub use text_lines::{FirstLine, first_line};
+pub use valid::has_attribute;
 pub use xq_ast::{NAME_BYTES_MAX, is_name};
