@@ -328,7 +328,12 @@ fn a_name_is_told_by_its_bytes(rt: HostRuntime) -> Result<(), Fail> {
 
 #[test]
 fn a_document_name_is_told_by_its_bytes(rt: HostRuntime) {
-    for (text, want) in [("", false), (" ", true), ("a/\u{e9}", true), ("a\tb", false)] {
+    for (text, want) in [
+        ("", false),
+        (" ", true),
+        ("a/\u{e9}", true),
+        ("a\tb", false),
+    ] {
         assert_eq!(rt; is_document_name(text), want, "of {text}");
     }
 }
