@@ -7,7 +7,7 @@ ghost use Rattle.xq_parse.specs.Reads.{Gives};
 
 use crate::answer::ParseEnd;
 use crate::nesting::is_nested_well;
-use crate::piece::{Tokens, tokens};
+use crate::piece::{SpelledTokens, tokens};
 use crate::rows::{call_of, has_good_names};
 use std::alloc::Global;
 use xq_ast::{CALL_BYTES_MAX, Call, CallText};
@@ -19,7 +19,7 @@ fn read(alloc: Global, call: &CallText) -> Result<Call, ParseEnd>
     if call.text.len() > CALL_BYTES_MAX {
         return Err(ParseEnd::TooLong);
     }
-    let Tokens { tokens, .. } = tokens(alloc, call.text.as_str())?;
+    let SpelledTokens { tokens, .. } = tokens(alloc, call.text.as_str())?;
     if !is_nested_well(tokens.as_slice()) {
         return Err(ParseEnd::NestedTooDeep);
     }

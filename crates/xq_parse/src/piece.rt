@@ -45,12 +45,12 @@ fn first_piece(alloc: Global, bytes: &[u8]) -> Result<Piece<'_>, ParseEnd>
 
 /// The tokens of a text, and how many bytes each of them has in its own spelling.
 #[derive(Drop)]
-pub(crate) struct Tokens {
+pub(crate) struct SpelledTokens {
     pub(crate) tokens: TokenList,
     pub(crate) lengths: Sequence<usize>,
 }
 
-impl Tokens {
+impl SpelledTokens {
     /// Adds a piece that is spelled with so many bytes, where it is a token.
     fn add(&mut self, token: Option<Token>, length: usize) -> Result<(), NoMemory>
         ensures tokens { OnOk result (self.new.tokens ≡ self.old.tokens ++ map (λ s. s.token) (spec.with_piece token length [])) }
@@ -67,11 +67,11 @@ impl Tokens {
 }
 
 /// The tokens of a text.
-pub(crate) fn tokens(alloc: Global, text: &str) -> Result<Tokens, ParseEnd>
+pub(crate) fn tokens(alloc: Global, text: &str) -> Result<SpelledTokens, ParseEnd>
     ensures tokens { Reads (λ t. t.tokens) result (spec.tokens text.now) }
     ensures lengths { Reads (λ t. t.lengths) result (spec.token_lengths text.now) }
 {
-    let mut all = Tokens {
+    let mut all = SpelledTokens {
         tokens: TokenList::new(alloc),
         lengths: Sequence::new(alloc),
     };
