@@ -91,11 +91,11 @@ text_same (Pi target value) = ap (λ x. x.is_text) (instruction_is target value)
 
 -- ---- attributes
 
-attributes_hold : (attrs : List Attr) → AreAttributes attrs → IsTrue (are_attributes attrs)
+pub attributes_hold : (attrs : List Attr) → AreAttributes attrs → IsTrue (are_attributes attrs)
 attributes_hold [] h = refl
 attributes_hold (a ∷ more) h = both (is_name a.name) _ h.0 (both (not (has_attribute a.name more)) (are_attributes more) (is_not _ h.1) (attributes_hold more h.2))
 
-attributes_of : (attrs : List Attr) → IsTrue (are_attributes attrs) → AreAttributes attrs
+pub attributes_of : (attrs : List Attr) → IsTrue (are_attributes attrs) → AreAttributes attrs
 attributes_of [] h = tt
 attributes_of (a ∷ more) h =
     let rest = second (is_name a.name) _ h in

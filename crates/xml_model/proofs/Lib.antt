@@ -8,6 +8,7 @@ pub mod Lines
 pub mod Nodes
 pub mod ReadAgain
 pub mod ReadIsValid
+pub mod ReadIsSpelled
 mod Rows
 pub mod TextAgain
 pub mod TextLines

@@ -44,7 +44,7 @@ record IsSound (stack : List OpenElement) (here : List Node) (tag : Bool) (nodes
   pub short : bytes ≤ TEXT_BYTES_MAX
 
 -- a test that was passed
-passed : (t : Bool) (why : PyxRefusal) (o : Option PyxRefusal) → cond t (Some why) o ≡ None → (t ≡ false) × (o ≡ None)
+pub passed : (t : Bool) (why : PyxRefusal) (o : Option PyxRefusal) → cond t (Some why) o ≡ None → (t ≡ false) × (o ≡ None)
 passed true why o e = cc
 passed false why o e = (refl, e)
 
@@ -56,7 +56,7 @@ not_among-push name [] a h e = or_from _ _ e refl
 not_among-push name (d ∷ attrs) a h e = let p = or_parts _ _ h in or_from _ _ p.0 (not_among-push name attrs a p.1 e)
 
 -- attributes stay attributes with one more of a new name
-AreAttributes-push : (attrs : List Attr) (a : Attr) → AreAttributes attrs → IsTrue (is_name a.name) → has_attribute a.name attrs ≡ false → AreAttributes (attrs ++ a ∷ [])
+pub AreAttributes-push : (attrs : List Attr) (a : Attr) → AreAttributes attrs → IsTrue (is_name a.name) → has_attribute a.name attrs ≡ false → AreAttributes (attrs ++ a ∷ [])
 AreAttributes-push [] a are named new = (named, refl, tt)
 AreAttributes-push (d ∷ attrs) a are named new =
     let p = or_parts _ _ new in
@@ -249,7 +249,7 @@ kept (instruction target value) r e s =
 -- what stands behind an answer
 
 -- an answer that went on to another one was there
-ok_parts : {A B : Type 0} (o : Result A RefusedLine) (f : A → Result B RefusedLine) (b : B) → (o >>= f) ≡ Ok b → (a : A) × (o ≡ Ok a) × (f a ≡ Ok b)
+pub ok_parts : {A B : Type 0} (o : Result A RefusedLine) (f : A → Result B RefusedLine) (b : B) → (o >>= f) ≡ Ok b → (a : A) × (o ≡ Ok a) × (f a ≡ Ok b)
 ok_parts (Ok a) f b e = (a, refl, e)
 ok_parts (Err x) f b e = cc
 

@@ -11,6 +11,7 @@ ghost use Rattle.xml_model.specs.Needs.{KeepsToNeeds};
 ghost use Rattle.xml_model.specs.Statement.{stmt};
 ghost use Rattle.xml_model.specs.Counts.{IsCounted};
 ghost use Rattle.xml_model.specs.Document.{IsValid};
+ghost use Rattle.xml_model.specs.Spelling.{SpellsWithinLimits};
 ghost use Rattle.xml_model.specs.Pyx.{read, pyx, Line, Reading, after, start, split_lines, text_of};
 
 /// What is written as PYX is read again.
@@ -21,6 +22,11 @@ pub fn pyx_is_read_again()
 /// What is read from PYX is valid.
 pub fn what_is_read_is_valid()
     ensures { (lines : List Line) (doc : Doc) → read lines ≡ Ok doc → IsValid doc }
+{}
+
+/// What is read is what the lines spell, within the limits of a document.
+pub fn what_is_read_is_spelled()
+    ensures { (lines : List Line) (doc : Doc) → read lines ≡ Ok doc → SpellsWithinLimits lines doc }
 {}
 
 /// After any lines the counters, which the limits are compared with, are what has been read.
