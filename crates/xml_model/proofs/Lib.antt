@@ -9,6 +9,7 @@ pub mod Nodes
 pub mod ReadAgain
 pub mod ReadIsValid
 pub mod ReadIsSpelled
+pub mod SpelledIsRead
 mod Rows
 pub mod TextAgain
 pub mod TextLines

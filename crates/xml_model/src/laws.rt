@@ -1,7 +1,7 @@
 //! Laws of documents, statements and needs.
 // These functions do nothing. The contract of each is a law, proved over the definitions alone.
 
-ghost use Rattle.std.specs.Prelude.{◌≡◌, List, ℕ, IsTrue};
+ghost use Rattle.std.specs.Prelude.{◌≡◌, ◌↔◌, List, ℕ, IsTrue};
 ghost use Rattle.xq_ast.specs.Parsed.{has_good_names};
 ghost use Rattle.xq_ast.specs.declared.call.Call.{Call};
 ghost use Rattle.xq_ast.specs.declared.call.Call.TheVariants.{ShowDocuments};
@@ -24,9 +24,9 @@ pub fn what_is_read_is_valid()
     ensures { (lines : List Line) (doc : Doc) → read lines ≡ Ok doc → IsValid doc }
 {}
 
-/// What is read is what the lines spell, within the limits of a document.
-pub fn what_is_read_is_spelled()
-    ensures { (lines : List Line) (doc : Doc) → read lines ≡ Ok doc → SpellsWithinLimits lines doc }
+/// Lines are read as a document just where they spell it, and its limits hold.
+pub fn read_just_where_spelled()
+    ensures { (lines : List Line) (doc : Doc) → (read lines ≡ Ok doc) ↔ SpellsWithinLimits lines doc }
 {}
 
 /// After any lines the counters, which the limits are compared with, are what has been read.

@@ -29,7 +29,7 @@ pub use changes::DocChanges;
 pub use forest::DocMap;
 pub use laws::{
     calls_keep_to_their_needs, canonical_text_is_read_again, pyx_is_read_again,
-    statements_keep_forests, what_is_counted, what_is_read_is_spelled, what_is_read_is_valid,
+    read_just_where_spelled, statements_keep_forests, what_is_counted, what_is_read_is_valid,
 };
 pub use limits::{DEPTH_MAX, NODES_MAX, REPLY_BYTES_MAX, TEXT_BYTES_MAX};
 pub use node::{Attr, AttrList, Doc, Measure, Node, NodeList, RefusedLine};
