@@ -221,26 +221,42 @@ fn number_of(doc: Option<&Doc>) -> Option<u32> {
     }
 }
 
+/// Puts a document without nodes into the map, where the name is a document's name.
+fn keep(alloc: Global, docs: &mut DocMap, name: &str) -> Result<(), NoMemory> {
+    if !is_document_name(name) {
+        return Ok(());
+    }
+    docs.insert(Str::of(alloc, name)?, Doc::empty(alloc))
+}
+
 #[test]
 fn documents_are_kept_by_name(rt: HostRuntime) -> Result<(), Fail> {
     let alloc = rt.alloc();
+    let mut docs = DocMap::new(alloc);
+    for name in ["d", "\u{e9}", "B"] {
+        keep(alloc, &mut docs, name)?;
+    }
+    for (name, want) in docs.names()?.as_slice().iter().zip(&["B", "d", "\u{e9}"]) {
+        assert_eq!(rt; name.as_str(), *want);
+        assert_eq!(rt; docs.get(name).is_some(), true);
+    }
+    Ok(())
+}
+
+#[test]
+fn copies_share_documents(rt: HostRuntime) -> Result<(), Fail> {
+    let alloc = rt.alloc();
     let name = Str::of(alloc, "d")?;
     let mut docs = DocMap::new(alloc);
-    docs.insert(Str::of(alloc, "d")?, Doc::empty(alloc))?;
-    docs.insert(Str::of(alloc, "\u{e9}")?, Doc::empty(alloc))?;
-    docs.insert(Str::of(alloc, "B")?, Doc::empty(alloc))?;
-    let copy = docs.copy()?;
+    keep(alloc, &mut docs, "d")?;
     let mut changes = DocChanges::new(alloc);
     put(alloc, &mut changes, "d", None)?;
     assert_eq!(rt; changes.seen(&docs, &name).is_none(), true);
-    docs = docs.with_changes(&changes)?;
-    assert_eq!(rt; docs.get(&name).is_none(), true);
-    assert_eq!(rt; copy.get(&name).is_some(), true);
+    let dropped = docs.with_changes(&changes)?;
+    assert_eq!(rt; dropped.get(&name).is_none(), true);
+    assert_eq!(rt; docs.copy()?.get(&name).is_some(), true);
     changes.clear();
-    assert_eq!(rt; changes.seen(&copy, &name).is_some(), true);
-    for (name, want) in docs.names()?.as_slice().iter().zip(&["B", "\u{e9}"]) {
-        assert_eq!(rt; name.as_str(), *want);
-    }
+    assert_eq!(rt; changes.seen(&docs, &name).is_some(), true);
     Ok(())
 }
 
