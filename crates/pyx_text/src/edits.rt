@@ -1,3 +1,4 @@
+//! What a line changes of what has been read.
 ghost use Rattle.std.specs.Prelude.{◌≡◌, ◌<◌, ◌≤◌, ◌+◌, ◌++◌, ◌∷◌, [], OnOk, OnErr, IfErr, vec_len, vec_capacity};
 ghost use Rattle.xml_model.specs.Pyx as spec;
 ghost use Rattle.xml_model.specs.declared.node.Node.{out-Node};

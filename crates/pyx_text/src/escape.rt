@@ -1,3 +1,4 @@
+//! Escapes in values.
 ghost use Rattle.std.specs.Prelude.{◌≡◌, ◌≢◌, ◌∷◌, ◌++◌, ◌<◌, ◌≤◌, ℕ, List, length, OnOk, IfOk, MatchOption};
 ghost use Rattle.xml_model.specs.Values as spec;
 ghost use Rattle.pyx_text.specs.Cuts.{IsCut, Lacks};

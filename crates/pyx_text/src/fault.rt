@@ -1,3 +1,4 @@
+//! Why a reader does not take a line.
 ghost use Rattle.std.specs.Prelude.{◌≡◌};
 
 use thiserror::Error;

@@ -1,3 +1,4 @@
+//! Lines by their first character.
 ghost use Rattle.std.specs.Prelude.{◌≡◌};
 ghost use Rattle.xml_model.specs.Pyx as spec;
 ghost use Rattle.pyx_text.specs.Progress.{reading_of, Takes};

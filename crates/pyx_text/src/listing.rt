@@ -1,4 +1,4 @@
-// Documents as lists of lines of PYX.
+//! Documents as lists of lines of PYX.
 ghost use Rattle.std.specs.Prelude.{◌≡◌, ◌∷◌, ◌++◌, [], map, IfOk, OnOk};
 ghost use Rattle.xml_model.specs.Pyx.{attribute_line, behind_target, pyx, pyx_node, pyx_of};
 ghost use Rattle.xml_model.specs.Values.{escaped};

@@ -1,4 +1,4 @@
-// An element that is open, with its attributes so far.
+//! An element that is open, with its attributes so far.
 ghost use Rattle.std.specs.Prelude.{◌≡◌, ◌++◌, ◌∷◌, [], ◌||◌, List, ℕ, drop, OnOk, OnErr, IfErr};
 ghost use Rattle.std.specs.BTreeSet.{contains_text};
 ghost use Rattle.std.specs.Str.{bytes_eq};
@@ -8,7 +8,7 @@ use crate::fault::PyxFault;
 use crate::room::push_in_room;
 use std::alloc::Global;
 use std::collections::BTreeSet;
-use xml_model::{Attr, Node};
+use xml_model::{Attr, Node, has_attribute};
 use xq_ast::Str;
 
 // The attributes that are looked through one by one. The names of all others stand in an ordered set,
@@ -23,18 +23,6 @@ pub(crate) struct OpenTag {
     pub(crate) before: Vec<Node>,
     later: BTreeSet<String>,
     ghost tied: { (bytes : List ℕ) → contains_text later bytes ≡ has_attribute bytes (drop 16 attrs.items) },
-}
-
-/// Whether one of the attributes has this name.
-pub(crate) fn is_among(attrs: &[Attr], name: &str) -> bool
-    ensures { result ≡ has_attribute name.now attrs.now }
-{
-    for attr in attrs {
-        if attr.name.as_str() == name {
-            return true;
-        }
-    }
-    false
 }
 
 // Adds a name to a set. After an error nothing has changed.
@@ -70,9 +58,9 @@ impl OpenTag {
         ensures { result ≡ has_attribute name.now self.now.attrs.items }
     {
         if self.attrs.len() <= FEW {
-            return is_among(&self.attrs, name);
+            return has_attribute(&self.attrs, name);
         }
-        is_among(&self.attrs[..FEW], name) || self.later.contains(name)
+        has_attribute(&self.attrs[..FEW], name) || self.later.contains(name)
     }
 
     /// Adds an attribute. After an error nothing has changed.

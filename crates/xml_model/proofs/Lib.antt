@@ -1,5 +1,6 @@
 pub mod Entries
 pub mod Escapes
+pub mod Formed
 pub mod Forests
 pub mod Framing
 pub mod Laying
@@ -7,6 +8,8 @@ pub mod Lines
 pub mod Nodes
 pub mod ReadAgain
 pub mod ReadIsValid
+pub mod ReadIsSpelled
+pub mod SpelledIsRead
 mod Rows
 pub mod TextAgain
 pub mod TextLines

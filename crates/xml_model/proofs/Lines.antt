@@ -80,7 +80,7 @@ instruction_form target (b ∷ bs) h =
     ap₂ instruction (before_space_all target (escaped (b ∷ bs)) w) (ap unescaped (behind_space_all target (escaped (b ∷ bs)) w) ∙ escaped_again (b ∷ bs))
 
 -- a line that is not refused is taken
-taken_after : (line : Line) (f : Form) (r : Reading) (rest : List Line) → form line ≡ f → refusal f r ≡ None → after (line ∷ rest) r ≡ after rest (record (taken f r) { lines = next_line r.lines })
+pub taken_after : (line : Line) (f : Form) (r : Reading) (rest : List Line) → form line ≡ f → refusal f r ≡ None → after (line ∷ rest) r ≡ after rest (record (taken f r) { lines = next_line r.lines })
 taken_after line f r rest e n = rw (e, n) refl
 
 -- each list of bytes is the same as itself
@@ -92,7 +92,7 @@ pub bytes_eq_sym : (xs ys : List ℕ) → bytes_eq xs ys ≡ false → bytes_eq 
 bytes_eq_sym xs ys e = false_from_ne_true _ (λ h. true≢false (sym ((bytes_eq-Decides xs ys).1 (sym ((bytes_eq-Decides ys xs).0 h))) ∙ e))
 
 -- characters that are a node of their own
-texts_added_one : (value : List ℕ) (here : List Node) → 0 < length value → ends_in_text here ≡ false → texts_added value here ≡ 1
+pub texts_added_one : (value : List ℕ) (here : List Node) → 0 < length value → ends_in_text here ≡ false → texts_added value here ≡ 1
 texts_added_one [] here h e = absurd (omega arith)
 texts_added_one (c ∷ cs) here h e = rw e refl
 
@@ -105,7 +105,7 @@ with_characters_apart c cs (Pi target value ∷ []) e = rw (outs-Pi target value
 with_characters_apart c cs (n ∷ m ∷ more) e = ap (λ r. n ∷ r) (with_characters_apart c cs (m ∷ more) e)
 
 -- the same of each value that is not empty
-with_characters_more : (value : List ℕ) (here : List Node) → 0 < length value → ends_in_text here ≡ false → with_characters value here ≡ here ++ Text value ∷ []
+pub with_characters_more : (value : List ℕ) (here : List Node) → 0 < length value → ends_in_text here ≡ false → with_characters value here ≡ here ++ Text value ∷ []
 with_characters_more [] here h e = absurd (omega arith)
 with_characters_more (c ∷ cs) here h e = with_characters_apart c cs here e
 

@@ -10,7 +10,8 @@ use Rattle.xml_model.specs.declared.node.Node.TheVariants.{Element}
 use Rattle.xq_ast.specs.Names.{is_name}
 use Rattle.xml_model.specs.Trees.{count_of, count_node, count_step, bytes_of, bytes_node, bytes_step, depth_of, depth_step, has_attribute, value_bytes}
 use Rattle.xml_model.specs.Values.{escaped}
-use Rattle.xml_model.specs.Document.{IsValid, IsFormed, AreFormed, AllFormed, IsApart, AreAttributes, is_text}
+use Rattle.xml_model.specs.Document.{IsValid}
+use Rattle.xml_model.proofs.Formed.{IsFormed, AreFormed, AllFormed, IsApart, AreAttributes, is_text, valid_has_form}
 use Rattle.xml_model.specs.Pyx.{Line, OpenElement, ends_in_text, after, next_line, attribute_line, behind_target, pyx_step, pyx_node, pyx_of, start, ended, ◌>>=◌, read, pyx}
 use Rattle.xml_model.proofs.Lines.{bytes_eq_sym, state, opened, begins_after, ends_after, attribute_after, characters_after, instruction_after}
 use Rattle.xml_model.proofs.Nodes.{fold-Text, fold-Pi, fold-Element, fold-Element', made-Element', is_text-layer}
@@ -21,31 +22,31 @@ not_behind name [] a more h = (or_parts _ _ h).0
 not_behind name (d ∷ done) a more h = not_behind name done a more (or_parts _ _ h).1
 
 -- an attribute behind others has a name that none of them has
-attribute_is_new : (done : List Attr) (a : Attr) (more : List Attr) → AreAttributes (done ++ a ∷ more) → IsTrue (is_name a.name) × (has_attribute a.name done ≡ false)
+pub attribute_is_new : (done : List Attr) (a : Attr) (more : List Attr) → AreAttributes (done ++ a ∷ more) → IsTrue (is_name a.name) × (has_attribute a.name done ≡ false)
 attribute_is_new [] a more h = (h.0, refl)
 attribute_is_new (d ∷ done) a more h =
     let i = attribute_is_new done a more h.2 in
     (i.0, rw (bytes_eq_sym a.name d.name (not_behind d.name done a more h.1)) i.1)
 
 -- nodes end in a text just where the last one is a text
-ends_in_text-push : (here : List Node) (x : Node) → ends_in_text (here ++ x ∷ []) ≡ is_text x
+pub ends_in_text-push : (here : List Node) (x : Node) → ends_in_text (here ++ x ∷ []) ≡ is_text x
 ends_in_text-push [] x = is_text-layer x
 ends_in_text-push (n ∷ []) x = is_text-layer x
 ends_in_text-push (n ∷ m ∷ more) x = ends_in_text-push (m ∷ more) x
 
 -- before a text that stands apart there is no text
-no_text_before : {b : Bool} → (b && true) ≡ false → b ≡ false
+pub no_text_before : {b : Bool} → (b && true) ≡ false → b ≡ false
 no_text_before {b = true} e = cc
 no_text_before {b = false} e = refl
 
 -- there is room for more nodes behind k open elements, n nodes and b bytes
-record Fits (k n b : ℕ) (more : List Node) : Type 0 where
+pub record Fits (k n b : ℕ) (more : List Node) : Type 0 where
   pub deep : k + depth_of more ≤ DEPTH_MAX
   pub few : n + count_of more ≤ NODES_MAX
   pub short : b + bytes_of more ≤ TEXT_BYTES_MAX
 
 -- from here on it reads as if the nodes had been read
-record Reads (lines : List Line) (stack : List OpenElement) (here more : List Node) (tag : Bool) (n b l : ℕ) (rest : List Line) : Type 0 where
+pub record Reads (lines : List Line) (stack : List OpenElement) (here more : List Node) (tag : Bool) (n b l : ℕ) (rest : List Line) : Type 0 where
   pub tag_then : Bool
   pub nodes : ℕ
   pub bytes : ℕ
@@ -90,7 +91,7 @@ attributes_read (a ∷ todo) done name before stack n b l rest are few short =
     (attributes_read todo (done ++ a ∷ []) name before stack (n + 1) (b + length a.value) (next_line l) rest (subst AreAttributes (sym (append_assoc done (a ∷ []) todo)) are) (omega arith) (omega arith))
 
 -- no nodes
-none_read : (stack : List OpenElement) (here : List Node) (tag : Bool) (n b l : ℕ) (rest : List Line) → Reads [] stack here [] tag n b l rest
+pub none_read : (stack : List OpenElement) (here : List Node) (tag : Bool) (n b l : ℕ) (rest : List Line) → Reads [] stack here [] tag n b l rest
 none_read stack here tag n b l rest =
     record { tag_then = tag; nodes = n; bytes = b; line = l; nodes_are = omega arith; bytes_are = omega arith; reads = rw append-nil refl }
 
@@ -111,7 +112,7 @@ behind_read first then stack here x xs tag n b l rest one others =
     }
 
 -- the same where the reading of the others is known from each place that the first may lead to
-more_read : (first then : List Line) (stack : List OpenElement) (here : List Node) (x : Node) (xs : List Node) (tag : Bool) (n b l : ℕ) (rest : List Line)
+pub more_read : (first then : List Line) (stack : List OpenElement) (here : List Node) (x : Node) (xs : List Node) (tag : Bool) (n b l : ℕ) (rest : List Line)
     → Reads first stack here (x ∷ []) tag n b l (then ++ rest)
     → ((t : Bool) (m c k : ℕ) → m ≡ n + count_of (x ∷ []) → c ≡ b + bytes_of (x ∷ []) → Reads then stack (here ++ x ∷ []) xs t m c k rest)
     → Reads (first ++ then) stack here (x ∷ xs) tag n b l rest
@@ -121,7 +122,7 @@ more_read first then stack here x xs tag n b l rest one others =
 -- an element, from its attributes and its content
 
 -- the lines of an element, its end and the rest, with other brackets
-regrouped : (front lines : List Line) (last : Line) (rest : List Line) → (front ++ (lines ++ last ∷ [])) ++ rest ≡ front ++ (lines ++ last ∷ rest)
+pub regrouped : (front lines : List Line) (last : Line) (rest : List Line) → (front ++ (lines ++ last ∷ [])) ++ rest ≡ front ++ (lines ++ last ∷ rest)
 regrouped front lines last rest = append_assoc front (lines ++ last ∷ []) rest ∙ ap (λ ls. front ++ ls) (append_assoc lines (last ∷ []) rest)
 
 element_from : (name : List ℕ) (attrs : List Attr) (kids : List Node) (lines : List Line) (stack : List OpenElement) (here : List Node) (tag : Bool) (n b l : ℕ) (rest : List Line)
@@ -188,15 +189,15 @@ instruction_reads target value stack here tag n b l rest named fits =
     }
 
 -- where more nodes fit, the first fits
-fits_first : {k n b : ℕ} {x : Node} {xs : List Node} → Fits k n b (x ∷ xs) → Fits k n b (x ∷ [])
+pub fits_first : {k n b : ℕ} {x : Node} {xs : List Node} → Fits k n b (x ∷ xs) → Fits k n b (x ∷ [])
 fits_first fits = record { deep = omega arith; few = omega arith; short = omega arith }
 
 -- the others fit behind it
-fits_others : {k n b : ℕ} {x : Node} {xs : List Node} (m c : ℕ) → Fits k n b (x ∷ xs) → m ≡ n + count_of (x ∷ []) → c ≡ b + bytes_of (x ∷ []) → Fits k m c xs
+pub fits_others : {k n b : ℕ} {x : Node} {xs : List Node} (m c : ℕ) → Fits k n b (x ∷ xs) → m ≡ n + count_of (x ∷ []) → c ≡ b + bytes_of (x ∷ []) → Fits k m c xs
 fits_others m c fits e f = record { deep = omega arith; few = omega arith; short = omega arith }
 
 -- where an element fits, its attributes fit, and its content behind them
-record FitsInside (k n b : ℕ) (attrs : List Attr) (kids : List Node) : Type 0 where
+pub record FitsInside (k n b : ℕ) (attrs : List Attr) (kids : List Node) : Type 0 where
   pub room : k < DEPTH_MAX
   pub few : n + (1 + length attrs) ≤ NODES_MAX
   pub short : b + value_bytes attrs ≤ TEXT_BYTES_MAX
@@ -245,5 +246,6 @@ list_reads (x ∷ xs) here tag n b l formed apart fits =
 pub read_again : (doc : Doc) → IsValid doc → read (pyx doc) ≡ Ok doc
 read_again doc valid =
     let fits : Fits 0 0 0 doc.kids = record { deep = omega (arith, valid.depth); few = omega (arith, valid.nodes); short = omega (arith, valid.text) } in
-    let all = list_reads doc.kids [] false 0 0 0 valid.formed valid.apart fits in
+    let form = valid_has_form doc valid in
+    let all = list_reads doc.kids [] false 0 0 0 form.formed form.apart fits in
     ap (λ lines. after lines start >>= ended) (sym (append-nil (pyx doc))) ∙ ap (λ r. r >>= ended) all.reads

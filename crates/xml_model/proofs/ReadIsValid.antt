@@ -13,7 +13,8 @@ use Rattle.xml_model.specs.declared.node.Node.TheVariants.{Element, outs-Element
 use Rattle.xq_ast.specs.Names.{is_name}
 use Rattle.xml_model.specs.Trees.{count_of, count_step, bytes_of, bytes_step, depth_of, depth_step, has_attribute, value_bytes}
 use Rattle.xml_model.specs.Counts.{open_nodes, open_bytes, IsCounted}
-use Rattle.xml_model.specs.Document.{IsValid, AllFormed, IsApart, AreAttributes, is_text}
+use Rattle.xml_model.specs.Document.{IsValid}
+use Rattle.xml_model.proofs.Formed.{AllFormed, IsApart, AreAttributes, is_text, HasForm, form_is_valid}
 use Rattle.xml_model.specs.Pyx.{Line, Form, no_form, begins, ends, attribute, characters, instruction, form, OpenElement, Reading, start, refusal, taken, next_line, closed, step, stepped, after, ended, ended_at, ◌>>=◌, read, closes, has_already, texts_added, with_characters, with_attribute}
 use Rattle.xml_model.proofs.Lines.{bytes_eq_sym}
 use Rattle.xml_model.proofs.Nodes.{fold-Text, fold-Pi, fold-Element, count_of-push, bytes_of-push, depth_of-push, AllFormed-push, IsApart-push, formed-Element}
@@ -43,7 +44,7 @@ record IsSound (stack : List OpenElement) (here : List Node) (tag : Bool) (nodes
   pub short : bytes ≤ TEXT_BYTES_MAX
 
 -- a test that was passed
-passed : (t : Bool) (why : PyxRefusal) (o : Option PyxRefusal) → cond t (Some why) o ≡ None → (t ≡ false) × (o ≡ None)
+pub passed : (t : Bool) (why : PyxRefusal) (o : Option PyxRefusal) → cond t (Some why) o ≡ None → (t ≡ false) × (o ≡ None)
 passed true why o e = cc
 passed false why o e = (refl, e)
 
@@ -55,7 +56,7 @@ not_among-push name [] a h e = or_from _ _ e refl
 not_among-push name (d ∷ attrs) a h e = let p = or_parts _ _ h in or_from _ _ p.0 (not_among-push name attrs a p.1 e)
 
 -- attributes stay attributes with one more of a new name
-AreAttributes-push : (attrs : List Attr) (a : Attr) → AreAttributes attrs → IsTrue (is_name a.name) → has_attribute a.name attrs ≡ false → AreAttributes (attrs ++ a ∷ [])
+pub AreAttributes-push : (attrs : List Attr) (a : Attr) → AreAttributes attrs → IsTrue (is_name a.name) → has_attribute a.name attrs ≡ false → AreAttributes (attrs ++ a ∷ [])
 AreAttributes-push [] a are named new = (named, refl, tt)
 AreAttributes-push (d ∷ attrs) a are named new =
     let p = or_parts _ _ new in
@@ -248,7 +249,7 @@ kept (instruction target value) r e s =
 -- what stands behind an answer
 
 -- an answer that went on to another one was there
-ok_parts : {A B : Type 0} (o : Result A RefusedLine) (f : A → Result B RefusedLine) (b : B) → (o >>= f) ≡ Ok b → (a : A) × (o ≡ Ok a) × (f a ≡ Ok b)
+pub ok_parts : {A B : Type 0} (o : Result A RefusedLine) (f : A → Result B RefusedLine) (b : B) → (o >>= f) ≡ Ok b → (a : A) × (o ≡ Ok a) × (f a ≡ Ok b)
 ok_parts (Ok a) f b e = (a, refl, e)
 ok_parts (Err x) f b e = cc
 
@@ -268,10 +269,10 @@ after_kept (line ∷ lines) r then e s =
 
 -- at the end no element is open
 
-ended_valid : (stack : List OpenElement) (r : Reading) (doc : Doc) → ended_at stack r ≡ Ok doc → IsSound stack r.here r.in_tag r.nodes r.bytes → IsValid doc
+ended_valid : (stack : List OpenElement) (r : Reading) (doc : Doc) → ended_at stack r ≡ Ok doc → IsSound stack r.here r.in_tag r.nodes r.bytes → HasForm doc
 ended_valid [] r doc e s =
     let same : record { kids = r.here } ≡ doc = cc in
-    subst IsValid same (record { formed = s.formed; apart = s.apart; depth = omega (arith, s.deep); nodes = omega (arith, s.counted, s.few); text = omega (arith, s.measured, s.short) })
+    subst HasForm same (record { formed = s.formed; apart = s.apart; depth = omega (arith, s.deep); nodes = omega (arith, s.counted, s.few); text = omega (arith, s.measured, s.short) })
 ended_valid (f ∷ outer) r doc e s = cc
 
 -- it holds at the start
@@ -282,7 +283,7 @@ start_sound = record { inside = λ h. absurd (true≢false (sym h)); are_open = 
 pub read_is_valid : (lines : List Line) (doc : Doc) → read lines ≡ Ok doc → IsValid doc
 read_is_valid lines doc e =
     let p = ok_parts (after lines start) ended doc e in
-    ended_valid p.0.stack p.0 doc p.2 (after_kept lines start p.0 p.1 start_sound)
+    form_is_valid doc (ended_valid p.0.stack p.0 doc p.2 (after_kept lines start p.0 p.1 start_sound))
 
 -- what has been read is counted
 pub read_is_counted : (lines : List Line) (r : Reading) → after lines start ≡ Ok r → IsCounted r

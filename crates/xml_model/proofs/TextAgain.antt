@@ -7,7 +7,8 @@ use Rattle.xml_model.specs.declared.node.Doc.{Doc}
 use Rattle.xml_model.specs.declared.node.Node.{Node, Element', Text, Pi, Row_of-Node, end_of-Node, more_of-Node, items-the_row-Node}
 use Rattle.xq_ast.specs.Names.{is_name, continues_name}
 use Rattle.xml_model.specs.Values.{escaped, escaped_byte}
-use Rattle.xml_model.specs.Document.{IsValid, IsFormed, AreFormed, AllFormed, AreAttributes}
+use Rattle.xml_model.specs.Document.{IsValid}
+use Rattle.xml_model.proofs.Formed.{IsFormed, AreFormed, AllFormed, AreAttributes, valid_has_form}
 use Rattle.xml_model.specs.Pyx.{Line, attribute_line, behind_target, pyx_step, pyx_node, pyx_of, pyx, text_of, in_front, split_lines, IsPlain}
 use Rattle.xml_model.proofs.Lines.{name_continues}
 use Rattle.xml_model.proofs.Nodes.{fold-Text, fold-Pi, fold-Element'}
@@ -95,4 +96,4 @@ plain_list (x ∷ xs) formed = ArePlain-append (pyx_node x) (pyx_of xs) (plain_n
 
 -- the lines of the text of a valid document are its canonical lines
 pub text_again : (doc : Doc) → IsValid doc → split_lines (text_of (pyx doc)) ≡ pyx doc
-text_again doc valid = plain_again (pyx doc) (plain_list doc.kids valid.formed)
+text_again doc valid = plain_again (pyx doc) (plain_list doc.kids (valid_has_form doc valid).formed)

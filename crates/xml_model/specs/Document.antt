@@ -1,49 +1,43 @@
 -- Which documents are valid (XQuery 1.0 and XPath 2.0 Data Model, sections 2.4 and 6, and this profile).
 -- The bytes are those of `Str`: that they are UTF-8 is kept by that type, and not by these definitions.
--- Nodes are matched here by their data type, since no fold gives a type: in `Element' name attrs s row` the
--- row is the list of children as data, and `s` its shape.
-use Rattle.std.specs.Prelude.{◌≡◌, ◌<◌, ◌≤◌, Bool, true, false, ◌&&◌, IsTrue, List, [], ◌∷◌, length}
+use Rattle.std.specs.Prelude.{ℕ, ◌≤◌, nat_lt, Bool, true, false, not, ◌&&◌, IsTrue, List, [], ◌∷◌, map, length}
+use Rattle.xq_ast.specs.Names.{is_name}
 use Rattle.xml_model.specs.declared.limits.TheConstants.{DEPTH_MAX, NODES_MAX, TEXT_BYTES_MAX}
 use Rattle.xml_model.specs.declared.node.Attr.{Attr}
 use Rattle.xml_model.specs.declared.node.Doc.{Doc}
-use Rattle.xml_model.specs.declared.node.Node.{Node, Element', Text, Pi, Row_of-Node, end_of-Node, more_of-Node, items-the_row-Node}
-use Rattle.xq_ast.specs.Names.{is_name}
+use Rattle.xml_model.specs.declared.node.Node.{Node}
+use Rattle.xml_model.specs.declared.node.Node.TheOpen.{Node-F, Element, Text, Pi}
+use Rattle.xml_model.specs.declared.node.Node.TheFolds.{fold-Node}
 use Rattle.xml_model.specs.Trees.{count_of, bytes_of, depth_of, has_attribute}
 
-abbrev pub is_text : Node → Bool
-is_text (Element' name attrs s row) = false
-is_text (Text value) = true
-is_text (Pi target value) = false
-
--- no two neighbouring texts; the first argument says whether a text stands before
-abbrev pub IsApart : Bool → List Node → Type 0
-IsApart after [] = Unit {0}
-IsApart after (n ∷ nodes) = ((after && is_text n) ≡ false) × IsApart (is_text n) nodes
-
 -- names of attributes, no name twice
-abbrev pub AreAttributes : List Attr → Type 0
-AreAttributes [] = Unit {0}
-AreAttributes (a ∷ more) = IsTrue (is_name a.name) × (has_attribute a.name more ≡ false) × AreAttributes more
+abbrev pub are_attributes : List Attr → Bool
+are_attributes [] = true
+are_attributes (a ∷ more) = is_name a.name && (not (has_attribute a.name more) && are_attributes more)
 
-abbrev mutual
-  -- a node whose names are names and which has no empty text, nor neighbouring ones
-  pub IsFormed : Node → Type 0
-  IsFormed (Element' name attrs s row) = IsTrue (is_name name) × AreAttributes attrs × IsApart false (items-the_row-Node _ row) × AreFormed row
-  IsFormed (Text value) = 0 < length value
-  IsFormed (Pi target value) = IsTrue (is_name target)
+-- a node among its siblings: whether it is a text, and whether it is well-formed
+pub record Sibling : Type 0 where
+  pub is_text : Bool
+  pub is_formed : Bool
 
-  pub AreFormed : {m : _} → Row_of-Node m → Type 0
-  AreFormed end_of-Node = Unit {0}
-  AreFormed (more_of-Node n row) = IsFormed n × AreFormed row
+-- all are well-formed, and no two neighbours are texts; the first argument says whether a text stands before
+abbrev pub are_formed : Bool → List Sibling → Bool
+are_formed after [] = true
+are_formed after (n ∷ more) = not (after && n.is_text) && (n.is_formed && are_formed n.is_text more)
 
-abbrev pub AllFormed : List Node → Type 0
-AllFormed [] = Unit {0}
-AllFormed (n ∷ nodes) = IsFormed n × AllFormed nodes
+-- An element is well-formed where its name is a name and its attributes and its children are well-formed, a text
+-- where it is not empty, and an instruction where its target is a name.
+abbrev pub sibling_step : Node-F Sibling → Sibling
+sibling_step (Element name attrs kids) = record { is_text = false; is_formed = is_name name && (are_attributes attrs && are_formed false kids) }
+sibling_step (Text value) = record { is_text = true; is_formed = nat_lt 0 (length value) }
+sibling_step (Pi target value) = record { is_text = false; is_formed = is_name target }
 
--- a valid document
+abbrev pub sibling : Node → Sibling
+sibling = fold-Node Sibling sibling_step
+
+-- a valid document: its nodes are well-formed, and it keeps to the three limits
 pub record IsValid (doc : Doc) : Type 0 where
-  pub formed : AllFormed doc.kids
-  pub apart : IsApart false doc.kids
+  pub formed : IsTrue (are_formed false (map sibling doc.kids))
   pub depth : depth_of doc.kids ≤ DEPTH_MAX
   pub nodes : count_of doc.kids ≤ NODES_MAX
   pub text : bytes_of doc.kids ≤ TEXT_BYTES_MAX

@@ -3,6 +3,7 @@ pub mod Document
 pub mod Place
 pub mod Values
 pub mod Pyx
+pub mod Spelling
 pub mod Counts
 pub mod Forest
 pub mod Changes

@@ -1,7 +1,7 @@
 //! Laws of documents, statements and needs.
 // These functions do nothing. The contract of each is a law, proved over the definitions alone.
 
-ghost use Rattle.std.specs.Prelude.{◌≡◌, List, ℕ, IsTrue};
+ghost use Rattle.std.specs.Prelude.{◌≡◌, ◌↔◌, List, ℕ, IsTrue};
 ghost use Rattle.xq_ast.specs.Parsed.{has_good_names};
 ghost use Rattle.xq_ast.specs.declared.call.Call.{Call};
 ghost use Rattle.xq_ast.specs.declared.call.Call.TheVariants.{ShowDocuments};
@@ -11,6 +11,7 @@ ghost use Rattle.xml_model.specs.Needs.{KeepsToNeeds};
 ghost use Rattle.xml_model.specs.Statement.{stmt};
 ghost use Rattle.xml_model.specs.Counts.{IsCounted};
 ghost use Rattle.xml_model.specs.Document.{IsValid};
+ghost use Rattle.xml_model.specs.Spelling.{SpellsWithinLimits};
 ghost use Rattle.xml_model.specs.Pyx.{read, pyx, Line, Reading, after, start, split_lines, text_of};
 
 /// What is written as PYX is read again.
@@ -21,6 +22,11 @@ pub fn pyx_is_read_again()
 /// What is read from PYX is valid.
 pub fn what_is_read_is_valid()
     ensures { (lines : List Line) (doc : Doc) → read lines ≡ Ok doc → IsValid doc }
+{}
+
+/// Lines are read as a document just where they spell it, and its limits hold.
+pub fn read_just_where_spelled()
+    ensures { (lines : List Line) (doc : Doc) → (read lines ≡ Ok doc) ↔ SpellsWithinLimits lines doc }
 {}
 
 /// After any lines the counters, which the limits are compared with, are what has been read.

@@ -2,10 +2,12 @@
 //!
 //! Contracts see a `Node`, an `Attr` and a `Doc` as plain values. The definitions that every crate
 //! above rests on stand here: which documents are valid (`Document`), places and their order
-//! (`Place`), how lines of PYX spell a document (`Pyx`), with the laws between them
-//! (`pyx_is_read_again`, `what_is_read_is_valid`, `what_is_counted`), what a statement says of a
-//! forest and does to it (`Forest`, `Statement`, with `statements_keep_forests`), and the locks
-//! that a call needs (`Needs`, with `calls_keep_to_their_needs`).
+//! (`Place`), how lines of PYX are read (`Pyx`) and which lines spell which nodes (`Spelling`), with
+//! the laws between them (`pyx_is_read_again`, `what_is_read_is_valid`, `read_just_where_spelled`,
+//! `what_is_counted`), what a statement says of a forest and does to it (`Forest`, `Statement`, with
+//! `statements_keep_forests`), and the locks that a call needs (`Needs`, with
+//! `calls_keep_to_their_needs`). A `DocMap` is a forest, and `DocChanges` are changes that leave
+//! one: both keep that each document in them is valid and each name a document's name.
 //! Nothing is refused here: a call ends with its answer or, where it takes memory, `NoMemory`.
 #![tactic(auto)]
 
@@ -19,17 +21,21 @@ mod limits;
 mod measure;
 mod node;
 mod place;
+#[cfg(test)]
+mod tests;
 mod text_lines;
+mod valid;
 
 pub use call_needs::needs;
 pub use changes::DocChanges;
 pub use forest::DocMap;
 pub use laws::{
     calls_keep_to_their_needs, canonical_text_is_read_again, pyx_is_read_again,
-    statements_keep_forests, what_is_counted, what_is_read_is_valid,
+    read_just_where_spelled, statements_keep_forests, what_is_counted, what_is_read_is_valid,
 };
 pub use limits::{DEPTH_MAX, NODES_MAX, REPLY_BYTES_MAX, TEXT_BYTES_MAX};
 pub use node::{Attr, AttrList, Doc, Measure, Node, NodeList, RefusedLine};
 pub use place::{Place, PlaceStep, place_order};
 pub use text_lines::{FirstLine, first_line};
+pub use valid::has_attribute;
 pub use xq_ast::{NAME_BYTES_MAX, is_name};

@@ -38,7 +38,7 @@ pub use limits::{
     NESTING_WORDS_MAX,
 };
 pub use memory::NoMemory;
-pub use name::{begins_name, continues_name, is_name};
+pub use name::{begins_name, continues_name, is_document_name, is_name};
 pub use need::{LockMode, Need, NeedList};
 pub use refusal::PyxRefusal;
 pub use sequence::Sequence;

@@ -1,9 +1,10 @@
-//! Names of elements, attributes and instructions, and the bytes that they have.
-ghost use Rattle.std.specs.Prelude.{◌≡◌};
+//! Names of elements, attributes and instructions, names of documents, and the bytes that they have.
+ghost use Rattle.std.specs.Prelude.{◌≡◌, nat_le};
 ghost use Rattle.std.specs.List.{list_all};
 ghost use Rattle.xq_ast.specs.Names as spec;
+ghost use Rattle.xq_ast.specs.Parsed as parsing;
 
-use crate::limits::NAME_BYTES_MAX;
+use crate::limits::{DOCUMENT_NAME_BYTES_MAX, NAME_BYTES_MAX};
 
 /// Whether a name may begin with this byte. A byte from 128 on is a part of a character beyond ASCII.
 pub fn begins_name(b: u8) -> bool
@@ -41,4 +42,24 @@ pub fn is_name(text: &str) -> bool
     ensures { result ≡ spec.is_name text.now }
 {
     is_name_of(text.as_bytes())
+}
+
+// Whether no character is below U+0020.
+fn is_printed(bytes: &[u8]) -> bool
+    ensures { result ≡ list_all (nat_le 32) bytes.now }
+{
+    bytes.iter().all(|b| 32 <= *b)
+}
+
+fn is_document_name_of(bytes: &[u8]) -> bool
+    ensures { result ≡ parsing.is_document_name bytes.now }
+{
+    1 <= bytes.len() && (bytes.len() <= DOCUMENT_NAME_BYTES_MAX && is_printed(bytes))
+}
+
+/// Whether a text is a name of a document. Takes no memory.
+pub fn is_document_name(text: &str) -> bool
+    ensures { result ≡ parsing.is_document_name text.now }
+{
+    is_document_name_of(text.as_bytes())
 }

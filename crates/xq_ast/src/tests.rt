@@ -2,7 +2,7 @@
 use crate::{
     Axis, Bind, Boxed, Call, CallText, Code, CompareOp, Expr, ExprList, Items, LockMode, Mark,
     Need, NoMemory, PathStep, ProductOp, ProductPart, PyxRefusal, Sequence, Sign, SortKey,
-    SpentKind, Start, Step, Str, SumPart, Symbol, Test, Token, Update, is_name,
+    SpentKind, Start, Step, Str, SumPart, Symbol, Test, Token, Update, is_document_name, is_name,
 };
 use std::alloc::Global;
 use std::test::Fail;
@@ -324,6 +324,18 @@ fn a_name_is_told_by_its_bytes(rt: HostRuntime) -> Result<(), Fail> {
         assert_eq!(rt; is_name(text), want, "of {text}");
     }
     Ok(())
+}
+
+#[test]
+fn a_document_name_is_told_by_its_bytes(rt: HostRuntime) {
+    for (text, want) in [
+        ("", false),
+        (" ", true),
+        ("a/\u{e9}", true),
+        ("a\tb", false),
+    ] {
+        assert_eq!(rt; is_document_name(text), want, "of {text}");
+    }
 }
 
 #[test]

@@ -1,13 +1,15 @@
 -- What a reading leaves is shorter, and is UTF-8 where the whole is: an ASCII byte parts the two.
-use Rattle.std.proofs.Common.{◌≡◌, ℕ, zero, suc, ◌+◌, ◌<◌, Bool, true, false, ◌&&◌, List, [], ◌∷◌, ◌++◌, length, take, drop, get_or, Option, None, Some, refl, ap, sym, ◌∙◌, subst, arith, lit<, append_assoc, append-nil, length-append}
-use Rattle.std.specs.Prelude.{IsUtf8, nat_lt, nat_le, nat_eq, not, take_while, if◌then◌else◌, codes, pos}
+use Rattle.std.proofs.Common.{◌≡◌, ℕ, zero, suc, ◌+◌, ◌<◌, Bool, true, false, ◌&&◌, ◌||◌, List, [], ◌∷◌, ◌++◌, length, take, drop, get_or, Option, None, Some, refl, ap, sym, ◌∙◌, subst, arith, lit<, append_assoc, append-nil, length-append}
+use Rattle.std.specs.Prelude.{◌==◌, IsUtf8, nat_lt, nat_le, nat_eq, not, take_while, if◌then◌else◌, codes, pos}
 use Rattle.std.specs.List.{list_all, prefix_len}
 use Rattle.std.proofs.lemmas.Bool.{ltb-true}
 use Rattle.std.proofs.lemmas.Bool.Decides.{nat_tests}
 use Rattle.std.proofs.lemmas.Str.{IsUtf8-append, IsUtf8-nil, IsUtf8-take, IsUtf8-drop, IsUtf8-from_ascii, IsCharBoundary-before_ascii, IsCharBoundary-after_ascii}
 use Rattle.xq_ast.specs.declared.limits.TheConstants.{INTEGER_MAX}
 use Rattle.xq_ast.specs.Tokens as spec
-use Rattle.xq_ast.specs.Tokens.{◌>>=◌, behind, behind_front, begins, is_digit, is_space, is_quote, begins_part, continues_part, first_row, row_or, references, symbols, string_part, string_from, string, behind_quote, behind_ampersand, comment_turn, behind_comments, name, second_part, with_second, integer, piece, comment_or_symbol}
+use Rattle.xq_ast.specs.Tokens.{◌>>=◌, behind, behind_front, begins, is_space, is_quote, first_row, row_or, references, symbols, string_part, string_from, string, behind_quote, behind_ampersand, comment_turn, behind_comments, name, second_part, with_second, integer, piece, comment_or_symbol}
+use Rattle.xq_ast.proofs.Names.{continues_part_is}
+use Rattle.xq_ast.specs.Names.{is_digit, begins_part, continues_part}
 use Rattle.xq_ast.specs.declared.token.Token.TheVariants as token
 use Rattle.xq_parse.proofs.Fronts.{nat_eq-true, behind-whole, front_whole, front_ends}
 
@@ -273,7 +275,7 @@ with_second_is bytes first rest (Some second) f e =
     }
 
 begins_continues : (b : ℕ) → begins_part b ≡ true → continues_part b ≡ true
-begins_continues b begins_ = rw begins_ refl
+begins_continues b begins_ = continues_part_is b ∙ ap (λ t. t || is_digit b || b == 45 || b == 46) begins_
 
 pub name_is : (b : ℕ) (bytes : List ℕ) → begins_part b ≡ true → IsFront (b ∷ bytes) (name (b ∷ bytes)).0 (name (b ∷ bytes)).1
 name_is b bytes begins_ =

@@ -1,10 +1,9 @@
 -- The bound on the turns of a reading never tells, since each turn leaves fewer bytes: so a reading is one turn, and
 -- then the reading of what the turn leaves.
-use Rattle.std.proofs.Common.{◌≡◌, ℕ, zero, suc, ◌<◌, ◌≤◌, List, [], ◌∷◌, ◌++◌, length, Option, None, Some, refl, ap, arith}
+use Rattle.std.proofs.Common.{◌≡◌, ℕ, zero, suc, ◌-◌, ◌<◌, ◌≤◌, List, [], ◌∷◌, ◌++◌, length, Option, None, Some, refl, ap, arith}
 use Rattle.std.specs.Prelude.{codes}
-use Rattle.xq_ast.specs.declared.token.Token.{Token}
 use Rattle.xq_ast.specs.Tokens as spec
-use Rattle.xq_ast.specs.Tokens.{◌>>=◌, behind, string_part, string_from, string, comment_turn, behind_comments, piece, pieces, with_piece}
+use Rattle.xq_ast.specs.Tokens.{◌>>=◌, behind, string_part, string_from, string, comment_turn, behind_comments, piece, pieces, spelled, with_piece, Spelled}
 use Rattle.xq_parse.proofs.Behind.{IsPartOf, word_behind, part_is, piece_behind}
 
 -- ---- comments
@@ -58,10 +57,14 @@ string_step quote (b ∷ bytes) small =
 
 -- ---- tokens
 
-piece_same : (f g : List ℕ → Option (List Token)) (bytes : List ℕ) (o : Option (spec.Piece × List ℕ)) → piece bytes ≡ o → ((rest : List ℕ) → length rest < length bytes → f rest ≡ g rest)
-    → (o >>= (λ r. f r.1 >>= (λ more. Some (with_piece r.0 more)))) ≡ (o >>= (λ r. g r.1 >>= (λ more. Some (with_piece r.0 more))))
+-- the tokens of a piece of `bytes` and of what `more` reads after it
+abbrev pub piece_then : List ℕ → (List ℕ → Option (List Spelled)) → spec.Piece × List ℕ → Option (List Spelled)
+piece_then bytes more r = more r.1 >>= (λ rest. Some (with_piece r.0 (length bytes - length r.1) rest))
+
+piece_same : (f g : List ℕ → Option (List Spelled)) (bytes : List ℕ) (o : Option (spec.Piece × List ℕ)) → piece bytes ≡ o → ((rest : List ℕ) → length rest < length bytes → f rest ≡ g rest)
+    → (o >>= piece_then bytes f) ≡ (o >>= piece_then bytes g)
 piece_same f g bytes None e same = refl
-piece_same f g bytes (Some r) e same = ap (λ o. o >>= (λ more. let x : Option (List Token) = Some (with_piece r.0 more) in x)) (same r.1 (piece_behind bytes r e).less)
+piece_same f g bytes (Some r) e same = ap (λ o. o >>= (λ more. let x : Option (List Spelled) = Some (with_piece r.0 (length bytes - length r.1) more) in x)) (same r.1 (piece_behind bytes r e).less)
 
 pieces_fuel : (n m : ℕ) (bytes : List ℕ) → length bytes ≤ n → length bytes ≤ m → pieces n bytes ≡ pieces m bytes
 pieces_fuel n m [] h i = refl
@@ -71,6 +74,10 @@ pieces_fuel (suc n) (suc m) (b ∷ bytes) h i =
     piece_same (pieces n) (pieces m) (b ∷ bytes) (piece (b ∷ bytes)) refl (λ rest less. pieces_fuel n m rest (omega arith) (omega arith))
 
 -- one piece of a text
-pub pieces_step : (b : ℕ) (bytes : List ℕ) → pieces (length (b ∷ bytes)) (b ∷ bytes) ≡ (piece (b ∷ bytes) >>= (λ r. pieces (length r.1) r.1 >>= (λ more. Some (with_piece r.0 more))))
+pub pieces_step : (b : ℕ) (bytes : List ℕ) → pieces (length (b ∷ bytes)) (b ∷ bytes) ≡ (piece (b ∷ bytes) >>= piece_then (b ∷ bytes) (λ rest. pieces (length rest) rest))
 pieces_step b bytes =
     piece_same (pieces (length bytes)) (λ rest. pieces (length rest) rest) (b ∷ bytes) (piece (b ∷ bytes)) refl (λ rest less. pieces_fuel (length bytes) (length rest) rest (omega arith) (omega arith))
+
+-- any bound from the length on gives the same tokens
+pub any_bound : (bound : ℕ) (bytes : List ℕ) → length bytes ≤ bound → pieces bound bytes ≡ spelled bytes
+any_bound bound bytes enough = pieces_fuel bound (length bytes) bytes enough (omega arith)

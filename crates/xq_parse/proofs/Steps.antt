@@ -1,17 +1,18 @@
 -- The turns of the loops.
 use Rattle.std.proofs.Common.{◌≡◌, ◌≢◌, ℕ, zero, suc, ◌+◌, ◌-◌, ◌*◌, ◌<◌, ◌≤◌, true, false, List, [], ◌∷◌, ◌++◌, length, take, drop, get_or, fold, Option, None, Some, max, nat_le, IsUtf8, refl, ap, sym, ◌∙◌, subst, arith, append_assoc, append-nil, drop-cons, length-drop}
-use Rattle.std.specs.Prelude.{codes}
+use Rattle.std.specs.Prelude.{codes, map, option_map}
 use Rattle.std.specs.List.{prefix_len}
 use Rattle.std.proofs.lemmas.Bool.Decides.{nat_tests}
 use Rattle.xq_ast.specs.declared.limits.TheConstants.{INTEGER_MAX}
 use Rattle.xq_ast.specs.declared.token.Token.{Token}
 use Rattle.xq_ast.specs.Tokens as spec
-use Rattle.xq_ast.specs.Tokens.{◌>>=◌, behind, behind_front, continues_part, second_part, with_second, name, digit_more, string, string_from, string_part, comment_turn, behind_comments, piece, pieces, tokens, with_piece}
+use Rattle.xq_ast.specs.Tokens.{◌>>=◌, behind, behind_front, second_part, with_second, name, digit_more, string, string_from, string_part, comment_turn, behind_comments, piece, pieces, with_piece, Spelled}
+use Rattle.xq_ast.specs.Names.{continues_part}
 use Rattle.xq_ast.specs.Parsed.{most_open, open_behind}
 use Rattle.xq_parse.specs.declared.comment.CommentTurn.{CommentTurn}
 use Rattle.xq_parse.specs.Pieces.{turned}
 use Rattle.xq_parse.proofs.Behind.{IsPartOf, part_is, piece_behind, string_is, utf8_after, quote_ascii}
-use Rattle.xq_parse.proofs.Fuel.{comment_step, string_step, pieces_step}
+use Rattle.xq_parse.proofs.Fuel.{comment_step, string_step, piece_then, pieces_step}
 
 -- ---- comments
 
@@ -133,30 +134,45 @@ string_utf8 quote bytes text rest small u e = (string_is (length bytes) quote by
 
 -- ---- tokens
 
-pub some_bytes : (rest : List ℕ) (p : spec.Piece × List ℕ) → piece rest ≡ Some p → pieces (length rest) rest ≡ (pieces (length p.1) p.1 >>= (λ more. Some (with_piece p.0 more)))
+pub some_bytes : (rest : List ℕ) (p : spec.Piece × List ℕ) → piece rest ≡ Some p → pieces (length rest) rest ≡ piece_then rest (λ after. pieces (length after) after) p
 some_bytes [] p e = cc
-some_bytes (b ∷ rest) p e = pieces_step b rest ∙ ap (λ o. o >>= (λ r. pieces (length r.1) r.1 >>= (λ more. let x : Option (List Token) = Some (with_piece r.0 more) in x))) e
+some_bytes (b ∷ rest) p e = pieces_step b rest ∙ ap (λ o. o >>= piece_then (b ∷ rest) (λ after. pieces (length after) after)) e
 
-with_piece-append : (p : spec.Piece) (more : List Token) → with_piece p [] ++ more ≡ with_piece p more
-with_piece-append None more = refl
-with_piece-append (Some t) more = refl
+no_bytes : (rest : List ℕ) → rest ≢ [] → piece rest ≡ None → pieces (length rest) rest ≡ None
+no_bytes [] some e = absurd (some refl)
+no_bytes (b ∷ rest) some e = pieces_step b rest ∙ ap (λ o. o >>= piece_then (b ∷ rest) (λ after. pieces (length after) after)) e
 
-pub pieces_go_on : (rest after : List ℕ) (token : spec.Piece) (all new : List Token) (whole : Option (List Token)) → piece rest ≡ Some (token, after) → new ≡ all ++ with_piece token []
-    → (pieces (length rest) rest >>= (λ more. Some (all ++ more))) ≡ whole → (pieces (length after) after >>= (λ more. Some (new ++ more))) ≡ whole
-pieces_go_on rest after token all new whole read added so_far = by_rest (pieces (length after) after) (some_bytes rest (token, after) read)
-  where
-    by_rest : (o : Option (List Token)) → pieces (length rest) rest ≡ (o >>= (λ more. Some (with_piece token more))) → (o >>= (λ more. Some (new ++ more))) ≡ whole
-    by_rest None e = sym (ap (λ o. o >>= (λ more. let x : Option (List Token) = Some (all ++ more) in x)) e) ∙ so_far
-    by_rest (Some more) e =
-        ap (λ t. let x : Option (List Token) = Some (t ++ more) in x) added
-        ∙ (ap (λ t. let x : Option (List Token) = Some t in x) (append_assoc all (with_piece token []) more ∙ ap (λ t. all ++ t) (with_piece-append token more))
-        ∙ (sym (ap (λ o. o >>= (λ more. let x : Option (List Token) = Some (all ++ more) in x)) e) ∙ so_far))
+-- the tokens so far, and those that are left: of each spelled token its part, the token or the length
+module _ {A : Type 0} (part : Spelled → A) where
+  with_piece-append : (p : spec.Piece) (n : ℕ) (more : List Spelled) → map part (with_piece p n []) ++ map part more ≡ map part (with_piece p n more)
+  with_piece-append None n more = refl
+  with_piece-append (Some t) n more = refl
 
-pub pieces_fail : (rest : List ℕ) (all : List Token) (whole : Option (List Token)) → rest ≢ [] → piece rest ≡ None → (pieces (length rest) rest >>= (λ more. Some (all ++ more))) ≡ whole → whole ≡ None
-pieces_fail [] all whole some read so_far = absurd (some refl)
-pieces_fail (b ∷ rest) all whole some read so_far =
-    let e : pieces (length (b ∷ rest)) (b ∷ rest) ≡ None = pieces_step b rest ∙ ap (λ o. o >>= (λ r. pieces (length r.1) r.1 >>= (λ more. let x : Option (List Token) = Some (with_piece r.0 more) in x))) read in
-    sym so_far ∙ ap (λ o. o >>= (λ more. let x : Option (List Token) = Some (all ++ more) in x)) e
+  abbrev pub Goes : List A → Option (List Spelled) → Option (List A)
+  Goes all left = left >>= (λ more. Some (all ++ map part more))
+
+  pub pieces_start : (o : Option (List Spelled)) → Goes [] o ≡ option_map (map part) o
+  pieces_start None = refl
+  pieces_start (Some more) = refl
+
+  pub pieces_end : (all : List A) → Goes all (Some []) ≡ Some all
+  pieces_end all = ap (λ t. let x : Option (List A) = Some t in x) (append-nil all)
+
+  by_rest : (p : spec.Piece) (n : ℕ) (all new : List A) (whole : Option (List A)) (o left : Option (List Spelled)) → new ≡ all ++ map part (with_piece p n [])
+      → left ≡ (o >>= (λ more. Some (with_piece p n more))) → Goes all left ≡ whole → Goes new o ≡ whole
+  by_rest p n all new whole None left added e so_far = sym (ap (Goes all) e) ∙ so_far
+  by_rest p n all new whole (Some more) left added e so_far =
+      ap (λ t. let x : Option (List A) = Some (t ++ map part more) in x) added
+      ∙ (ap (λ t. let x : Option (List A) = Some t in x) (append_assoc all (map part (with_piece p n [])) (map part more) ∙ ap (λ t. all ++ t) (with_piece-append p n more))
+      ∙ (sym (ap (Goes all) e) ∙ so_far))
+
+  pub pieces_go_on : (rest after : List ℕ) (p : spec.Piece) (all new : List A) (whole : Option (List A)) → piece rest ≡ Some (p, after) → new ≡ all ++ map part (with_piece p (length rest - length after) [])
+      → Goes all (pieces (length rest) rest) ≡ whole → Goes new (pieces (length after) after) ≡ whole
+  pieces_go_on rest after p all new whole read added so_far =
+      by_rest p (length rest - length after) all new whole (pieces (length after) after) (pieces (length rest) rest) added (some_bytes rest (p, after) read) so_far
+
+  pub pieces_fail : (rest : List ℕ) (all : List A) (whole : Option (List A)) → rest ≢ [] → piece rest ≡ None → Goes all (pieces (length rest) rest) ≡ whole → whole ≡ None
+  pieces_fail rest all whole some read so_far = sym so_far ∙ ap (Goes all) (no_bytes rest some read)
 
 pub piece_utf8 : (rest : List ℕ) (p : spec.Piece × List ℕ) → piece rest ≡ Some p → IsUtf8 rest → IsUtf8 p.1
 piece_utf8 rest p e u = (piece_behind rest p e).utf8 [] u

@@ -1,3 +1,4 @@
+//! Why a text is refused.
 ghost use Rattle.std.specs.Prelude.{◌≡◌};
 ghost use Rattle.xq_parse.specs.Answers.{code_of};
 

@@ -1,5 +1,9 @@
+//! Classes of characters.
 ghost use Rattle.std.specs.Prelude.{◌≡◌};
 ghost use Rattle.xq_ast.specs.Tokens as spec;
+ghost use Rattle.xq_ast.specs.Names as names;
+
+use xq_ast::{begins_name, continues_name};
 
 pub(crate) fn is_space(b: u8) -> bool
     ensures { result ≡ spec.is_space b }
@@ -14,20 +18,21 @@ pub(crate) fn is_quote(b: u8) -> bool
 }
 
 pub(crate) fn is_digit(b: u8) -> bool
-    ensures { result ≡ spec.is_digit b }
+    ensures { result ≡ names.is_digit b }
 {
     b.is_ascii_digit()
 }
 
-/// Whether a part of a name begins so. A byte from 128 on is a part of a character beyond ASCII.
+/// Whether a part of a name begins so: as a name does, but with no colon.
 pub(crate) fn begins_part(b: u8) -> bool
-    ensures { result ≡ spec.begins_part b }
+    ensures { result ≡ names.begins_part b }
 {
-    b.is_ascii_alphabetic() || b == b'_' || b >= 128
+    begins_name(b) && b != b':'
 }
 
+/// Whether a part of a name goes on so: as a name does, but with no colon.
 pub(crate) fn continues_part(b: u8) -> bool
-    ensures { result ≡ spec.continues_part b }
+    ensures { result ≡ names.continues_part b }
 {
-    begins_part(b) || is_digit(b) || b == b'-' || b == b'.'
+    continues_name(b) && b != b':'
 }

@@ -1,3 +1,4 @@
+//! Comments.
 ghost use Rattle.std.specs.Prelude.{◌≡◌, ◌<◌, ◌≤◌, ◌+◌, ◌^◌, ℕ, List, Option, length, option_map, codes, IfSome};
 ghost use Rattle.xq_ast.specs.Tokens as spec;
 ghost use Rattle.xq_parse.specs.Pieces.{turned};

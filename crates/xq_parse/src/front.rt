@@ -1,13 +1,15 @@
+//! What bytes begin with.
 ghost use Rattle.std.specs.Prelude.{◌≡◌, ◌≤◌, length, option_map};
 ghost use Rattle.std.specs.List.{prefix_len};
 ghost use Rattle.xq_ast.specs.Tokens as spec;
+ghost use Rattle.xq_ast.specs.Names as names;
 
 use crate::characters::{begins_part, continues_part, is_digit};
 
 /// How many bytes from the first on continue a part of a name.
 #[tactic(auto, using(crate::proofs::Fronts::prefix_len_le))]
 pub(crate) fn part_len(bytes: &[u8]) -> usize
-    ensures count { result ≡ prefix_len spec.continues_part bytes.now }
+    ensures count { result ≡ prefix_len names.continues_part bytes.now }
     ensures within { result ≤ length bytes.now }
 {
     bytes.iter().take_while(|b| continues_part(**b)).count()
@@ -16,7 +18,7 @@ pub(crate) fn part_len(bytes: &[u8]) -> usize
 /// How many bytes from the first on are digits.
 #[tactic(auto, using(crate::proofs::Fronts::prefix_len_le))]
 pub(crate) fn digits_len(bytes: &[u8]) -> usize
-    ensures count { result ≡ prefix_len spec.is_digit bytes.now }
+    ensures count { result ≡ prefix_len names.is_digit bytes.now }
     ensures within { result ≤ length bytes.now }
 {
     bytes.iter().take_while(|b| is_digit(**b)).count()
@@ -24,7 +26,7 @@ pub(crate) fn digits_len(bytes: &[u8]) -> usize
 
 /// Whether the first byte is there and begins a part of a name.
 pub(crate) fn part_begins(bytes: &[u8]) -> bool
-    ensures { result ≡ spec.begins spec.begins_part bytes.now }
+    ensures { result ≡ spec.begins names.begins_part bytes.now }
 {
     match bytes {
         [] => false,
@@ -34,7 +36,7 @@ pub(crate) fn part_begins(bytes: &[u8]) -> bool
 
 /// Whether the first byte is there and continues a part of a name.
 pub(crate) fn part_continues(bytes: &[u8]) -> bool
-    ensures { result ≡ spec.begins spec.continues_part bytes.now }
+    ensures { result ≡ spec.begins names.continues_part bytes.now }
 {
     match bytes {
         [] => false,

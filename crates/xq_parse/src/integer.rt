@@ -1,3 +1,4 @@
+//! Integers.
 ghost use Rattle.std.specs.Prelude.{◌≡◌, ◌<◌, ◌≤◌, fold, MatchOption};
 ghost use Rattle.xq_ast.specs.Tokens as spec;
 ghost use Rattle.xq_ast.specs.declared.limits.TheConstants.{INTEGER_MAX};

@@ -3,9 +3,10 @@
 //! Contracts see a text as its bytes and a call as plain data. `parse_call` gives what `Parsed` of
 //! `xq_ast` says of the text: the call whose tokens the grammar has, or the first of the refusals
 //! `TooLong`, `XPST0003`, `NestedTooDeep`, `XPST0003` and `BadName`. The text is split into tokens
-//! whole; then one function for each row reads the tokens from the left. Two laws say that no
-//! tokens are two calls and that no text has two answers. Want of memory may come
-//! in place of any answer and leaves the text as it was.
+//! whole, each with the length of its own spelling; then one function for each row reads the tokens
+//! from the left. Laws say that no tokens are two calls, that no text has two answers, and that the
+//! bound in the definition of tokens never tells. Want of memory may come in place of any answer and
+//! leaves the text as it was.
 #![tactic(auto)]
 
 mod answer;
@@ -25,5 +26,5 @@ mod symbol;
 mod tests;
 
 pub use answer::ParseEnd;
-pub use laws::{text_has_one_answer, tokens_are_one_call};
+pub use laws::{any_bound_gives_the_tokens, text_has_one_answer, tokens_are_one_call};
 pub use parse::parse_call;

@@ -1,5 +1,7 @@
+//! Names.
 ghost use Rattle.std.specs.Prelude.{◌≡◌, ◌≤◌, ◌++◌, ℕ, List, take, drop, length, IfOk, IsUtf8, true};
 ghost use Rattle.xq_ast.specs.Tokens as spec;
+ghost use Rattle.xq_ast.specs.Names.{begins_part};
 ghost use Rattle.xq_ast.specs.declared.token.Token.TheVariants as token;
 ghost use Rattle.xq_parse.specs.Reads.{Reads};
 ghost use Rattle.xq_parse.specs.Pieces.{piece_of};
@@ -51,7 +53,7 @@ fn name_len(bytes: &[u8]) -> usize
 /// The name that begins here.
 pub(crate) fn name_piece(alloc: Global, bytes: &[u8]) -> Result<Piece<'_>, ParseEnd>
     requires utf8 { IsUtf8 bytes.now }
-    requires begins { spec.begins spec.begins_part bytes.now ≡ true }
+    requires begins { spec.begins begins_part bytes.now ≡ true }
     ensures { Reads piece_of result (spec.a_token token.Name (spec.name bytes.now)) }
 {
     let (name, rest) = bytes.split_at(name_len(bytes));

@@ -1,3 +1,4 @@
+//! How deep brackets nest.
 ghost use Rattle.std.specs.Prelude.{◌≡◌, ◌≤◌, nat_le};
 ghost use Rattle.xq_ast.specs.Parsed as spec;
 ghost use Rattle.xq_ast.specs.declared.limits.TheConstants.{BRACKETS_MAX};

@@ -1,3 +1,4 @@
+//! The call that a text spells.
 ghost use Rattle.std.specs.Prelude.{◌≡◌, ◌≢◌, Result, Ok, Err, IfOk, IfErr};
 ghost use Rattle.xq_ast.specs.Parsed.{Parsed};
 ghost use Rattle.xq_ast.specs.Readings.{parsed};
@@ -6,7 +7,7 @@ ghost use Rattle.xq_parse.specs.Reads.{Gives};
 
 use crate::answer::ParseEnd;
 use crate::nesting::is_nested_well;
-use crate::piece::tokens;
+use crate::piece::{SpelledTokens, tokens};
 use crate::rows::{call_of, has_good_names};
 use std::alloc::Global;
 use xq_ast::{CALL_BYTES_MAX, Call, CallText};
@@ -18,11 +19,11 @@ fn read(alloc: Global, call: &CallText) -> Result<Call, ParseEnd>
     if call.text.len() > CALL_BYTES_MAX {
         return Err(ParseEnd::TooLong);
     }
-    let tokens = tokens(alloc, call.text.as_str())?;
+    let SpelledTokens { tokens, .. } = tokens(alloc, call.text.as_str())?;
     if !is_nested_well(tokens.as_slice()) {
         return Err(ParseEnd::NestedTooDeep);
     }
-    let read = call_of(alloc, tokens.as_slice(), &call.pyx)?;
+    let read = call_of(tokens.as_slice(), &call.pyx)?;
     if !has_good_names(&read) {
         return Err(ParseEnd::BadName);
     }

@@ -1,13 +1,12 @@
-ghost use Rattle.std.specs.Prelude.{◌≡◌, ℕ, List, nat_le};
-ghost use Rattle.std.specs.List.{list_all};
+//! The rows of the grammar.
+ghost use Rattle.std.specs.Prelude.{◌≡◌, ℕ, List};
 ghost use Rattle.xq_ast.specs.Readings as spec;
-ghost use Rattle.xq_ast.specs.Parsed.{is_document_name, has_good_names};
+ghost use Rattle.xq_ast.specs.Parsed.{has_good_names};
 ghost use Rattle.xq_ast.specs.declared.call.Call.{Call};
 ghost use Rattle.xq_parse.specs.Reads.{Reads};
 
 use crate::answer::ParseEnd;
-use std::alloc::Global;
-use xq_ast::{Call, DOCUMENT_NAME_BYTES_MAX, Str, StrList, Token, copy_texts};
+use xq_ast::{Call, Str, StrList, Token, is_document_name};
 
 /// A call that is its first word alone.
 fn alone(call: Call, rest: &[Token]) -> Result<Call, ParseEnd>
@@ -51,7 +50,7 @@ fn begin(rest: &[Token]) -> Result<Call, ParseEnd>
 }
 
 /// The row that begins with this word.
-fn row(alloc: Global, word: &str, rest: &[Token], pyx: &StrList) -> Result<Call, ParseEnd>
+fn row(word: &str, rest: &[Token], pyx: &StrList) -> Result<Call, ParseEnd>
     ensures { Reads (λ c. c) result (spec.row word.now rest.now pyx.now) }
 {
     match word {
@@ -67,7 +66,7 @@ fn row(alloc: Global, word: &str, rest: &[Token], pyx: &StrList) -> Result<Call,
         }),
         "LOAD" => Ok(Call::Load {
             name: named(rest)?,
-            pyx: copy_texts(alloc, pyx)?,
+            pyx: pyx.copy()?,
         }),
         "EXPORT" => Ok(Call::Export { name: named(rest)? }),
         _ => Err(ParseEnd::XPST0003),
@@ -75,29 +74,16 @@ fn row(alloc: Global, word: &str, rest: &[Token], pyx: &StrList) -> Result<Call,
 }
 
 /// The call that these tokens are.
-pub(crate) fn call_of(alloc: Global, tokens: &[Token], pyx: &StrList) -> Result<Call, ParseEnd>
+pub(crate) fn call_of(tokens: &[Token], pyx: &StrList) -> Result<Call, ParseEnd>
     ensures { Reads (λ c. c) result (spec.call_of tokens.now pyx.now) }
 {
     match tokens {
-        [Token::Name(word), rest @ ..] => row(alloc, word.as_str(), rest, pyx),
+        [Token::Name(word), rest @ ..] => row(word.as_str(), rest, pyx),
         _ => Err(ParseEnd::XPST0003),
     }
 }
 
-/// Whether no character is below U+0020.
-fn is_printed(bytes: &[u8]) -> bool
-    ensures { result ≡ list_all (nat_le 32) bytes.now }
-{
-    bytes.iter().all(|b| 32 <= *b)
-}
-
-fn is_document_name(name: &[u8]) -> bool
-    ensures { result ≡ is_document_name name.now }
-{
-    1 <= name.len() && (name.len() <= DOCUMENT_NAME_BYTES_MAX && is_printed(name))
-}
-
-/// Whether the names in a call are names.
+/// Whether the names in a call are names. Each row says its own.
 pub(crate) fn has_good_names(call: &Call) -> bool
     ensures { result ≡ has_good_names call.now }
 {
@@ -105,7 +91,12 @@ pub(crate) fn has_good_names(call: &Call) -> bool
         Call::Create { name }
         | Call::Drop { name }
         | Call::Load { name, .. }
-        | Call::Export { name } => is_document_name(name.as_bytes()),
-        _ => true,
+        | Call::Export { name } => is_document_name(name.as_str()),
+        Call::Begin
+        | Call::BeginRead
+        | Call::Commit
+        | Call::Rollback
+        | Call::Checkpoint
+        | Call::ShowDocuments => true,
     }
 }

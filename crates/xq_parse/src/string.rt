@@ -1,3 +1,4 @@
+//! Strings.
 ghost use Rattle.std.specs.Prelude.{◌≡◌, ◌<◌, ◌∷◌, [], length, IsUtf8};
 ghost use Rattle.xq_ast.specs.Tokens as spec;
 ghost use Rattle.xq_parse.specs.Reads.{Reads};

@@ -1,3 +1,4 @@
+//! Symbols.
 ghost use Rattle.std.specs.Prelude.{◌≡◌, option_map, codes};
 ghost use Rattle.xq_ast.specs.Tokens as spec;
 ghost use Rattle.xq_ast.specs.declared.token.Token.TheVariants as token;

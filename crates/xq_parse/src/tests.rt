@@ -1,172 +1,127 @@
+//! What no clause says: that each call is read where there is memory, and the limits at their edges.
 use crate::{ParseEnd, parse_call};
 use std::alloc::Global;
 use std::process::Abort;
 use std::test::Fail;
-use xq_ast::{CallText, Code, Str, StrList};
+use xq_ast::{Call, CallText, Code, Str, StrList};
 
-/// A text and what it is.
-#[derive(Clone, Copy)]
-struct Row {
-    text: &'static str,
-    is: &'static str,
+/// The row of a call.
+fn row(call: &Call) -> &'static str {
+    match call {
+        Call::Begin => "BEGIN",
+        Call::BeginRead => "BEGIN READ-ONLY",
+        Call::Commit => "COMMIT",
+        Call::Rollback => "ROLLBACK",
+        Call::Checkpoint => "CHECKPOINT",
+        Call::ShowDocuments => "SHOW DOCUMENTS",
+        Call::Create { .. } => "CREATE DOCUMENT",
+        Call::Drop { .. } => "DROP DOCUMENT",
+        Call::Load { .. } => "LOAD",
+        Call::Export { .. } => "EXPORT",
+    }
 }
 
-const fn text_is(text: &'static str, is: &'static str) -> Row {
-    Row { text, is }
+/// The name in a call.
+fn name_of(call: &Call) -> Option<&str> {
+    match call {
+        Call::Create { name }
+        | Call::Drop { name }
+        | Call::Load { name, .. }
+        | Call::Export { name } => Some(name.as_str()),
+        _ => None,
+    }
 }
 
-/// What a call's text is, written out.
-fn check(
-    rt: &(impl Abort + Print),
-    alloc: Global,
-    text: String,
-    pyx: StrList,
-    is: &str,
-) -> Result<(), Fail> {
+fn read(alloc: Global, text: String) -> Result<Call, ParseEnd> {
     let call = CallText {
         text: Str::from_string(text),
-        pyx,
+        pyx: StrList::new(alloc),
     };
-    let read = parse_call(alloc, &call);
-    let shown = format!(in alloc; "{read:?}")?;
-    assert_eq!(rt; shown.as_str(), is);
-    Ok(())
+    parse_call(alloc, &call)
 }
 
-fn check_rows(rt: &(impl Abort + Print), alloc: Global, rows: &[Row]) -> Result<(), Fail> {
-    for row in rows {
-        let text = String::from_str(alloc, row.text)?;
-        check(rt, alloc, text, StrList::new(alloc), row.is)?;
+#[test]
+fn each_row(rt: HostRuntime) -> Result<(), Fail> {
+    let alloc = rt.alloc();
+    for (text, want, name) in [
+        ("BEGIN", "BEGIN", None),
+        (
+            "\tBEGIN (: a (: nested :) one :) READ-ONLY\r\n",
+            "BEGIN READ-ONLY",
+            None,
+        ),
+        ("COMMIT", "COMMIT", None),
+        ("ROLLBACK", "ROLLBACK", None),
+        (" CHECKPOINT ", "CHECKPOINT", None),
+        (
+            "CREATE DOCUMENT 'a''b&lt;'",
+            "CREATE DOCUMENT",
+            Some("a'b<"),
+        ),
+        ("DROP DOCUMENT \"a'\"", "DROP DOCUMENT", Some("a'")),
+        ("LOAD 'd'", "LOAD", Some("d")),
+        ("EXPORT'\u{e4}'", "EXPORT", Some("\u{e4}")),
+    ] {
+        let call = read(alloc, String::from_str(alloc, text)?)?;
+        assert_eq!(rt; row(&call), want, "of {text}");
+        assert_eq!(rt; name_of(&call), name, "of {text}");
     }
     Ok(())
 }
 
-/// `before`, then `middle` so many times, then `behind`.
-fn check_repeated(
-    rt: &(impl Abort + Print),
+#[test]
+fn refusals(rt: HostRuntime) -> Result<(), Fail> {
+    let alloc = rt.alloc();
+    for (text, want) in [
+        ("", Code::XPST0003),
+        ("begin", Code::XPST0003),
+        ("BEGIN READ - ONLY", Code::XPST0003),
+        ("COMMIT 'now'", Code::XPST0003),
+        ("CREATE DOCUMENT", Code::XPST0003),
+        ("EXPORT 1", Code::XPST0003),
+        ("EXPORT 'a&b;'", Code::XPST0003),
+        ("COMMIT (: not closed (: :)", Code::XPST0003),
+        ("COMMIT 1-2", Code::XPST0003),
+        ("COMMIT 9223372036854775808", Code::XPST0003),
+        ("DROP DOCUMENT ''", Code::BadName),
+        ("LOAD 'a\tb'", Code::BadName),
+        ("DROP DOCUMENT '' ''", Code::XPST0003),
+    ] {
+        let end = read(alloc, String::from_str(alloc, text)?).err();
+        assert_eq!(rt; end.map(|end| end.code()), Some(want), "of {text}");
+    }
+    Ok(())
+}
+
+/// Of `before`, then `middle` so many times, then `after`, why it is refused.
+fn refusal_of_repeated(
     alloc: Global,
     parts: [&str; 3],
     times: usize,
-    is: &str,
-) -> Result<(), Fail> {
+) -> Result<Option<ParseEnd>, Fail> {
     let mut text = String::from_str(alloc, parts[0])?;
     for _ in 0..times {
         text.push_str(parts[1])?;
     }
     text.push_str(parts[2])?;
-    check(rt, alloc, text, StrList::new(alloc), is)
-}
-
-#[test]
-fn each_row(rt: HostRuntime) -> Result<(), Fail> {
-    let rows = [
-        text_is("BEGIN", "Ok(Begin)"),
-        text_is(
-            "\tBEGIN (: a (: nested :) one :) READ-ONLY\r\n",
-            "Ok(BeginRead)",
-        ),
-        text_is("COMMIT", "Ok(Commit)"),
-        text_is("ROLLBACK", "Ok(Rollback)"),
-        text_is(" CHECKPOINT ", "Ok(Checkpoint)"),
-        text_is(
-            "CREATE DOCUMENT 'a''b&lt;'",
-            "Ok(Create { name: Str { text: \"a'b<\" } })",
-        ),
-        text_is(
-            "DROP DOCUMENT \"a'\"",
-            "Ok(Drop { name: Str { text: \"a'\" } })",
-        ),
-        text_is(
-            "EXPORT'\u{e4}'",
-            "Ok(Export { name: Str { text: \"\u{e4}\" } })",
-        ),
-    ];
-    check_rows(&rt, rt.alloc(), &rows)
-}
-
-#[test]
-fn a_load_keeps_its_lines(rt: HostRuntime) -> Result<(), Fail> {
-    let alloc = rt.alloc();
-    let mut pyx = StrList::new(alloc);
-    pyx.push(Str::of(alloc, "(a")?)?;
-    let text = String::from_str(alloc, "LOAD 'd'")?;
-    let is =
-        "Ok(Load { name: Str { text: \"d\" }, pyx: Sequence { items: [Str { text: \"(a\" }] } })";
-    check(&rt, alloc, text, pyx, is)
-}
-
-#[test]
-fn no_row(rt: HostRuntime) -> Result<(), Fail> {
-    let rows = [
-        text_is("", "Err(XPST0003)"),
-        text_is("begin", "Err(XPST0003)"),
-        text_is("BEGIN READ - ONLY", "Err(XPST0003)"),
-        text_is("BEGIN READ-ONLY now", "Err(XPST0003)"),
-        text_is("COMMIT 'now'", "Err(XPST0003)"),
-        text_is("CREATE 'a'", "Err(XPST0003)"),
-        text_is("CREATE DOCUMENT", "Err(XPST0003)"),
-        text_is("DROP DOCUMENT a", "Err(XPST0003)"),
-        text_is("LOAD 'a' 'b'", "Err(XPST0003)"),
-        text_is("EXPORT 1", "Err(XPST0003)"),
-        text_is("SHOW DOCUMENTS", "Err(XPST0003)"),
-    ];
-    check_rows(&rt, rt.alloc(), &rows)
-}
-
-#[test]
-fn no_tokens(rt: HostRuntime) -> Result<(), Fail> {
-    let rows = [
-        text_is("EXPORT 'a", "Err(XPST0003)"),
-        text_is("EXPORT 'a&b;'", "Err(XPST0003)"),
-        text_is("COMMIT (: not closed (: :)", "Err(XPST0003)"),
-        text_is("COMMIT (:)", "Err(XPST0003)"),
-        text_is("COMMIT :", "Err(XPST0003)"),
-        text_is("COMMIT !", "Err(XPST0003)"),
-        text_is("COMMIT 1-2", "Err(XPST0003)"),
-        text_is("COMMIT 9223372036854775808", "Err(XPST0003)"),
-    ];
-    check_rows(&rt, rt.alloc(), &rows)
-}
-
-#[test]
-fn bad_names(rt: HostRuntime) -> Result<(), Fail> {
-    let alloc = rt.alloc();
-    let rows = [
-        text_is("DROP DOCUMENT ''", "Err(BadName)"),
-        text_is("LOAD 'a\tb'", "Err(BadName)"),
-        text_is("DROP DOCUMENT '' ''", "Err(XPST0003)"),
-    ];
-    check_rows(&rt, alloc, &rows)?;
-    check_repeated(
-        &rt,
-        alloc,
-        ["EXPORT '", "\u{e4}", "ab'"],
-        127,
-        "Err(BadName)",
-    )
+    Ok(read(alloc, text).err())
 }
 
 #[test]
 fn limits(rt: HostRuntime) -> Result<(), Fail> {
     let alloc = rt.alloc();
-    check_repeated(&rt, alloc, ["COMMIT", " ", ""], 65_530, "Ok(Commit)")?;
-    check_repeated(&rt, alloc, ["COMMIT", " ", ""], 65_531, "Err(TooLong)")?;
-    check_repeated(&rt, alloc, ["", "[", ""], 64, "Err(XPST0003)")?;
-    check_repeated(&rt, alloc, [")", "{", ""], 65, "Err(NestedTooDeep)")?;
-    check_repeated(&rt, alloc, ["", "(", "'"], 65, "Err(XPST0003)")?;
-    check_repeated(&rt, alloc, ["", "return ", ""], 64, "Err(XPST0003)")?;
-    check_repeated(
-        &rt,
-        alloc,
-        ["return ", "else ", ""],
-        64,
-        "Err(NestedTooDeep)",
-    )
-}
-
-#[test]
-fn codes(rt: HostRuntime) -> Result<(), Fail> {
-    assert_eq!(&rt; ParseEnd::BadName.code(), Code::BadName);
-    assert_eq!(&rt; ParseEnd::XPST0003.code(), Code::XPST0003);
+    for (parts, times, want) in [
+        (["COMMIT", " ", ""], 65_530, None),
+        (["COMMIT", " ", ""], 65_531, Some(ParseEnd::TooLong)),
+        (["", "[", ""], 64, Some(ParseEnd::XPST0003)),
+        ([")", "{", ""], 65, Some(ParseEnd::NestedTooDeep)),
+        (["", "(", "'"], 65, Some(ParseEnd::XPST0003)),
+        (["", "return ", ""], 64, Some(ParseEnd::XPST0003)),
+        (["return ", "else ", ""], 64, Some(ParseEnd::NestedTooDeep)),
+        (["EXPORT '", "\u{e4}", "a'"], 127, None),
+        (["EXPORT '", "\u{e4}", "ab'"], 127, Some(ParseEnd::BadName)),
+    ] {
+        assert_eq!(rt; refusal_of_repeated(alloc, parts, times)?, want);
+    }
     Ok(())
 }
