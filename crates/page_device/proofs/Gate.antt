@@ -2,9 +2,7 @@
 use Rattle.std.proofs.Common.{◌≡◌, inl, inr, ℕ, ◌+◌, min, List, [], ◌∷◌, ◌++◌, length, take, drop, get_or, sym, ap, ◌∙◌, subst, arith, append_assoc, length-append, length-take, take-append-drop}
 use Rattle.std.proofs.lemmas.List.{take_at, drop_at, drop_more, get_or_at}
 use Rattle.page_device.specs.declared.device.Which.{Which}
-use Rattle.page_device.specs.declared.device.Which.TheVariants.{LogA}
 use Rattle.page_device.specs.Image.{Image, bytes_of, with_bytes}
-use Rattle.page_device.specs.Memory.{Disk, opened, now_of, IsImage}
 use Rattle.page_device.specs.Write.{overlay, Torn}
 use Rattle.page_device.specs.Device.{FileIs}
 use Rattle.page_device.specs.Run.{Each, InPart}
@@ -157,10 +155,3 @@ module _ (file : Which) (at : ℕ) (body : List ℕ) (c : Image) (old : Image �
     gate = gate_of;
     is = doubted_is ∙ (ap (λ (l : List ℕ). l ++ gate_of ∷ (body ++ r.rest)) (sym front_is) ∙ ap (λ (l : List ℕ). take at (bytes_of c file) ++ gate_of ∷ (body ++ l)) (sym rest_is));
   }
-
--- a device as it was opened, whose log is one closed gate
-pub rest_at_first : (d : Disk) (c : Image) → d ≡ opened c → c.log_a ≡ 0 ∷ [] → IsAtRest LogA 0 (now_of d) (IsImage d)
-rest_at_first d c is log = subst (λ (e : Disk). IsAtRest LogA 0 (now_of e) (IsImage e)) (sym is) record {
-  long = omega (arith, ap length log);
-  each = λ i left. record { gate = 0; shut = λ e. omega arith; rest = []; is = left.log_a ∙ log };
-}
