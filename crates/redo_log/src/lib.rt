@@ -23,13 +23,14 @@ mod page_table;
 mod pages;
 mod record;
 mod scanning;
+mod space_table;
 mod store;
 
 pub use appending::{append, settle};
 pub use body::{LogBody, build};
 pub use change::{Change, LogChangeList, LogName, LogNameList};
 pub use end::{AppendEnd, LogEnd};
-pub use laws::record_laws;
+pub use laws::{record_laws, scan_laws};
 pub use scanning::{LogBase, ScanEnd, Scanned, scan};
 
 #[cfg(test)]
