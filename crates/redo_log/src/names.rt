@@ -19,8 +19,8 @@ use std::alloc::Global;
 use std::cmp::Ordering;
 use xq_ast::{NoMemory, Str};
 
-// Whether the bytes are a document's name.
-fn is_name(bytes: &[u8]) -> bool
+/// Whether the bytes are a document's name.
+pub fn is_name(bytes: &[u8]) -> bool
     ensures { result ≡ is_name bytes.now }
 {
     is_text(bytes) && 0 < bytes.len() && is_printable(bytes)
@@ -41,8 +41,8 @@ fn is_printable(bytes: &[u8]) -> bool
     bytes.iter().all(|b| 32 <= *b)
 }
 
-// The text of a document's name.
-fn text_of(alloc: Global, bytes: &[u8]) -> Result<Str, NoMemory>
+/// The text of a document's name.
+pub fn text_of(alloc: Global, bytes: &[u8]) -> Result<Str, NoMemory>
     requires { IsTrue (is_name bytes.now) }
     ensures { IfOk result (λ s. s ≡ bytes.now) }
 {

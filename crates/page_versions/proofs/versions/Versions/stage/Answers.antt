@@ -83,3 +83,9 @@ returns-clause-seen c =
     let later = subst (λ (x : Kept). (s : ℕ) → Contains x.snapshots (Some s) → s < k) (sym c.self.view_is) c.requires.past.snapshots in
     subst (λ (x : Kept). (s : ℕ) → Contains slots (Some s) → (q : PageId) → version_at (chain_in n q) s ≡ version_at (chain_of x q) s) c.self.view_is
     (λ s there q. sym (version_at-base (Some k) s (chain_in n q) (later_staged k s (chain_in n q) (later s there))) ∙ ap (λ x. version_at x s) (stage_under m n slots c.self.inside.touched.items c.stage_with_room-staged.new.touched.items c.self.inside.older.items _ _ k sound past c.stage_with_room-staged.ensures.under q))
+
+pub returns-clause-same : goal.returns-clause-same
+returns-clause-same c = ?
+
+pub returns-clause-newest : goal.returns-clause-newest
+returns-clause-newest c = ?
