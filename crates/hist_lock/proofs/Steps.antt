@@ -335,8 +335,11 @@ module _ {T E O : Type 0} (events : T → List E) (session : E → ℕ) (origin 
         keeps,
         tt,
         subst (λ (z : List ℕ × List (View E O)). Rule record { words = z.0; homes = s.homes; views = z.1 }) (λ i. (sym (same_words s r) i, sym (set_again s.views id me.0 at) i)) r,
-        (refl, nothing (events_of session (me.0.made + 1) me.0.seen) (events_of session (me.0.made + 1) know.begun.0)
-            (sym (events_of-append session (me.0.made + 1) me.0.seen know.begun.0) ∙ (ap (events_of session (me.0.made + 1)) (sym log_is) ∙ r.no_other (me.0.made + 1) (omega arith)))),
+        (
+          refl,
+          nothing (events_of session (me.0.made + 1) me.0.seen) (events_of session (me.0.made + 1) know.begun.0)
+              (sym (events_of-append session (me.0.made + 1) me.0.seen know.begun.0) ∙ (ap (events_of session (me.0.made + 1)) (sym log_is) ∙ r.no_other (me.0.made + 1) (omega arith))),
+        ),
       )
     where
       nothing : (xs ys : List E) → xs ++ ys ≡ [] → xs ≡ []

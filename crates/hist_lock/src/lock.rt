@@ -20,11 +20,14 @@ use thiserror::Error;
 
 // The words of the table: how many events the list has, and whose turn it is.
 const COUNT: usize = 0;
+
 const TURN: usize = 1;
 
 // The turn is free, held, or held while somebody may wait for it.
 const FREE: u64 = 0;
+
 const HELD: u64 = 1;
+
 const WANTED: u64 = 2;
 
 /// There was no memory for the lock.
