@@ -1,7 +1,6 @@
 -- What the calls of a device do to what is read, and to what a crash may leave.
 use Rattle.std.specs.Prelude.{◌≡◌, ◌⊎◌, ℕ, ◌≤◌, ◌<◌, ◌-◌, min, Option, IfSome, List, length, take, drop, Result, IsErr}
 use Rattle.page_device.specs.declared.device.Failed.{Failed}
-use Rattle.page_device.specs.declared.device.TheConstants.{MOST_FAULTS}
 use Rattle.page_device.specs.declared.device.Which.{Which}
 use Rattle.page_device.specs.Image.{Image, bytes_of, SameOthers}
 use Rattle.page_device.specs.Write.{Torn}
@@ -49,7 +48,7 @@ pub record Elapses (before now : ℕ) (past since : ℕ → Image → Type 0) (i
 
 -- the count rose, or stands at its last value
 abbrev pub Rose : ℕ → ℕ → Type 0
-Rose before now = (before < now) ⊎ (MOST_FAULTS ≤ now)
+Rose before now = (before < now) ⊎ (18446744073709551615 ≤ now)
 
 -- the count does not fall, and Failed comes only where it rose
 pub record HasCause {T : Type 0} (before now : ℕ) (result : Result T Failed) : Type 0 where

@@ -1,5 +1,5 @@
 -- Which calls of a device in memory are to fail.
-use Rattle.std.specs.Prelude.{◌≡◌, ◌⊎◌, ℕ, Option, ◌+◌, ◌-◌, ◌^◌, min, Some, Any, List}
+use Rattle.std.specs.Prelude.{◌≡◌, ◌⊎◌, ℕ, Option, ◌+◌, ◌-◌, min, Some, Any, List}
 use Rattle.std.specs.Option.{option_map}
 use Rattle.page_device.specs.declared.plan.CallKind.{CallKind}
 use Rattle.page_device.specs.declared.plan.CallKind.TheVariants.{Read, Write, Sync, Len}
@@ -22,7 +22,7 @@ with_count c Len n = record c { lens = n }
 
 -- one more, up to the last number
 abbrev pub counted : ℕ → ℕ
-counted n = min (n + 1) (2 ^ 64 - 1)
+counted n = min (n + 1) 18446744073709551615
 
 -- the next call of this kind fails: no calls are left, or the list names it by its kind and number
 abbrev pub Fails : CallKind → Plan → Type 0

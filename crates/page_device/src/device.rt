@@ -9,9 +9,6 @@ use thiserror::Error;
 /// The greatest length of a file, in bytes.
 pub const LONGEST: u64 = 9223372036854775807;
 
-/// The last value of a count of faults, which stays there.
-pub const MOST_FAULTS: u64 = 18446744073709551615;
-
 /// The three files: the pages' slots, and two logs.
 #[derive(Clone, Copy, Debug, PartialEq, Eq)]
 pub enum Which {

@@ -19,7 +19,7 @@ mod plan;
 mod text;
 mod through;
 
-pub use device::{Device, Failed, LONGEST, MOST_FAULTS, Which};
+pub use device::{Device, Failed, LONGEST, Which};
 pub use file_device::FileDevice;
 pub use gating::{GateEnd, settle_gate, write_behind_gate};
 pub use mem_device::MemDevice;
