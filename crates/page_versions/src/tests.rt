@@ -194,7 +194,10 @@ fn slot_takes_the_newest_image_alone(rt: HostRuntime) -> Result<(), Fail> {
     let key = store.open()?;
     commit(alloc, &mut store, &[Mark { page: 3, byte: 2 }], &[])?;
     store.put_in_slot(id(3), 9);
-    store.give_up(&changes(alloc, &[Mark { page: 3, byte: 4 }])?, &spaces(alloc, &[])?)?;
+    store.give_up(
+        &changes(alloc, &[Mark { page: 3, byte: 4 }])?,
+        &spaces(alloc, &[])?,
+    )?;
     assert_bytes(&rt, &store, 3, &[0, 1, 209]);
     let mut kept = 0;
     for (_, chain) in store.versions.chains() {
@@ -208,10 +211,7 @@ fn slot_takes_the_newest_image_alone(rt: HostRuntime) -> Result<(), Fail> {
 #[test]
 fn chain_started_with_its_image(rt: HostRuntime) -> Result<(), Fail> {
     let alloc = rt.alloc();
-    for (image, byte) in [
-        (Image::Slot(8), 208),
-        (Image::Resident(page(alloc, 7)?), 7),
-    ] {
+    for (image, byte) in [(Image::Slot(8), 208), (Image::Resident(page(alloc, 7)?), 7)] {
         let mut versions = Versions::new(alloc);
         start(&mut versions, image)?;
         assert_eq!(rt; byte_of(versions.page_at(id(3), 3)), 0);
