@@ -6,7 +6,7 @@ use mathlib.Core.Logic.{inl, inr}
 use mathlib.Core.Option.{some, none, some-injective, some-ne-none}
 use lib.ListN.{get_elem?}
 use prog.Atomic.{either}
-use Rattle.atomic_table.specs.Table.{State, Me, step, keeps, takes, gives, stepped, opening, put_back, rest, Allows, Splits, Joins, Final, Seen}
+use Rattle.atomic_table.specs.Table.{State, Me, Step, step, keeps, takes, gives, stepped, opening, put_back, rest, Allows, Splits, Joins, Final, Seen}
 use Rattle.atomic_table.specs.Seated.{TableId}
 use Rattle.hist_lock.specs.Passes.{Known, known_of, AllJoined, ClosedAs}
 use Rattle.atomic_table.proofs.Lists.{at_set, set_again, set_else, at_longer, at_snoc}
@@ -14,7 +14,7 @@ use Rattle.hist_lock.specs.declared.view.Kept.{Kept}
 use Rattle.hist_lock.specs.declared.view.View.{View}
 use Rattle.hist_lock.specs.Story.{Begins, events_of, AllOf, longer}
 use Rattle.hist_lock.specs.Views.{opener, entered, added, left, parted, newcomer, kept_of, joined, gone}
-use Rattle.hist_lock.specs.Turns.{Keeps, Knows, IsFree, IsHeld, IsKept, taken, raised, freed}
+use Rattle.hist_lock.specs.Turns.{Keeps, Knows, IsFree, IsHeld, IsKept, taken, raised, looked, freed}
 use Rattle.hist_lock.proofs.Lists.{begins_same, begins_more, events_of-append, events_of_own, events_of_same}
 
 -- who stands in a list with one more stood there before, or is the last
@@ -23,6 +23,17 @@ snoc_place [] w u zero e = inr (refl, some-injective w u e)
 snoc_place [] w u (suc j) e = absurd (some-ne-none u (sym e))
 snoc_place {A} (x ∷ xs) w u zero e = inl e
 snoc_place {A} (x ∷ xs) w u (suc j) e = ⊎_elim (λ (old : get_elem? xs j ≡ some u). inl old) (λ (t : (j ≡ length xs) × (w ≡ u)). inr (ap suc t.0, t.1)) (snoc_place xs w u j e)
+
+-- the two tries: one takes a turn that is free, the other also says that it waits
+pub one_held : (n : ℕ) → either (eqb n 0) 1 n ≡ 0 → ⊥
+one_held n e = by_test (eqb n 0) (λ no is. true≢false (sym (ap (λ (m : ℕ). eqb m 0) is) ∙ no)) e
+  where
+    by_test : (b : Bool) → (b ≡ false → n ≡ 0 → ⊥) → either b 1 n ≡ 0 → ⊥
+    by_test true f is = absurd (omega (arith, is))
+    by_test false f is = f refl is
+
+pub one_waits : (n : ℕ) → ◌≡◌ {A = ℕ} 2 0 → ⊥
+one_waits n e = absurd (omega (arith, e))
 
 module _ {T E O : Type 0} (events : T → List E) (session : E → ℕ) (origin : T → O) (o : O) where
   abbrev St : Type 0
@@ -110,7 +121,7 @@ module _ {T E O : Type 0} (events : T → List E) (session : E → ℕ) (origin 
 
   -- a step of the seat id, whose list may go on with events of its own
   moved : (s : St) (r : Rule s) (ws : List ℕ) (hs : List _) (id : ℕ) (v w : View E O) (new log : List E) → log ≡ r.log ++ new → get_elem? s.views id ≡ some v → v.live ≡ true → v.live ≡ w.live → v.id ≡ w.id → v.kept ≡ w.kept
-      → length log < 18446744073709551616 → AllOf session v.id new
+      → length log < 2 ^ 64 → AllOf session v.id new
       → Knows session o log r.made w
       → ((j : ℕ) (u : View E O) → j ≢ id → get_elem? s.views j ≡ some u → u.live ≡ true → u.inside ≡ true → u.seen ≡ log)
       → (IsFree events session origin o log record { words = ws; homes = hs; views = set s.views id w } ⊎ IsHeld events session origin log record { words = ws; homes = hs; views = set s.views id w })
@@ -141,59 +152,84 @@ module _ {T E O : Type 0} (events : T → List E) (session : E → ℕ) (origin 
         phase = phase;
       }
 
-  -- where the turn is free
-  takes_free : (s : St) (r : Rule s) (f : IsFree events session origin o r.log s) (id : ℕ) (v : View E O) (cs : List (ℕ × Option T)) → get_elem? s.views id ≡ some v → v.live ≡ true
-      → Rule (stepped s 1 (either (eqb (get_or s.words 1 0) 0) 1 (get_or s.words 1 0)) id cs (entered v (events f.value)) (takes 0 (Some f.value)))
-  takes_free s r f id v cs at l =
-      let w = entered v (events f.value) in let me = r.each id v at l in
-      let small : length (events f.value) < 18446744073709551616 = subst (λ (z : List E). length z < 18446744073709551616) (sym f.list) r.small in
-      moved s r _ _ id v w [] (events f.value) (f.list ∙ sym (append-nil r.log)) at l refl refl refl small tt
-      record { from = me.from; begun = begins_same (events f.value); own = me.own ∙ ap (events_of session v.id) (sym f.list); numbered = me.numbered; opens = me.opens; others = λ i x g. subst (λ (z : List E). Keeps session z r.made x) (sym f.list) (me.others i x g); once = me.once; sole = me.sole; now = λ _. refl }
-      (λ j u n e m is_in. absurd (true≢false (sym is_in ∙ f.nobody j u e m)))
-      (inr record {
-        away = ap (λ (h : List _). set h 0 none) f.at_home;
-        words = ap (λ (z : List ℕ). set z 1 (either (eqb (get_or z 1 0) 0) 1 (get_or z 1 0))) f.words ∙ ap (λ (z : List E). length z ∷ 1 ∷ []) (sym f.list);
-        holder = id;
-        view = w;
-        there = set_at s.views id v w at;
-        is_live = l;
-        is_in = refl;
-        alone = each_set (λ j u. u.live ≡ true → u.inside ≡ true → j ≡ id) s.views id w (λ _ _. refl) (λ j u n e m is_in. absurd (true≢false (sym is_in ∙ f.nobody j u e m)));
-      })
-    where
-      set_at : (vs : List (View E O)) (i : ℕ) (v w : View E O) → get_elem? vs i ≡ some v → get_elem? (set vs i w) i ≡ some w
-      set_at [] i v w e = absurd (some-ne-none v (sym e))
-      set_at (x ∷ xs) zero v w e = refl
-      set_at (x ∷ xs) (suc i) v w e = set_at xs i v w e
+  -- a try to take the turn, which leaves a word that is not 0, by what it was
+  module _ (next : ℕ → ℕ) (busy : (n : ℕ) → next n ≡ 0 → ⊥) where
+    -- where the turn is free
+    takes_free : (s : St) (r : Rule s) (f : IsFree events session origin o r.log s) (id : ℕ) (v : View E O) (cs : List (ℕ × Option T)) → get_elem? s.views id ≡ some v → v.live ≡ true
+        → Rule (stepped s 1 (next (get_or s.words 1 0)) id cs (entered v (events f.value)) (takes 0 (Some f.value)))
+    takes_free s r f id v cs at l =
+        let w = entered v (events f.value) in let me = r.each id v at l in
+        let small : length (events f.value) < 2 ^ 64 = subst (λ (z : List E). length z < 2 ^ 64) (sym f.list) r.small in
+        moved s r _ _ id v w [] (events f.value) (f.list ∙ sym (append-nil r.log)) at l refl refl refl small tt
+        record { from = me.from; begun = begins_same (events f.value); own = me.own ∙ ap (events_of session v.id) (sym f.list); numbered = me.numbered; opens = me.opens; others = λ i x g. subst (λ (z : List E). Keeps session z r.made x) (sym f.list) (me.others i x g); once = me.once; sole = me.sole; now = λ _. refl }
+        (λ j u n e m is_in. absurd (true≢false (sym is_in ∙ f.nobody j u e m)))
+        (inr record {
+          away = ap (λ (h : List _). set h 0 none) f.at_home;
+          turn = next 0;
+          busy = busy 0;
+          words = ap (λ (z : List ℕ). set z 1 (next (get_or z 1 0))) f.words ∙ ap (λ (z : List E). length z ∷ next 0 ∷ []) (sym f.list);
+          holder = id;
+          view = w;
+          there = put_at s.views id v w at;
+          is_live = l;
+          is_in = refl;
+          alone = each_set (λ j u. u.live ≡ true → u.inside ≡ true → j ≡ id) s.views id w (λ _ _. refl) (λ j u n e m is_in. absurd (true≢false (sym is_in ∙ f.nobody j u e m)));
+        })
+      where
+        put_at : (vs : List (View E O)) (i : ℕ) (v w : View E O) → get_elem? vs i ≡ some v → get_elem? (set vs i w) i ≡ some w
+        put_at [] i v w e = absurd (some-ne-none v (sym e))
+        put_at (x ∷ xs) zero v w e = refl
+        put_at (x ∷ xs) (suc i) v w e = put_at xs i v w e
 
-  pub takes_turn : (slots id : ℕ) (me : M) → me.0.live ≡ true → me.1 ≡ [] → Allows Rule slots id me 1 (λ n. either (eqb n 0) 1 n) (taken events session origin (step slots 1 0 1 none) me)
-  takes_turn slots id me l none_held s r long at small = ⊎_elim
-      (λ (f : IsFree events session origin o r.log s).
-      let know = r.each id me.0 at l in let none_out : get_or s.words 1 0 ≡ 0 = ap (λ (z : List ℕ). get_or z 1 0) f.words in (
-        entered me.0 (events f.value),
-        takes 0 (Some f.value),
-        ap (λ (h : List _). get_elem? h 0) f.at_home,
-        takes_free s r f id me.0 me.1 at l,
-        (
-          (λ _. (f.value, refl, ap (λ (c : List (ℕ × Option T)). (0, Some f.value) ∷ c) none_held, record { begun = subst (λ (z : List E). Begins z me.0.seen) (sym f.list) know.begun; own = know.own ∙ ap (events_of session me.0.id) (sym f.list); from = f.from ∙ sym know.from; small = subst (λ (z : List E). length z < 18446744073709551616) (sym f.list) r.small })),
-          (λ n. absurd (n none_out)),
-        ),
-      ))
-      (λ (h : IsHeld events session origin r.log s).
-      let out : get_or s.words 1 0 ≡ 1 = ap (λ (z : List ℕ). get_or z 1 0) h.words in (
-        me.0,
-        keeps,
-        tt,
-        same s r.log h at r,
-        ((λ e. absurd (omega arith)), (λ _. refl)),
-      ))
-      r.phase
-    where
-      same : (s : St) (log : List E) (h : IsHeld events session origin log s) → get_elem? s.views id ≡ some me.0 → Rule s → Rule (stepped s 1 (either (eqb (get_or s.words 1 0) 0) 1 (get_or s.words 1 0)) id me.1 me.0 keeps)
-      same s log h at r =
-          let ws : set s.words 1 (either (eqb (get_or s.words 1 0) 0) 1 (get_or s.words 1 0)) ≡ s.words = ap (λ (z : List ℕ). set z 1 (either (eqb (get_or z 1 0) 0) 1 (get_or z 1 0))) h.words ∙ sym h.words in
-          let vs : set s.views id me.0 ≡ s.views = set_again s.views id me.0 at in
-          subst (λ (z : List ℕ × List (View E O)). Rule record { words = z.0; homes = s.homes; views = z.1 }) (λ i. (sym ws i, sym vs i)) r
+    -- where it is held
+    stays_held : (s : St) (r : Rule s) (h : IsHeld events session origin r.log s) (id : ℕ) (me : M) → get_elem? s.views id ≡ some me.0 → Rule (stepped s 1 (next (get_or s.words 1 0)) id me.1 me.0 keeps)
+    stays_held s r h id me at =
+        let ws : List ℕ = set s.words 1 (next (get_or s.words 1 0)) in
+        let held : Rule record { words = ws; homes = s.homes; views = s.views } = record {
+          log = r.log;
+          made = r.made;
+          small = r.small;
+          no_other = r.no_other;
+          each = r.each;
+          apart = r.apart;
+          kept_apart = r.kept_apart;
+          phase = inr record {
+            away = h.away;
+            turn = next h.turn;
+            busy = busy h.turn;
+            words = ap (λ (z : List ℕ). set z 1 (next (get_or z 1 0))) h.words;
+            holder = h.holder;
+            view = h.view;
+            there = h.there;
+            is_live = h.is_live;
+            is_in = h.is_in;
+            alone = h.alone;
+          };
+        } in
+        subst (λ (z : List (View E O)). Rule record { words = ws; homes = s.homes; views = z }) (sym (set_again s.views id me.0 at)) held
+
+    pub takes_turn : (slots id : ℕ) (me : M) (st : Step (Option T)) → me.0.live ≡ true → me.1 ≡ [] → Allows Rule slots id me 1 next (taken events session origin st me)
+    takes_turn slots id me st l none_held s r long at small = ⊎_elim
+        (λ (f : IsFree events session origin o r.log s).
+        let know = r.each id me.0 at l in let none_out : get_or s.words 1 0 ≡ 0 = ap (λ (z : List ℕ). get_or z 1 0) f.words in (
+          entered me.0 (events f.value),
+          takes 0 (Some f.value),
+          ap (λ (h : List _). get_elem? h 0) f.at_home,
+          takes_free s r f id me.0 me.1 at l,
+          (
+            (λ _. (f.value, refl, ap (λ (c : List (ℕ × Option T)). (0, Some f.value) ∷ c) none_held, record { begun = subst (λ (z : List E). Begins z me.0.seen) (sym f.list) know.begun; own = know.own ∙ ap (events_of session me.0.id) (sym f.list); from = f.from ∙ sym know.from; small = subst (λ (z : List E). length z < 2 ^ 64) (sym f.list) r.small })),
+            (λ n. absurd (n none_out)),
+          ),
+        ))
+        (λ (h : IsHeld events session origin r.log s).
+        let out : get_or s.words 1 0 ≡ h.turn = ap (λ (z : List ℕ). get_or z 1 0) h.words in (
+          me.0,
+          keeps,
+          tt,
+          stays_held s r h id me at,
+          ((λ e. absurd (h.busy (sym out ∙ e))), (λ _. refl)),
+        ))
+        r.phase
 
   -- the value in the first of the slots that are held
   abbrev inner_or : T → Option T → T
@@ -214,7 +250,7 @@ module _ {T E O : Type 0} (events : T → List E) (session : E → ℕ) (origin 
   set_at (x ∷ xs) (suc i) v w e = set_at xs i v w e
 
   pub raises_count : (slots id : ℕ) (me : M) (x : T) (new : List E) (k : ℕ) → me.0.live ≡ true → me.0.inside ≡ true → me.1 ≡ (0, Some x) ∷ [] → events x ≡ me.0.seen ++ new → AllOf session me.0.id new
-      → length (events x) < 18446744073709551616 → k ≡ length new → Allows Rule slots id me 0 (λ n. (n + k) % 2 ^ 64) (raised events session origin (step slots 0 k 0 none) me)
+      → length (events x) < 2 ^ 64 → k ≡ length new → Allows Rule slots id me 0 (λ n. (n + k) % 2 ^ 64) (raised events session origin (step slots 0 k 0 none) me)
   raises_count slots id me x new k l is_in has list all small is s r long at word =
       let h = held_by s r id me.0 at l is_in in let know = r.each id me.0 at l in
       let grown : events x ≡ r.log ++ new = list ∙ ap (λ (z : List E). z ++ new) (know.now is_in) in
@@ -239,7 +275,9 @@ module _ {T E O : Type 0} (events : T → List E) (session : E → ℕ) (origin 
             (λ j u n e m u_in. absurd (n (h.alone j u e m u_in ∙ sym mine)))
             (inr record {
               away = h.away;
-              words = ap (λ (z : List ℕ). set z 0 ((get_or z 0 0 + k) % 2 ^ 64)) h.words ∙ ap (λ (n : ℕ). n ∷ 1 ∷ []) total;
+              turn = h.turn;
+              busy = h.busy;
+              words = ap (λ (z : List ℕ). set z 0 ((get_or z 0 0 + k) % 2 ^ 64)) h.words ∙ ap (λ (n : ℕ). n ∷ h.turn ∷ []) total;
               holder = id;
               view = w;
               there = set_at s.views id me.0 w at;
@@ -252,7 +290,7 @@ module _ {T E O : Type 0} (events : T → List E) (session : E → ℕ) (origin 
             ∙ ap (λ (z : List E). (added me.0 (events y) z, me.1)) (ap (events_of session me.0.id) (list' ∙ ap (λ (z : List E). z ++ more) (know.now is_in)) ∙ (events_of-append session me.0.id r.log more ∙ (λ i. sym know.own i ++ events_of_own session me.0.id more all' i)))),
       )
     where
-      counted : (log new all : List E) (k : ℕ) → all ≡ log ++ new → k ≡ length new → length all < 18446744073709551616 → (length log + k) % 2 ^ 64 ≡ length all
+      counted : (log new all : List E) (k : ℕ) → all ≡ log ++ new → k ≡ length new → length all < 2 ^ 64 → (length log + k) % 2 ^ 64 ≡ length all
       counted log new all k grown is small = let e : length all ≡ length log + k = ap length grown ∙ (length-append log new ∙ ap (λ (n : ℕ). length log + n) (sym is)) in omega arith
 
   pub frees_turn : (slots id : ℕ) (me : M) (x : T) → me.0.live ≡ true → me.0.inside ≡ true → me.1 ≡ (0, Some x) ∷ [] → events x ≡ me.0.seen → origin x ≡ me.0.origin
@@ -286,6 +324,33 @@ module _ {T E O : Type 0} (events : T → List E) (session : E → ℕ) (origin 
   each_snoc : (P : ℕ → View E O → Type 0) (vs : List (View E O)) (w : View E O) → ((j : ℕ) → P j w) → ((j : ℕ) (u : View E O) → get_elem? vs j ≡ some u → P j u)
       → (j : ℕ) (u : View E O) → get_elem? (vs ++ w ∷ []) j ≡ some u → P j u
   each_snoc P vs w new old j u e = ⊎_elim (old j u) (λ (t : w ≡ u). subst (P j) t (new j)) (at_snoc vs w u j e)
+
+  -- no event that the opener has seen has the number of the next pass
+  pub looks_on : (slots id : ℕ) (me : M) → me.0.live ≡ true → me.0.id ≡ 0 → Allows Rule slots id me 0 (λ n. n) (looked events session origin (step slots 0 0 0 none) me)
+  looks_on slots id me l first s r long at small =
+      let know = r.each id me.0 at l in
+      let log_is : r.log ≡ me.0.seen ++ know.begun.0 = know.begun.1 in
+      let made_is : me.0.made ≡ r.made = know.opens first in (
+        me.0,
+        keeps,
+        tt,
+        subst (λ (z : List ℕ × List (View E O)). Rule record { words = z.0; homes = s.homes; views = z.1 }) (λ i. (sym (same_words s r) i, sym (set_again s.views id me.0 at) i)) r,
+        (
+          refl,
+          nothing (events_of session (me.0.made + 1) me.0.seen) (events_of session (me.0.made + 1) know.begun.0)
+              (sym (events_of-append session (me.0.made + 1) me.0.seen know.begun.0) ∙ (ap (events_of session (me.0.made + 1)) (sym log_is) ∙ r.no_other (me.0.made + 1) (omega arith))),
+        ),
+      )
+    where
+      nothing : (xs ys : List E) → xs ++ ys ≡ [] → xs ≡ []
+      nothing [] ys e = refl
+      nothing (x ∷ xs) ys e = absurd (cc e)
+
+      same_words : (s : St) (r : Rule s) → set s.words 0 (get_or s.words 0 0) ≡ s.words
+      same_words s r = ⊎_elim
+          (λ (f : IsFree events session origin o r.log s). ap (λ (z : List ℕ). set z 0 (get_or z 0 0)) f.words ∙ sym f.words)
+          (λ (h : IsHeld events session origin r.log s). ap (λ (z : List ℕ). set z 0 (get_or z 0 0)) h.words ∙ sym h.words)
+          r.phase
 
   pub splits_pass : (id : ℕ) (v : View E O) → v.live ≡ true → v.id ≡ 0 → v.inside ≡ false → Splits Rule id v (parted v) (newcomer v)
   splits_pass id v l first out s r at =
@@ -362,6 +427,8 @@ module _ {T E O : Type 0} (events : T → List E) (session : E → ℕ) (origin 
             (λ (h : IsHeld events session origin r.log s).
             let other : h.holder ≢ id = λ e. true≢false (sym h.is_in ∙ (ap (λ (z : View E O). z.inside) (some-injective _ _ (sym h.there ∙ (ap (get_elem? s.views) e ∙ at))) ∙ out)) in inr record {
               away = h.away;
+              turn = h.turn;
+              busy = h.busy;
               words = h.words;
               holder = h.holder;
               view = h.view;
@@ -465,6 +532,8 @@ module _ {T E O : Type 0} (events : T → List E) (session : E → ℕ) (origin 
             let not_me : h.holder ≢ id = λ e. true≢false (sym h.is_in ∙ (ap (λ (z : View E O). z.inside) (some-injective _ _ (sym h.there ∙ (ap (get_elem? s.views) e ∙ at))) ∙ out)) in
             let not_them : h.holder ≢ other = λ e. true≢false (sym h.is_in ∙ (ap (λ (z : View E O). z.inside) (some-injective _ _ (sym h.there ∙ (ap (get_elem? s.views) e ∙ at_w))) ∙ out')) in inr record {
               away = h.away;
+              turn = h.turn;
+              busy = h.busy;
               words = h.words;
               holder = h.holder;
               view = h.view;

@@ -1,6 +1,6 @@
 -- The rule between steps, and what each step tells.
--- Word 0 counts the events, word 1 is 0 while the value is at home, and 1 while one seat has it.
-use Rattle.std.specs.Prelude.{◌≡◌, ℕ, ◌<◌, ◌≤◌, ◌⊎◌, true, false, Option, Some, List, [], ◌∷◌, ◌++◌, length}
+-- Word 0 counts the events. Word 1 is 0 while the value is at home, and else 1, or 2 where somebody may wait for it.
+use Rattle.std.specs.Prelude.{◌≡◌, ℕ, ◌+◌, ◌^◌, ◌<◌, ◌≤◌, ◌⊎◌, true, false, Option, Some, List, [], ◌∷◌, ◌++◌, length}
 use mathlib.Core.Option.{some, none}
 use lib.ListN.{get_elem?}
 use Rattle.atomic_table.specs.Table.{State, Me, Step}
@@ -41,7 +41,9 @@ module _ {T E O : Type 0} (events : T → List E) (session : E → ℕ) (origin 
   -- the turn is held: the value is out with the one who is inside
   pub record IsHeld (log : List E) (s : State (Option T) (View E O)) : Type 0 where
     pub away : s.homes ≡ none ∷ []
-    pub words : s.words ≡ length log ∷ 1 ∷ []
+    pub turn : ℕ
+    pub busy : turn ≡ 0 → ⊥
+    pub words : s.words ≡ length log ∷ turn ∷ []
     pub holder : ℕ
     pub view : View E O
     pub there : get_elem? s.views holder ≡ some view
@@ -53,7 +55,7 @@ module _ {T E O : Type 0} (events : T → List E) (session : E → ℕ) (origin 
   pub record IsKept (o : O) (s : State (Option T) (View E O)) : Type 0 where
     pub log : List E
     pub made : ℕ
-    pub small : length log < 18446744073709551616
+    pub small : length log < 2 ^ 64
     pub no_other : (by : ℕ) → made < by → events_of session by log ≡ []
     pub each : (j : ℕ) (v : View E O) → get_elem? s.views j ≡ some v → v.live ≡ true → Knows session o log made v
     pub apart : (j k : ℕ) (v w : View E O) → get_elem? s.views j ≡ some v → get_elem? s.views k ≡ some w → v.live ≡ true → w.live ≡ true → v.id ≡ w.id → j ≡ k
@@ -70,9 +72,9 @@ module _ {T E O : Type 0} (events : T → List E) (session : E → ℕ) (origin 
     pub begun : Begins (events x) v.seen
     pub own : v.mine ≡ events_of session v.id (events x)
     pub from : origin x ≡ v.origin
-    pub small : length (events x) < 18446744073709551616
+    pub small : length (events x) < 2 ^ 64
 
-  -- a compare-exchange of the turn
+  -- a try to take the turn
   abbrev pub taken : Step (Option T) → Mine → ℕ → Mine → Type 0
   taken st m found m' =
       (found ≡ 0 → (x : T) × (m'.0 ≡ entered m.0 (events x)) × (m'.1 ≡ (0, Some x) ∷ []) × Gained m.0 x)
@@ -81,6 +83,10 @@ module _ {T E O : Type 0} (events : T → List E) (session : E → ℕ) (origin 
   -- the seat has seen the events of the value that it holds
   abbrev pub raised : Step (Option T) → Mine → ℕ → Mine → Type 0
   raised st m found m' = (x : T) (new : List E) → m.1 ≡ (0, Some x) ∷ [] → events x ≡ m.0.seen ++ new → AllOf session m.0.id new → m' ≡ (added m.0 (events x) (m.0.mine ++ new), m.1)
+
+  -- nothing changes, and no event that the opener has seen has the number of the next pass
+  abbrev pub looked : Step (Option T) → Mine → ℕ → Mine → Type 0
+  looked st m found m' = (m' ≡ m) × (events_of session (m.0.made + 1) m.0.seen ≡ [])
 
   -- the turn is given back
   abbrev pub freed : Step (Option T) → Mine → ℕ → Mine → Type 0

@@ -9,7 +9,7 @@ ghost use Rattle.hist_lock.specs.Holding.{value_of};
 use crate::held::Held;
 use crate::pass::Pass;
 use crate::story::Storied;
-use crate::turns::{Cut, Free, Glue, Raise, Take, Turns};
+use crate::turns::{Cut, Free, Glue, Look, Raise, Take, Turns};
 use crate::view::View;
 use atomic_table::{Refused, Seat, Table};
 use std::alloc::{AllocFailed, Global};
@@ -17,6 +17,18 @@ use std::marker::Model;
 use std::snapshot::Snapshot;
 use std::sync::Wait;
 use thiserror::Error;
+
+// The words of the table: how many events the list has, and whose turn it is.
+const COUNT: usize = 0;
+
+const TURN: usize = 1;
+
+// The turn is free, held, or held while somebody may wait for it.
+const FREE: u64 = 0;
+
+const HELD: u64 = 1;
+
+const WANTED: u64 = 2;
 
 /// There was no memory for the lock.
 #[derive(Clone, Copy, Debug, PartialEq, Eq, Error)]
@@ -77,11 +89,19 @@ impl<T: Storied> HistLock<T> {
         ensures lock { (seat.new.table_id ≡ seat.old.table_id) × (seat.new.id ≡ seat.old.id) }
         ensures gained { (x : T) × (seat.new.me.0 ≡ entered seat.old.me.0 (T.events x)) × (seat.new.me.1 ≡ (0, Some x) ∷ []) × Gained T.events T.session T.origin seat.old.me.0 x }
     {
+        if self
+            .table
+            .shared
+            .compare_exchange::<Take>(seat, TURN, FREE, HELD)
+            == FREE
+        {
+            return;
+        }
         for _ in rt.forever() {
-            if self.table.shared.compare_exchange::<Take>(seat, 1, 0, 1) == 0 {
+            if self.table.shared.swap::<Take>(seat, TURN, WANTED) == FREE {
                 return;
             }
-            self.table.shared.park(rt, 1, 1);
+            self.table.shared.park(rt, TURN, WANTED as u32);
         }
         unreachable!()
     }
@@ -104,7 +124,7 @@ impl<T: Storied> HistLock<T> {
         Held { value }
     }
 
-    // Puts the value back with so many new events, gives the turn back, and wakes one who waits for it.
+    // Puts the value back with so many new events, gives the turn back, and wakes one who waits where one may.
     fn give(&self, seat: &mut Seat<Option<T>, View<T::Event, T::Origin>>, value: T, more: u64)
         requires lock { seat.old.table_id ≡ self.now }
         requires holding { (seat.old.me.0.live ≡ true) × (seat.old.me.0.inside ≡ true) × (seat.old.me.1 ≡ (0, None) ∷ []) }
@@ -116,13 +136,19 @@ impl<T: Storied> HistLock<T> {
     {
         let empty = self.table.shared.exchange(seat, 0, Some(value));
         let None = empty else { unreachable!() };
-        self.table.shared.fetch_add::<Raise>(seat, 0, more);
-        self.table.shared.swap::<Free>(seat, 1, 0);
-        self.table.shared.wake_one(1);
+        self.table.shared.fetch_add::<Raise>(seat, COUNT, more);
+        self.wake_if_wanted(self.table.shared.swap::<Free>(seat, TURN, FREE));
     }
 
-    /// Puts the value back, with new events of this pass's number alone, and wakes one who waits. It waits for nobody,
-    /// so any `rt` will do.
+    // Wakes one who waits for the turn, where one may.
+    fn wake_if_wanted(&self, turn: u64) {
+        if turn == WANTED {
+            self.table.shared.wake_one(TURN);
+        }
+    }
+
+    /// Puts the value back, with new events of this pass's number alone, and wakes one who waits, where one may. It waits
+    /// for nobody, so any `rt` will do.
     pub fn leave<R>(&self, _rt: &R, held: Held<T>, pass: &mut Pass<T, T::Event, T::Origin>)
         requires lock { pass.old.lock ≡ self.now }
         requires inside { pass.old.inside ≡ true }
@@ -137,7 +163,7 @@ impl<T: Storied> HistLock<T> {
         self.give(&mut pass.seat, value, more);
     }
 
-    /// One more pass, with the next number. It has seen what the opener has.
+    /// One more pass, with the next number. It has seen what the opener has, and no event of its number is among that.
     pub fn split(&self, opener: &mut Pass<T, T::Event, T::Origin>) -> Pass<T, T::Event, T::Origin>
         requires lock { opener.old.lock ≡ self.now }
         requires opener { opener.old.id ≡ 0 }
@@ -145,7 +171,9 @@ impl<T: Storied> HistLock<T> {
         requires room { opener.old.made < 4294967295 }
         ensures opener { opener.new ≡ record opener.old { made = opener.old.made + 1 } }
         ensures new { result ≡ parting_pass opener.old }
+        ensures unused { events_of T.session result.id result.seen ≡ [] }
     {
+        self.table.shared.load::<Look>(&mut opener.seat, COUNT);
         let seat = self.table.shared.split_seat::<Cut>(&mut opener.seat);
         opener.made += 1;
         Pass {

@@ -40,6 +40,14 @@ impl<T: Storied> Play<Option<T>, View<T::Event, T::Origin>> for Free {
     ghost then = { freed T.events T.session T.origin };
 }
 
+pub struct Look;
+
+impl<T: Storied> Play<Option<T>, View<T::Event, T::Origin>> for Look {
+    ghost use Rattle.hist_lock.specs.Turns.{looked};
+
+    ghost then = { looked T.events T.session T.origin };
+}
+
 pub struct Cut;
 
 impl<E, O> Split<View<E, O>> for Cut {

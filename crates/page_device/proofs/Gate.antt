@@ -1,16 +1,14 @@
 -- What the two writes of a body behind a gate leave of the file.
 use Rattle.std.proofs.Common.{◌≡◌, inl, inr, ℕ, ◌+◌, min, List, [], ◌∷◌, ◌++◌, length, take, drop, get_or, sym, ap, ◌∙◌, subst, arith, append_assoc, length-append, length-take, take-append-drop}
-use Rattle.std.proofs.lemmas.List.{take_at, drop_at, drop_more}
+use Rattle.std.proofs.lemmas.List.{take_at, drop_at, drop_more, get_or_at}
 use Rattle.page_device.specs.declared.device.Which.{Which}
-use Rattle.page_device.specs.declared.device.Which.TheVariants.{LogA}
 use Rattle.page_device.specs.Image.{Image, bytes_of, with_bytes}
-use Rattle.page_device.specs.Memory.{Disk, opened, now_of, IsImage}
 use Rattle.page_device.specs.Write.{overlay, Torn}
 use Rattle.page_device.specs.Device.{FileIs}
-use Rattle.page_device.specs.Run.{Each, OthersFrom, TornFrom}
-use Rattle.page_device.specs.Gate.{IsAtRest, Before, Whole, BeforeOrAfter, behind}
+use Rattle.page_device.specs.Run.{Each, InPart}
+use Rattle.page_device.specs.Gate.{IsAtRest, Before, Lacks, HasBody, gated, AtAnyMoment, IsInDoubt, behind}
 use Rattle.page_device.proofs.Bytes.{overlay-inside}
-use Rattle.page_device.proofs.Runs.{bytes_of-with_bytes, with_bytes-twice}
+use Rattle.page_device.proofs.Runs.{bytes_of-with_bytes, others_from, others_from-twice}
 
 -- over plain lists: a front, a gate, and what stands behind it
 module _ (front : List ℕ) (gate : ℕ) (back : List ℕ) (at : ℕ) (long : length front ≡ at) where
@@ -64,67 +62,96 @@ module _ (front : List ℕ) (gate : ℕ) (back : List ℕ) (at : ℕ) (long : le
       ∙ (ap (λ (l : List ℕ). front ++ (1 ∷ []) ++ l) back_of
       ∙ append_assoc front (1 ∷ []) back))
 
+-- a closed gate behind a front that each image has
+pub rests : (file : Which) (at : ℕ) (c : Image) (images : Image → Type 0) (front : List ℕ) → length front ≡ at → images c → Each images (Before file front) → IsAtRest file at c images
+rests file at c images front long here all =
+    let own = all c here in
+    let same : take at (bytes_of c file) ≡ front = ap (take at) own.is ∙ take_at front (own.gate ∷ own.rest) at long in record {
+      long = omega (arith, long, ap length own.is, length-append front (own.gate ∷ own.rest));
+      each = λ i left. subst (λ (f : List ℕ). Before file f i) (sym same) (all i left);
+    }
+
 -- over a file that rests behind a closed gate
-module _ (file : Which) (at : ℕ) (c : Image) (body : List ℕ) (old : Image → Type 0) (r : IsAtRest file at c old) where
-  abbrev pub front : List ℕ
+module _ (file : Which) (at : ℕ) (body : List ℕ) (c : Image) (old : Image → Type 0) (here : old c) (r : IsAtRest file at c old) where
+  abbrev front : List ℕ
   front = take at (bytes_of c file)
 
-  abbrev pub back : List ℕ
+  abbrev back : List ℕ
   back = behind at body (bytes_of c file)
 
-  front_long : length front ≡ at
+  pub front_long : length front ≡ at
   front_long = omega (arith, r.long, length-take at (bytes_of c file))
 
-  pub before_of : (i : Image) → TornFrom file (at + 1) (length body) (bytes_of c file) old i → Before file front i
-  before_of i t = record {
-    gate = r.gate;
-    shut = r.shut;
-    rest = drop (at + 1) (bytes_of i file);
-    is = torn_behind front r.gate r.rest at front_long (length body) (bytes_of i file) (subst (λ (b : List ℕ). Torn (at + 1) (length body) b (bytes_of i file)) r.is t.torn);
+  -- the first write
+  pub lacks : (i : Image) → InPart file (at + 1) (length body) old i → Lacks file at body c old i
+  lacks i part = let was = r.each part.was part.is_old in record {
+    closed = record {
+      gate = was.gate;
+      shut = was.shut;
+      rest = drop (at + 1) (bytes_of i file);
+      is = torn_behind front was.gate was.rest at front_long (length body) (bytes_of i file) (subst (λ (b : List ℕ). Torn (at + 1) (length body) b (bytes_of i file)) was.is part.torn.torn);
+    };
+    part = part;
   }
 
-  -- what is read after the first write
-  abbrev pub middle : Image
-  middle = with_bytes c file (overlay (bytes_of c file) (at + 1) body)
+  -- what is read after it
+  abbrev middle : List ℕ
+  middle = overlay (bytes_of c file) (at + 1) body
 
-  written : overlay (bytes_of c file) (at + 1) body ≡ front ++ r.gate ∷ back
-  written = ap (λ (b : List ℕ). overlay b (at + 1) body) r.is ∙ (written_behind front r.gate r.rest at front_long body ∙ ap (λ (b : List ℕ). front ++ r.gate ∷ behind at body b) (sym r.is))
+  middle_is : middle ≡ front ++ (r.each c here).gate ∷ back
+  middle_is = let was = r.each c here in
+      ap (λ (b : List ℕ). overlay b (at + 1) body) was.is
+      ∙ (written_behind front was.gate was.rest at front_long body ∙ ap (λ (b : List ℕ). front ++ was.gate ∷ behind at body b) (sym was.is))
 
-  middle_is : bytes_of middle file ≡ front ++ r.gate ∷ back
-  middle_is = bytes_of-with_bytes c file (overlay (bytes_of c file) (at + 1) body) ∙ written
-
-  pub middle_synced : (mid : Image → Type 0) → FileIs file (overlay (bytes_of c file) (at + 1) body) mid → FileIs file (bytes_of middle file) mid
-  middle_synced mid is i left = is i left ∙ sym (bytes_of-with_bytes c file (overlay (bytes_of c file) (at + 1) body))
-
-  pub whole_of : (mid : Image → Type 0) (i : Image) → TornFrom file at 1 (bytes_of middle file) mid i → Whole file front back i
-  whole_of mid i t = record {
+  -- the gate's write
+  pub has_body : (mid : Image → Type 0) → FileIs file middle mid → (i : Image) → InPart file at 1 mid i → HasBody file at body c i
+  has_body mid only i part = record {
     gate = get_or (bytes_of i file) at 0;
-    is = torn_gate front r.gate back at front_long (bytes_of i file) (subst (λ (b : List ℕ). Torn at 1 b (bytes_of i file)) middle_is t.torn);
+    is = torn_gate front (r.each c here).gate back at front_long (bytes_of i file)
+        (subst (λ (b : List ℕ). Torn at 1 b (bytes_of i file)) (only part.was part.is_old ∙ middle_is) part.torn.torn);
   }
 
-  pub opened_is : overlay (bytes_of middle file) at (1 ∷ []) ≡ front ++ 1 ∷ back
-  opened_is = ap (λ (b : List ℕ). overlay b at (1 ∷ [])) middle_is ∙ written_gate front r.gate back at front_long
+  pub gated_is : overlay (bytes_of (with_bytes c file middle) file) at (1 ∷ []) ≡ gated file at body c
+  gated_is = ap (λ (b : List ℕ). overlay b at (1 ∷ [])) (bytes_of-with_bytes c file middle ∙ middle_is) ∙ written_gate front (r.each c here).gate back at front_long
 
-  others_of : (mid : Image → Type 0) → Each mid (TornFrom file (at + 1) (length body) (bytes_of c file) old) → (i : Image) → OthersFrom file mid i → OthersFrom file old i
-  others_of mid all i o = let w = (all o.was o.is_old).others in record {
-    was = w.was;
-    is_old = w.is_old;
-    same = o.same ∙ (ap (λ (z : Image). with_bytes z file (bytes_of i file)) w.same ∙ with_bytes-twice w.was file (bytes_of o.was file) (bytes_of i file));
+  pub any_before : (i : Image) → InPart file (at + 1) (length body) old i → AtAnyMoment file at body c old i
+  any_before i part = record { file_is = inl (lacks i part); others = others_from file (at + 1) (length body) old i part }
+
+  pub any_after : (mid : Image → Type 0) → FileIs file middle mid → Each mid (InPart file (at + 1) (length body) old) → (i : Image) → InPart file at 1 mid i → AtAnyMoment file at body c old i
+  any_after mid only all i part = record {
+    file_is = inr (has_body mid only i part);
+    others = others_from-twice file (at + 1) (length body) old mid all i (others_from file at 1 mid i part);
   }
 
-  pub any_before : (i : Image) → TornFrom file (at + 1) (length body) (bytes_of c file) old i → BeforeOrAfter file front back old i
-  any_before i t = record { gate = inl (before_of i t); others = t.others }
+  -- after Failed the body may be written again
+  pub rests_again : (new : Image → Type 0) (d : Image) → new d → Each new (InPart file (at + 1) (length body) old) → IsAtRest file at d new
+  rests_again new d is all = rests file at d new front front_long is (λ i left. (lacks i (all i left)).closed)
 
-  pub any_after : (mid : Image → Type 0) → Each mid (TornFrom file (at + 1) (length body) (bytes_of c file) old) → (i : Image) → TornFrom file at 1 (bytes_of middle file) mid i → BeforeOrAfter file front back old i
-  any_after mid all i t = record { gate = inr (whole_of mid i t); others = others_of mid all i t.others }
+  pub in_doubt : (new : Image → Type 0) → Each new (HasBody file at body c) → IsInDoubt file at body new
+  in_doubt new all = record { front = front; rest = drop (at + 1 + length body) (bytes_of c file); long = front_long; each = all }
 
--- a device as it was opened, whose log is one closed gate
-pub rest_at_first : (d : Disk) (c : Image) → d ≡ opened c → c.log_a ≡ 0 ∷ [] → IsAtRest LogA 0 (now_of d) (IsImage d)
-rest_at_first d c is log = subst (λ (e : Disk). IsAtRest LogA 0 (now_of e) (IsImage e)) (sym is) record {
-  gate = 0;
-  shut = λ e. omega arith;
-  rest = [];
-  is = log;
-  long = omega (arith, ap length log);
-  synced = λ i left. left.log_a;
-}
+-- over a body in doubt, as it is read
+module _ (file : Which) (at : ℕ) (body : List ℕ) (c : Image) (old : Image → Type 0) (here : old c) (r : IsInDoubt file at body old) where
+  abbrev pub gate_of : ℕ
+  gate_of = (r.each c here).gate
+
+  pub doubted_is : bytes_of c file ≡ r.front ++ gate_of ∷ (body ++ r.rest)
+  doubted_is = (r.each c here).is
+
+  front_is : take at (bytes_of c file) ≡ r.front
+  front_is = ap (take at) doubted_is ∙ take_at r.front (gate_of ∷ (body ++ r.rest)) at r.long
+
+  rest_is : drop (at + 1 + length body) (bytes_of c file) ≡ r.rest
+  rest_is =
+      ap (drop (at + 1 + length body)) (doubted_is ∙ sym (append_assoc r.front (gate_of ∷ body) r.rest))
+      ∙ drop_at (r.front ++ gate_of ∷ body) r.rest (at + 1 + length body) (omega (arith, r.long, length-append r.front (gate_of ∷ body)))
+
+  -- the gate is where it was
+  pub gate_is : get_or (bytes_of c file) at 0 ≡ gate_of
+  gate_is = ap (λ (l : List ℕ). get_or l at 0) doubted_is ∙ get_or_at r.front gate_of (body ++ r.rest) 0 at r.long
+
+  pub whole_is : HasBody file at body c c
+  whole_is = record {
+    gate = gate_of;
+    is = doubted_is ∙ (ap (λ (l : List ℕ). l ++ gate_of ∷ (body ++ r.rest)) (sym front_is) ∙ ap (λ (l : List ℕ). take at (bytes_of c file) ++ gate_of ∷ (body ++ l)) (sym rest_is));
+  }

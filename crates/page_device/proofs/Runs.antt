@@ -1,13 +1,12 @@
--- How a run of calls goes on, and what a write and a sync leave in it.
-use Rattle.std.proofs.Common.{◌≡◌, inl, inr, ⊎_elim, ℕ, Option, List, refl, sym, subst, arith}
+-- How a run of calls goes on, and what a write and a sync of a file leave in it, which may differ from image to image.
+use Rattle.std.proofs.Common.{◌≡◌, inl, inr, ⊎_elim, ℕ, Option, List, refl, ap, ◌∙◌, subst, arith}
 use Rattle.page_device.specs.declared.device.Which.{Which}
 use Rattle.page_device.specs.declared.device.Which.TheVariants.{Slots, LogA, LogB}
-use Rattle.page_device.specs.Image.{Image, bytes_of, with_bytes}
+use Rattle.page_device.specs.Image.{Image, bytes_of, with_bytes, SameOthers}
 use Rattle.page_device.specs.Write.{Torn}
-use Rattle.page_device.specs.Device.{TornImage, Follows, Shrinks, FileIs, Elapses}
-use Rattle.page_device.specs.Run.{Each, LeavesOnly, TornFrom}
-use Rattle.page_device.specs.MemoryLaws.{torn_same}
-use Rattle.page_device.proofs.Replay.{with_own}
+use Rattle.page_device.specs.Device.{TornImage, Follows, Shrinks, KeepsOthers, FileIs, Elapses}
+use Rattle.page_device.specs.Run.{Each, LeavesOnly, OthersFrom, InPart}
+use Rattle.page_device.proofs.Replay.{torn_stays}
 
 -- a file is what was put into the image
 pub bytes_of-with_bytes : (c : Image) (file : Which) (b : List ℕ) → bytes_of (with_bytes c file b) file ≡ b
@@ -48,34 +47,42 @@ module _ {D : Type 0} (moment : D → ℕ) (left_since : D → ℕ → Image →
     before = λ t c le left. ⊎_elim (λ was. ⊎_elim inl (λ is. inr (p c is)) (first.before t c le was)) (λ is. inr (q c is)) (second.before t c (omega (arith, le, first.later)) left);
   }
 
-module _ (file : Which) (at n : ℕ) (c : Image) (old : Image → Type 0) (synced : FileIs file (bytes_of c file) old) where
+-- what is left of a write is left of two that the file took
+pub same_others-twice : (file : Which) (c d e : Image) → SameOthers file c d → SameOthers file d e → SameOthers file c e
+same_others-twice file c d e first second = second ∙ (ap (λ (z : Image). with_bytes z file (bytes_of e file)) first ∙ with_bytes-twice c file (bytes_of d file) (bytes_of e file))
+
+pub keeps_others-twice : (file : Which) (old mid new : Image → Type 0) → KeepsOthers file old mid → KeepsOthers file mid new → KeepsOthers file old new
+keeps_others-twice file old mid new first second c is = let d = first c is in let e = second d.0 d.1 in (e.0, e.1, same_others-twice file c d.0 e.0 d.2 e.2)
+
+pub others_from : (file : Which) (at n : ℕ) (old : Image → Type 0) (i : Image) → InPart file at n old i → OthersFrom file old i
+others_from file at n old i part = record { was = part.was; is_old = part.is_old; same = part.torn.others }
+
+pub others_from-twice : (file : Which) (at n : ℕ) (old mid : Image → Type 0) → Each mid (InPart file at n old) → (i : Image) → OthersFrom file mid i → OthersFrom file old i
+others_from-twice file at n old mid all i o = let part = all o.was o.is_old in
+    record { was = part.was; is_old = part.is_old; same = same_others-twice file part.was o.was i part.torn.others o.same }
+
+-- of a file that each image has as it is read, what is left is that file with the write done in part
+pub torn_from : (file : Which) (at n : ℕ) (bytes : List ℕ) (old : Image → Type 0) → FileIs file bytes old → (i : Image) → InPart file at n old i → Torn at n bytes (bytes_of i file)
+torn_from file at n bytes old synced i part = subst (λ (b : List ℕ). Torn at n b (bytes_of i file)) (synced part.was part.is_old) part.torn.torn
+
+module _ (file : Which) (at n : ℕ) (old : Image → Type 0) where
   -- an image from before the write
-  pub still : (i : Image) → old i → TornFrom file at n (bytes_of c file) old i
-  still i is = record {
-    torn = subst (λ (b : List ℕ). Torn at n (bytes_of c file) b) (sym (synced i is)) (torn_same at n (bytes_of c file));
-    others = record { was = i; is_old = is; same = with_own i file };
-  }
+  pub still : (i : Image) → old i → InPart file at n old i
+  still i is = record { was = i; is_old = is; torn = torn_stays file at n i }
 
   -- one from after it
-  pub torn_now : (told : Option Image) (new : Image → Type 0) → Follows (TornImage file at n told) old new → Each new (TornFrom file at n (bytes_of c file) old)
-  torn_now told new follows i is =
-      let from = follows i is in record {
-        torn = subst (λ (b : List ℕ). Torn at n b (bytes_of i file)) (synced from.0 from.1) from.2.write.torn;
-        others = record { was = from.0; is_old = from.1; same = from.2.write.others };
-      }
+  pub written : (told : Option Image) (new : Image → Type 0) → Follows (TornImage file at n told) old new → Each new (InPart file at n old)
+  written told new follows i is = let from = follows i is in record { was = from.0; is_old = from.1; torn = from.2.write }
 
 -- the run of a write, and of a sync behind it
 module _ {D : Type 0} (moment : D → ℕ) (left_since : D → ℕ → Image → Type 0) (may_leave : D → Image → Type 0) (only_now : (d : D) (c : Image) → left_since d (moment d) c → may_leave d c)
-    (file : Which) (at n : ℕ) (c : Image) (old : D) (synced : FileIs file (bytes_of c file) (may_leave old)) where
-  abbrev Fits : Image → Type 0
-  Fits = TornFrom file at n (bytes_of c file) (may_leave old)
-
+    (file : Which) (at n : ℕ) (old : D) where
   pub after_a_write : (told : Option Image) (new : D) → Follows (TornImage file at n told) (may_leave old) (may_leave new)
-      → Elapses (moment old) (moment new) (left_since old) (left_since new) (may_leave new) → LeavesOnly moment left_since old new Fits
-  after_a_write told new follows time = goes_on moment left_since old old new Fits (may_leave new) (started moment left_since old Fits (λ i left. still file at n c (may_leave old) synced i (only_now old i left))) time
-      (torn_now file at n c (may_leave old) synced told (may_leave new) follows)
+      → Elapses (moment old) (moment new) (left_since old) (left_since new) (may_leave new) → LeavesOnly moment left_since old new (InPart file at n (may_leave old))
+  after_a_write told new follows time = goes_on moment left_since old old new (InPart file at n (may_leave old)) (may_leave new)
+      (started moment left_since old (InPart file at n (may_leave old)) (λ i left. still file at n (may_leave old) i (only_now old i left))) time (written file at n (may_leave old) told (may_leave new) follows)
 
   pub after_both : (told : Option Image) (mid new : D) → Follows (TornImage file at n told) (may_leave old) (may_leave mid) → Elapses (moment old) (moment mid) (left_since old) (left_since mid) (may_leave mid)
-      → Shrinks (may_leave mid) (may_leave new) → Elapses (moment mid) (moment new) (left_since mid) (left_since new) (may_leave new) → LeavesOnly moment left_since old new Fits
-  after_both told mid new follows time shrinks time' = goes_on moment left_since old mid new Fits (may_leave new) (after_a_write told mid follows time) time'
-      (λ i left. torn_now file at n c (may_leave old) synced told (may_leave mid) follows i (shrinks i left))
+      → Shrinks (may_leave mid) (may_leave new) → Elapses (moment mid) (moment new) (left_since mid) (left_since new) (may_leave new) → LeavesOnly moment left_since old new (InPart file at n (may_leave old))
+  after_both told mid new follows time shrinks time' = goes_on moment left_since old mid new (InPart file at n (may_leave old)) (may_leave new) (after_a_write told mid follows time) time'
+      (λ i left. written file at n (may_leave old) told (may_leave mid) follows i (shrinks i left))

@@ -1,8 +1,8 @@
 -- What a run of several calls of a device leaves.
-use Rattle.std.specs.Prelude.{◌⊎◌, ℕ, ◌≤◌, List}
+use Rattle.std.specs.Prelude.{◌⊎◌, ℕ, ◌≤◌}
 use Rattle.page_device.specs.declared.device.Which.{Which}
-use Rattle.page_device.specs.Image.{Image, bytes_of, SameOthers}
-use Rattle.page_device.specs.Write.{Torn}
+use Rattle.page_device.specs.Image.{Image, SameOthers}
+use Rattle.page_device.specs.Device.{TornIn}
 
 -- each of these images has P
 abbrev pub Each : (Image → Type 0) → (Image → Type 0) → Type 0
@@ -21,7 +21,8 @@ pub record OthersFrom (file : Which) (images : Image → Type 0) (c : Image) : T
   pub is_old : images was
   pub same : SameOthers file was c
 
--- The file held these bytes, and a write of n bytes was done in part; the other files are those of one of these images.
-pub record TornFrom (file : Which) (at n : ℕ) (bytes : List ℕ) (images : Image → Type 0) (c : Image) : Type 0 where
-  pub torn : Torn at n bytes (bytes_of c file)
-  pub others : OthersFrom file images c
+-- an image from before, in which a write of n bytes of this file was done in part, or not at all
+pub record InPart (file : Which) (at n : ℕ) (old : Image → Type 0) (i : Image) : Type 0 where
+  pub was : Image
+  pub is_old : old was
+  pub torn : TornIn file at n was i

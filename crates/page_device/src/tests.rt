@@ -1,8 +1,10 @@
-mod four_calls;
+ghost use Rattle.std.specs.Prelude.{IfOk, IfSome};
+ghost use Rattle.page_device.specs.MemDevice.{contents_of, MayLeave};
+ghost use Rattle.page_device.specs.Gate.{IsAtRest};
 
 use crate::{
-    CallKind, Device, Fail as Planned, FailList, FileDevice, MemDevice, Pick, Str, Which,
-    write_through,
+    CallKind, Device, Fail as Planned, FailList, FileDevice, GateEnd, MemDevice, Pick, Str, Which,
+    settle_gate, write_and_sync, write_behind_gate,
 };
 use std::alloc::{AllocError, Global};
 use std::fs;
@@ -115,7 +117,7 @@ fn no_call_succeeds_after_the_stop(rt: HostRuntime) -> Result<(), Fail> {
         fails,
         Some(3),
     );
-    assert!(rt; write_through(&mut device, Which::Slots, 0, &[1]).is_ok());
+    assert!(rt; write_and_sync(&mut device, Which::Slots, 0, &[1]).is_ok());
     assert!(rt; device.len(Which::Slots).is_ok());
     let mut byte = [0];
     assert!(rt; device.read(Which::Slots, 0, &mut byte).is_err());
@@ -138,7 +140,7 @@ fn a_folder_keeps_its_files(rt: HostRuntime) -> Result<(), Fail> {
     let mut device = FileDevice::of(&rt, alloc, Str::of(folder.clone()?));
     is_send(&device);
     assert_eq!(rt; device.len(Which::LogB).ok(), Some(0));
-    assert!(rt; write_through(&mut device, Which::LogA, 3, &[7, 8]).is_ok());
+    assert!(rt; write_and_sync(&mut device, Which::LogA, 3, &[7, 8]).is_ok());
     assert!(rt; missing.len(Which::Slots).is_err());
     assert_eq!(rt; device.faults(), 0);
     drop(device);
@@ -151,5 +153,47 @@ fn a_folder_keeps_its_files(rt: HostRuntime) -> Result<(), Fail> {
     assert_eq!(rt; device.read(Which::Slots, 0, &mut bytes).ok(), Some(0));
     assert_eq!(rt; fs::metadata(&rt, "page_device_test/loga.xdb")?.len(), 5);
     fs::remove_dir_all(&rt, FOLDER)?;
+    Ok(())
+}
+
+// A log that is one closed gate, on a device whose sync of this number fails.
+fn one_gate(alloc: Global, sync: u64) -> Result<MemDevice, AllocError>
+    ensures { IfOk result (λ m. IfSome (contents_of m) (λ c. IsAtRest Which.LogA 0 c (MayLeave m))) }
+{
+    let log = vec![in alloc; 0]?;
+    let fails = vec![in alloc;
+        Planned {
+            kind: CallKind::Sync,
+            number: sync
+        },
+    ]?;
+    Ok(MemDevice::of(
+        alloc,
+        Vec::new(alloc),
+        log,
+        Vec::new(alloc),
+        FailList::of(fails),
+        None,
+    ))
+}
+
+#[test]
+fn a_body_is_written_behind_its_gate(rt: HostRuntime) -> Result<(), Fail> {
+    let alloc = rt.alloc();
+    for (sync, want, open) in [
+        (0, Ok(()), true),
+        (1, Err(GateEnd::Failed), false),
+        (2, Err(GateEnd::Doubt), true),
+    ] {
+        let mut device = one_gate(alloc, sync)?;
+        assert_eq!(rt;
+            write_behind_gate(&mut device, Which::LogA, 0, &[7, 0]),
+            want
+        );
+        assert_eq!(rt; settle_gate(&mut device, Which::LogA, 0).ok(), Some(open));
+        let mut bytes = [9; 4];
+        assert_eq!(rt; device.read(Which::LogA, 0, &mut bytes).ok(), Some(3));
+        assert_eq!(rt; bytes, [if open { 1 } else { 0 }, 7, 0, 9]);
+    }
     Ok(())
 }

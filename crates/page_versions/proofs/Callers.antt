@@ -1,5 +1,5 @@
 -- What a caller of `Versions` keeps: no version and no open snapshot is of a commit after the newest one.
-use Rattle.std.proofs.Common.{◌≡◌, ◌≢◌, ℕ, ◌+◌, ◌≤◌, Bool, true, false, cond, not, ◌==◌, List, [], ◌∷◌, Option, Some, None, All, IsSomeAnd, nat_le, Contains, slice_set, slice_index_or, filter, Result, Ok, Err, IfOk, OnErr, refl, sym, ap, ◌∙◌, subst, true≢false, arith}
+use Rattle.std.proofs.Common.{◌≡◌, ◌≢◌, ℕ, ◌+◌, ◌<◌, ◌≤◌, Bool, true, false, cond, not, ◌==◌, List, [], ◌∷◌, Option, Some, None, All, IsSomeAnd, nat_le, Contains, slice_set, slice_index_or, filter, Result, Ok, Err, IfOk, OnErr, refl, sym, ap, ◌∙◌, subst, true≢false, arith}
 use Rattle.std.proofs.lemmas.Bool.Decides.{nat_tests}
 use Rattle.std.proofs.lemmas.List.Elements.{recursion_from_All, All-from_recursion}
 use Rattle.std.specs.List.{AllByRecursion}
@@ -16,6 +16,8 @@ use Rattle.page_versions.specs.Purging.{with_slot}
 use Rattle.page_versions.specs.Inside.{is_page}
 use Rattle.page_versions.specs.Staging.{with_image, staged_chain}
 use Rattle.std.specs.FinMap as map
+use Rattle.std.proofs.lemmas.Bool.{eqb-true}
+use Rattle.page_versions.proofs.Chaining.{same_number}
 use Rattle.page_versions.proofs.Paging.{chain_in-empty, chain_in-insert}
 use Rattle.page_versions.proofs.Sounding.{ended_open, key_of, contains_there}
 
@@ -157,3 +159,18 @@ upto_slot k n id slot upto = record {
     pick : (q : PageId) (b : Bool) → All (λ v. v.commit ≤ n) (cond b (with_slot k.staged slot (chain_of k id)) (chain_of k q))
     pick q true = by_index n (with_slot k.staged slot (chain_of k id)) (slotted k.staged upto.staged (chain_of k id) (by_recursion n (chain_of k id) (upto.commits id)))
     pick q false = upto.commits q
+
+-- what is staged at a later commit leaves what is newest
+newest_known : (k n : ℕ) (o : Option Image) (chain : List Version) → n < k → AllByRecursion (IsKnownAt None n) chain → AllByRecursion (IsKnownAt (Some k) n) (with_image k o chain)
+newest_known k n o chain lt all = in_front o
+  where
+    known : (vs : List Version) → AllByRecursion (IsKnownAt None n) vs → AllByRecursion (IsKnownAt (Some k) n) vs
+    known [] all = tt
+    known (v ∷ vs) all = ((λ _. all.0.0 refl, λ is. let same : v.commit ≡ k = eqb-true _ _ is in omega (arith, lt, same)), known vs all.1)
+
+    in_front : (o : Option Image) → AllByRecursion (IsKnownAt (Some k) n) (with_image k o chain)
+    in_front None = known chain all
+    in_front (Some image) = ((λ other. absurd (true≢false (sym (same_number k) ∙ other)), λ _. lt), known chain all)
+
+pub staged_newest : (k n : ℕ) (o : Option Image) (chain new : List Version) → n < k → new ≡ with_image k o chain → All (IsKnownAt None n) chain → All (IsKnownAt (Some k) n) new
+staged_newest k n o chain new lt is all = subst (All (IsKnownAt (Some k) n)) (sym is) (All-from_recursion (IsKnownAt (Some k) n) (with_image k o chain) (newest_known k n o chain lt (recursion_from_All (IsKnownAt None n) chain all)))

@@ -8,7 +8,7 @@
 //! has exactly its newest published version, those that an open snapshot sees, and what is staged: nothing that a
 //! snapshot sees goes, and nothing else is kept.
 //!
-//! Only `stage`, `open_snapshot` and `start_in_slot` take memory, and after a refusal all is as it was. `publish` and
+//! Only `stage`, `open_snapshot` and `start` take memory, and after a refusal all is as it was. `publish` and
 //! `retract` look at the pages that are staged, `end_snapshot` at those that have more than one published version.
 #![tactic(auto)]
 

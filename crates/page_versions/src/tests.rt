@@ -1,4 +1,5 @@
-ghost use Rattle.std.specs.Prelude.{◌≢◌, IsTrue, IsSomeAnd};
+ghost use Rattle.std.specs.Prelude.{◌≡◌, ◌≢◌, [], None, IsTrue, IsSomeAnd};
+ghost use Rattle.std.specs.FinMap as map;
 ghost use Rattle.std.specs.Option.{option_copied};
 ghost use Rattle.page_versions.specs.declared.version.Image.TheVariants as image_variants;
 
@@ -75,49 +76,6 @@ fn byte_of(image: Option<&Image>) -> u8 {
     }
 }
 
-/// The bytes of the eight pages after each commit, and the commit that last changed each of them.
-#[derive(Drop)]
-struct Plain {
-    bytes: Vec<[u8; 8]>,
-    changed: Vec<[u64; 8]>,
-}
-
-/// An open snapshot: its key and its commit.
-#[derive(Clone, Copy)]
-struct Seen {
-    key: usize,
-    commit: usize,
-}
-
-fn random(seed: &mut u64) -> u64 {
-    *seed = seed
-        .wrapping_mul(6364136223846793005)
-        .wrapping_add(1442695040888963407);
-    *seed / 8589934592
-}
-
-/// Stages random changes, and notes them.
-fn some_changes(alloc: Global, plain: &mut Plain, seed: &mut u64) -> Result<ChangeList, Fail> {
-    let commit = plain.bytes.len();
-    let mut bytes = *plain.bytes.last().ok_or("no maps")?;
-    let mut changed = *plain.changed.last().ok_or("no maps")?;
-    let mut marks = Vec::new(alloc);
-    for page in 0..8 {
-        if random(seed) % 3 == 0 {
-            let byte = (random(seed) % 4) as u8;
-            bytes[page] = byte;
-            changed[page] = commit as u64;
-            marks.push(Mark {
-                page: page as u64 * 5,
-                byte,
-            })?;
-        }
-    }
-    plain.bytes.push(bytes)?;
-    plain.changed.push(changed)?;
-    Ok(changes(alloc, marks.as_slice())?)
-}
-
 /// Versions with their newest commit number, where nothing is staged.
 #[derive(Drop)]
 struct Store {
@@ -189,119 +147,6 @@ fn is_there(image: Option<&Image>) -> bool
     }
 }
 
-/// The number of versions that a page needs, by the commits that last changed it before each one that is looked at.
-fn needed(plain: &Plain, open: &[Seen], page: usize, alloc: Global) -> Result<usize, Fail> {
-    let mut commits = Vec::new(alloc);
-    commits.push(changed_at(plain, plain.changed.len().saturating_sub(1), page))?;
-    for seen in open {
-        let commit = changed_at(plain, seen.commit, page);
-        if !commits.contains(&commit) {
-            commits.push(commit)?;
-        }
-    }
-    Ok(commits.iter().filter(|commit| **commit != 0).count())
-}
-
-fn changed_at(plain: &Plain, commit: usize, page: usize) -> u64 {
-    match plain.changed.get(commit) {
-        Some(changed) => changed.get(page).copied().unwrap_or(0),
-        None => 0,
-    }
-}
-
-fn byte_at(plain: &Plain, commit: usize, page: usize) -> u8 {
-    match plain.bytes.get(commit) {
-        Some(bytes) => bytes.get(page).copied().unwrap_or(0),
-        None => 0,
-    }
-}
-
-/// Each page is at a commit what it was then.
-fn same_at(rt: &impl Abort, store: &Store, plain: &Plain, commit: usize) {
-    for page in 0..8 {
-        let image = store.versions.page_at(id(page as u64 * 5), commit as u64);
-        assert_eq!(rt;
-            byte_of(image),
-            byte_at(plain, commit, page),
-            "page {page} at {commit}"
-        );
-    }
-}
-
-/// All that is open is what it was, and no version is kept that isn't needed.
-fn compare(
-    rt: &impl Abort,
-    store: &Store,
-    plain: &Plain,
-    open: &[Seen],
-    alloc: Global,
-) -> Result<(), Fail> {
-    same_at(rt, store, plain, store.newest as usize);
-    let mut all = 0;
-    for page in 0..8 {
-        all = needed(plain, open, page, alloc)?.saturating_add(all);
-    }
-    for seen in open {
-        same_at(rt, store, plain, seen.commit);
-    }
-    let mut kept: usize = 0;
-    for (_, chain) in store.versions.chains() {
-        kept = kept.saturating_add(chain.versions().len());
-    }
-    assert_eq!(rt; kept, all);
-    Ok(())
-}
-
-/// Opens a snapshot, or ends one of those that are open.
-fn open_or_end(store: &mut Store, open: &mut Vec<Seen>, seed: &mut u64) -> Result<(), Fail> {
-    if random(seed) % 5 < 3 {
-        let key = store.open()?;
-        let commit = store.newest as usize;
-        open.push(Seen { key, commit })?;
-        return Ok(());
-    }
-    if !open.is_empty() {
-        let seen = open.swap_remove(random(seed) as usize % open.len());
-        store.end(seen.key);
-    }
-    Ok(())
-}
-
-/// A commit, now and then taken back before, and a snapshot that is opened or ended.
-fn turn(
-    rt: &impl Abort,
-    alloc: Global,
-    store: &mut Store,
-    plain: &mut Plain,
-    open: &mut Vec<Seen>,
-    seed: &mut u64,
-) -> Result<(), Fail> {
-    let none = spaces(alloc, &[])?;
-    let changes = some_changes(alloc, plain, seed)?;
-    if random(seed) % 3 == 0 {
-        store.give_up(&changes, &none)?;
-    }
-    store.commit(&changes, &none)?;
-    open_or_end(store, open, seed)?;
-    compare(rt, store, plain, open.as_slice(), alloc)
-}
-
-#[test]
-fn snapshots_in_any_order_against_whole_maps(rt: HostRuntime) -> Result<(), Fail> {
-    let alloc = rt.alloc();
-    let mut store = Store::new(alloc);
-    let mut plain = Plain {
-        bytes: vec![in alloc; [0; 8]]?,
-        changed: vec![in alloc; [0; 8]]?,
-    };
-    let mut open = Vec::new(alloc);
-    let mut seed = 7;
-    for _ in 0..300 {
-        turn(&rt, alloc, &mut store, &mut plain, &mut open, &mut seed)?;
-    }
-    Ok(())
-}
-
 fn commit(alloc: Global, store: &mut Store, marks: &[Mark], dropped: &[u64]) -> Result<(), Fail> {
     let changes = changes(alloc, marks)?;
     store.commit(&changes, &spaces(alloc, dropped)?)?;
@@ -349,18 +194,38 @@ fn slot_takes_the_newest_image_alone(rt: HostRuntime) -> Result<(), Fail> {
     let key = store.open()?;
     commit(alloc, &mut store, &[Mark { page: 3, byte: 2 }], &[])?;
     store.put_in_slot(id(3), 9);
+    store.give_up(
+        &changes(alloc, &[Mark { page: 3, byte: 4 }])?,
+        &spaces(alloc, &[])?,
+    )?;
     assert_bytes(&rt, &store, 3, &[0, 1, 209]);
+    let mut kept = 0;
+    for (_, chain) in store.versions.chains() {
+        kept = chain.versions().len();
+    }
+    assert_eq!(rt; kept, 2);
     assert_eq!(rt; store.versions.snapshot(key), Some(1));
     Ok(())
 }
 
 #[test]
-fn chain_started_in_a_slot(rt: HostRuntime) -> Result<(), Fail> {
+fn chain_started_with_its_image(rt: HostRuntime) -> Result<(), Fail> {
     let alloc = rt.alloc();
-    let mut versions = Versions::new(alloc);
-    let first = id(3);
-    versions.start_in_slot(first, 4, 8)?;
-    assert_eq!(rt; byte_of(versions.page_at(first, 3)), 0);
-    assert_eq!(rt; byte_of(versions.page_at(first, 4)), 208);
+    for (image, byte) in [(Image::Slot(8), 208), (Image::Resident(page(alloc, 7)?), 7)] {
+        let mut versions = Versions::new(alloc);
+        start(&mut versions, image)?;
+        assert_eq!(rt; byte_of(versions.page_at(id(3), 3)), 0);
+        assert_eq!(rt; byte_of(versions.page_at(id(3), 4)), byte);
+    }
     Ok(())
+}
+
+// A page that is there since commit 4.
+fn start(versions: &mut Versions, image: Image) -> Result<(), NoMemory>
+    requires { versions.old ≡ record { chains = map.empty; snapshots = []; staged = None } }
+{
+    if let Image::Absent = image {
+        return Ok(());
+    }
+    versions.start(id(3), 4, image)
 }

@@ -1,5 +1,5 @@
 //! The versions of all pages, and the open snapshots.
-ghost use Rattle.std.specs.Prelude.{◌≡◌, ◌≢◌, ◌≤◌, ◌∷◌, [], ℕ, None, Some, All, IsSome, IsSomeAnd, IfOk, OnOk, OnErr, slice_set};
+ghost use Rattle.std.specs.Prelude.{◌≡◌, ◌≢◌, ◌<◌, ◌≤◌, ◌∷◌, [], ℕ, None, Some, All, IsSome, IsSomeAnd, IfOk, OnOk, OnErr, slice_set};
 ghost use Rattle.std.specs.Option.{option_copied, option_map};
 ghost use Rattle.std.specs.FinMap as map;
 ghost use Rattle.page_bytes.specs.declared.ids.PageId.{PageId};
@@ -7,7 +7,7 @@ ghost use Rattle.page_versions.specs.Chains.{version_at, published, newest, need
 ghost use Rattle.page_versions.specs.Kept.{chain_of, snapshot_at, IsNewestAt, IsPast, SameAt, SeesSame, IsExact};
 ghost use Rattle.page_versions.specs.Staging.{staged_chain};
 ghost use Rattle.page_versions.specs.Purging.{with_slot};
-ghost use Rattle.page_versions.specs.declared.version.Image.TheVariants as image;
+ghost use Rattle.page_versions.specs.declared.version.Image.TheVariants.{Absent as absent};
 
 use crate::chain::Chain;
 use crate::moving::{keep_long, publish_all, purge_all, retract_all, unstage_all};
@@ -61,14 +61,14 @@ impl Versions {
         }
     }
 
-    /// Starts the chain of a page that has none, with a version in a slot.
-    pub fn start_in_slot(&mut self, id: PageId, commit: u64, slot: u64) -> Result<(), NoMemory>
+    /// Starts the chain of a page that has none, with its image when the store was opened: in a slot, or resident.
+    pub fn start(&mut self, id: PageId, commit: u64, image: Image) -> Result<(), NoMemory>
         requires no_versions { chain_of self.old id ≡ [] }
         requires nothing_staged { self.old.staged ≡ None }
-        ensures ok { OnOk result (self.new ≡ record self.old { chains = map.insert self.old.chains id (record { commit = commit; image = image.Slot slot } ∷ []) }) }
+        requires is_there { image ≢ absent }
+        ensures ok { OnOk result (self.new ≡ record self.old { chains = map.insert self.old.chains id (record { commit = commit; image = image } ∷ []) }) }
         ensures err { OnErr result (self.new ≡ self.old) }
     {
-        let image = Image::Slot(slot);
         let chain = Chain::of(self.table.allocator(), Version { commit, image })?;
         self.table.insert(id, chain)
     }
@@ -103,6 +103,10 @@ impl Versions {
         ensures snapshots { OnOk result (self.new.snapshots ≡ self.old.snapshots) }
         ensures staged { OnOk result (self.new.staged ≡ Some commit) }
         ensures seen { SeesSame self.old self.new }
+
+        // At each commit before the staged one each page has the version that it had, and what was newest stays so.
+        ensures same { OnOk result ((n : ℕ) → n < commit → SameAt self.old self.new n) }
+        ensures newest { OnOk result ((n : ℕ) → n < commit → IsNewestAt self.old n → IsNewestAt self.new n) }
         ensures err { OnErr result (self.new ≡ self.old) }
     {
         let staged = stage_with_room(
@@ -197,7 +201,7 @@ impl Versions {
 
     /// Puts the slot in the place of the page's newest published image. Takes no memory.
     pub fn in_slot(&mut self, id: PageId, slot: u64)
-        requires { IsSomeAnd (newest (published self.old.staged (chain_of self.old id))) (λ v. v.image ≢ image.Absent) }
+        requires { IsSomeAnd (newest (published self.old.staged (chain_of self.old id))) (λ v. v.image ≢ absent) }
         ensures { self.new ≡ record self.old { chains = map.insert self.old.chains id (with_slot self.old.staged slot (chain_of self.old id)) } }
     {
         if self.table.has(id) {

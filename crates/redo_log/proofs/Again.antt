@@ -16,7 +16,7 @@ use Rattle.redo_log.specs.declared.change.LogName.{LogName}
 use Rattle.redo_log.specs.declared.change.Change.{Change}
 use Rattle.redo_log.specs.declared.store.Store.{Store}
 use Rattle.redo_log.specs.Record.{number, space_bytes, form_byte, named_bytes, name_change, image_bytes, page_change, body_of, record_of}
-use Rattle.redo_log.specs.Store.{entry_of, has_space, has_commit, after_name, after_names, with_images, after}
+use Rattle.redo_log.specs.Store.{entry_of, has_space, has_commit, after_name, after_names, with_images, no_image, after}
 use Rattle.redo_log.specs.Reading.{◌>>=◌, last_in, check, is_name, is_next_name, is_commit_of, is_space_of, is_next_commit, is_next_space, is_next_page, has_home, is_no_head, names_housed, pages_housed, names_length, all_housed, number_in, number_at, bytes_at, entry_at, entry_if, name_at, names_at, id_at, image_if, page_at, pages_at, body_at, record_at, IsClosed, AreRecords}
 use Rattle.redo_log.specs.Taken.{IsEntryTaken, AreNamesTaken, IsPageTaken, ArePagesTaken, IsTaken, AreTaken}
 use Rattle.redo_log.proofs.Takes.{entry_2, entry_3, entry_4, entry_5, name_1, name_2, name_3, name_4, name_5, name_7, id_1, id_2, id_3, id_4, id_5, page_1, page_2, page_3, page_5, body_1, body_2, body_3, body_4, body_5, body_6, record_1, record_2, record_3, record_4}
@@ -57,43 +57,43 @@ form_back : (b : Bool) → (form_byte b == 1) ≡ b
 form_back true = refl
 form_back false = refl
 
-module _ (commit : ℕ) (names : List LogName) (name : List ℕ) where
-  entry_again : (e : DocEntry) (rest : List ℕ) → IsEntryTaken commit names name (Some e) → entry_at commit names name (number e.space.commit ++ (number e.space.ordinal ++ (form_byte e.clustered ∷ rest))) ≡ Ok (e, rest)
+module _ (commit : ℕ) (s : Store) (name : List ℕ) where
+  entry_again : (e : DocEntry) (rest : List ℕ) → IsEntryTaken commit s name (Some e) → entry_at commit s name (number e.space.commit ++ (number e.space.ordinal ++ (form_byte e.clustered ∷ rest))) ≡ Ok (e, rest)
   unfolding entry_at
   entry_again e rest h =
       let r2 = form_byte e.clustered ∷ rest in let r1 = number e.space.ordinal ++ r2 in let bytes = number e.space.commit ++ r1 in
-      bind_is (number_at bytes) (entry_5 commit names name bytes) (e.space.commit, r1) (number_again e.space.commit r1 h.0)
-      ∙ (bind_is (check (is_commit_of (entry_of name names) commit e.space.commit) (length bytes)) (λ came. entry_4 commit names name bytes (e.space.commit, r1)) tt (check_is _ _ h.2)
-      ∙ (bind_is (number_at r1) (entry_3 commit names name bytes (e.space.commit, r1)) (e.space.ordinal, r2) (number_again e.space.ordinal r2 h.1)
-      ∙ (bind_is (check (is_space_of (entry_of name names) names e.space) (length bytes)) (λ own. entry_2 commit names name bytes (e.space.commit, r1) (e.space.ordinal, r2)) tt (check_is _ _ h.3)
+      bind_is (number_at bytes) (entry_5 commit s name bytes) (e.space.commit, r1) (number_again e.space.commit r1 h.0)
+      ∙ (bind_is (check (is_commit_of (entry_of name s.names) commit e.space.commit) (length bytes)) (λ came. entry_4 commit s name bytes (e.space.commit, r1)) tt (check_is _ _ h.2)
+      ∙ (bind_is (number_at r1) (entry_3 commit s name bytes (e.space.commit, r1)) (e.space.ordinal, r2) (number_again e.space.ordinal r2 h.1)
+      ∙ (bind_is (check (is_space_of (entry_of name s.names) s.spaces e.space) (length bytes)) (λ own. entry_2 commit s name bytes (e.space.commit, r1) (e.space.ordinal, r2)) tt (check_is _ _ h.3)
       ∙ (bind_is (check (nat_lt (form_byte e.clustered) 2) (length r2)) (λ known. Ok (record { space = e.space; clustered = form_byte e.clustered == 1 }, rest)) tt (check_is _ _ (form_small e.clustered))
       ∙ ap (λ (b : Bool). Ok (record { space = e.space; clustered = b }, rest)) (form_back e.clustered)))))
 
   module _ (before : List LogName) where
     -- a name behind its kind and its length
-    behind_kind : (sets : Bool) (entry : Option DocEntry) (text rest : List ℕ) → IsTrue (is_name name) → IsTrue (is_next_name (last_in before) sets name) → (sets || is_some (entry_of name names)) ≡ true
-        → entry_if sets commit names name text ≡ Ok (entry, rest) → name_at commit before names (form_byte sets ∷ (length name ∷ (name ++ text))) ≡ Ok (record { name = name; entry = entry }, rest)
+    behind_kind : (sets : Bool) (entry : Option DocEntry) (text rest : List ℕ) → IsTrue (is_name name) → IsTrue (is_next_name (last_in before) sets name) → (sets || is_some (entry_of name s.names)) ≡ true
+        → entry_if sets commit s name text ≡ Ok (entry, rest) → name_at commit before s (form_byte sets ∷ (length name ∷ (name ++ text))) ≡ Ok (record { name = name; entry = entry }, rest)
     unfolding name_at
     behind_kind sets entry text rest named next there read =
         let t0 = name ++ text in let t1 = length name ∷ t0 in let bytes = form_byte sets ∷ t1 in let kind : ℕ × List ℕ = (form_byte sets, t1) in
         let is : (form_byte sets == 1) ≡ sets = form_back sets in
-        bind_is (check (nat_lt (form_byte sets) 2) (length bytes)) (λ known. name_7 commit before names bytes kind) tt (check_is _ _ (form_small sets))
-        ∙ (bind_is (bytes_at (length name) t0) (name_5 commit before names bytes kind) (name, text) (bytes_again (length name) name text refl)
-        ∙ (bind_is (check (is_name name) (length t1)) (λ good. name_4 commit before names bytes kind (name, text)) tt (check_is _ _ named)
-        ∙ (bind_is (check (is_next_name (last_in before) (form_byte sets == 1) name) (length t1)) (λ next. name_3 commit before names bytes kind (name, text)) tt
+        bind_is (check (nat_lt (form_byte sets) 2) (length bytes)) (λ known. name_7 commit before s bytes kind) tt (check_is _ _ (form_small sets))
+        ∙ (bind_is (bytes_at (length name) t0) (name_5 commit before s bytes kind) (name, text) (bytes_again (length name) name text refl)
+        ∙ (bind_is (check (is_name name) (length t1)) (λ good. name_4 commit before s bytes kind (name, text)) tt (check_is _ _ named)
+        ∙ (bind_is (check (is_next_name (last_in before) (form_byte sets == 1) name) (length t1)) (λ next. name_3 commit before s bytes kind (name, text)) tt
         (check_is _ _ (ap (λ (b : Bool). is_next_name (last_in before) b name) is ∙ next))
-        ∙ (bind_is (check (form_byte sets == 1 || is_some (entry_of name names)) (length t1)) (λ there. name_2 commit before names bytes kind (name, text)) tt
-        (check_is _ _ (ap (λ (b : Bool). b || is_some (entry_of name names)) is ∙ there))
-        ∙ bind_is (entry_if (form_byte sets == 1) commit names name text) (name_1 commit before names bytes kind (name, text)) (entry, rest) (ap (λ (b : Bool). entry_if b commit names name text) is ∙ read)))))
+        ∙ (bind_is (check (form_byte sets == 1 || is_some (entry_of name s.names)) (length t1)) (λ there. name_2 commit before s bytes kind (name, text)) tt
+        (check_is _ _ (ap (λ (b : Bool). b || is_some (entry_of name s.names)) is ∙ there))
+        ∙ bind_is (entry_if (form_byte sets == 1) commit s name text) (name_1 commit before s bytes kind (name, text)) (entry, rest) (ap (λ (b : Bool). entry_if b commit s name text) is ∙ read)))))
 
-    name_again : (entry : Option DocEntry) (rest : List ℕ) → IsTrue (is_name name) → IsTrue (is_next_name (last_in before) (is_some entry) name) → IsEntryTaken commit names name entry
-        → name_at commit before names (named_bytes name entry ++ rest) ≡ Ok (record { name = name; entry = entry }, rest)
+    name_again : (entry : Option DocEntry) (rest : List ℕ) → IsTrue (is_name name) → IsTrue (is_next_name (last_in before) (is_some entry) name) → IsEntryTaken commit s name entry
+        → name_at commit before s (named_bytes name entry ++ rest) ≡ Ok (record { name = name; entry = entry }, rest)
     name_again None rest named next h = behind_kind false None rest rest named next h refl
     name_again (Some e) rest named next h =
         let text = number e.space.commit ++ (number e.space.ordinal ++ (form_byte e.clustered ∷ rest)) in
         let regrouped : named_bytes name (Some e) ++ rest ≡ 1 ∷ (length name ∷ (name ++ text)) = simp append_assoc in
-        ap (name_at commit before names) regrouped
-        ∙ behind_kind true (Some e) text rest named next refl (bind_is (entry_at commit names name text) (λ (d : DocEntry × List ℕ). Ok (Some d.0, d.1)) (e, rest) (entry_again e rest h))
+        ap (name_at commit before s) regrouped
+        ∙ behind_kind true (Some e) text rest named next refl (bind_is (entry_at commit s name text) (λ (d : DocEntry × List ℕ). Ok (Some d.0, d.1)) (e, rest) (entry_again e rest h))
 
 names_again : (ns : List LogName) (commit : ℕ) (done : List LogName) (s : Store) (rest : List ℕ) → AreNamesTaken commit done s ns → names_at commit (length ns) done s (flat_map name_change ns ++ rest) ≡ Ok (done ++ ns, rest)
 unfolding names_at
@@ -101,24 +101,24 @@ names_again [] commit done s rest h = ap (λ (l : List LogName). Ok (l, rest)) (
 names_again (n ∷ ns) commit done s rest h =
     let behind = flat_map name_change ns ++ rest in
     ap (names_at commit (suc (length ns)) done s) (append_assoc (name_change n) (flat_map name_change ns) rest)
-    ∙ (bind_is (name_at commit done s.names (name_change n ++ behind)) (λ (f : LogName × List ℕ). names_at commit (length ns) (done ++ f.0 ∷ []) (after_name f.0 s) f.1) (n, behind) (name_again commit s.names n.name done n.entry behind h.0.name h.0.next h.0.entry)
+    ∙ (bind_is (name_at commit done s (name_change n ++ behind)) (λ (f : LogName × List ℕ). names_at commit (length ns) (done ++ f.0 ∷ []) (after_name f.0 s) f.1) (n, behind) (name_again commit s n.name done n.entry behind h.0.name h.0.next h.0.entry)
     ∙ (names_again ns commit (done ++ n ∷ []) (after_name n s) rest h.1 ∙ ap (λ (l : List LogName). Ok (l, rest)) (append_assoc done (n ∷ []) ns)))
 
 -- ---- pages
 
 module _ (before : List PageChange) (s : Store) where
-  id_again : (id : PageId) (rest : List ℕ) → id.space.commit < 2 ^ 64 → id.space.ordinal < 2 ^ 64 → id.number < 2 ^ 64 → (is_next_commit (last_in before) id.space.commit && has_commit s.names id.space.commit) ≡ true
-      → (is_next_space (last_in before) id.space && has_space s.names id.space) ≡ true → is_next_page (last_in before) id ≡ true
-      → id_at (last_in before) s.names (number id.space.commit ++ (number id.space.ordinal ++ (number id.number ++ rest))) ≡ Ok (id, rest)
+  id_again : (id : PageId) (rest : List ℕ) → id.space.commit < 2 ^ 64 → id.space.ordinal < 2 ^ 64 → id.number < 2 ^ 64 → (is_next_commit (last_in before) id.space.commit && has_commit s.spaces id.space.commit) ≡ true
+      → (is_next_space (last_in before) id.space && has_space s.spaces id.space) ≡ true → is_next_page (last_in before) id ≡ true
+      → id_at (last_in before) s.spaces (number id.space.commit ++ (number id.space.ordinal ++ (number id.number ++ rest))) ≡ Ok (id, rest)
   unfolding id_at
   id_again id rest c_fits o_fits n_fits came own next =
       let r2 = number id.number ++ rest in let r1 = number id.space.ordinal ++ r2 in let bytes = number id.space.commit ++ r1 in let last = last_in before in
       let c : ℕ × List ℕ = (id.space.commit, r1) in let o : ℕ × List ℕ = (id.space.ordinal, r2) in
-      bind_is (number_at bytes) (id_5 last s.names bytes) c (number_again id.space.commit r1 c_fits)
-      ∙ (bind_is (check (is_next_commit last id.space.commit && has_commit s.names id.space.commit) (length bytes)) (λ came. id_4 last s.names bytes c) tt (check_is _ _ came)
-      ∙ (bind_is (number_at r1) (id_3 last s.names bytes c) o (number_again id.space.ordinal r2 o_fits)
-      ∙ (bind_is (check (is_next_space last id.space && has_space s.names id.space) (length bytes)) (λ own. id_2 last s.names bytes c o) tt (check_is _ _ own)
-      ∙ (bind_is (number_at r2) (id_1 last s.names bytes c o) (id.number, rest) (number_again id.number rest n_fits)
+      bind_is (number_at bytes) (id_5 last s.spaces bytes) c (number_again id.space.commit r1 c_fits)
+      ∙ (bind_is (check (is_next_commit last id.space.commit && has_commit s.spaces id.space.commit) (length bytes)) (λ came. id_4 last s.spaces bytes c) tt (check_is _ _ came)
+      ∙ (bind_is (number_at r1) (id_3 last s.spaces bytes c) o (number_again id.space.ordinal r2 o_fits)
+      ∙ (bind_is (check (is_next_space last id.space && has_space s.spaces id.space) (length bytes)) (λ own. id_2 last s.spaces bytes c o) tt (check_is _ _ own)
+      ∙ (bind_is (number_at r2) (id_1 last s.spaces bytes c o) (id.number, rest) (number_again id.number rest n_fits)
       ∙ bind_is (check (is_next_page last id) (length bytes)) (λ next. Ok (id, rest)) tt (check_is _ _ next)))))
 
   behind_id : (there : Bool) (c : PageChange) (text rest : List ℕ) → IsPageTaken before s c → (there || map.contains_key s.pages c.id) ≡ true → image_if there text ≡ Ok (c.page, rest)
@@ -128,7 +128,7 @@ module _ (before : List PageChange) (s : Store) where
       let t0 = form_byte there ∷ text in let bytes = number c.id.space.commit ++ (number c.id.space.ordinal ++ (number c.id.number ++ t0)) in
       let id : PageId × List ℕ = (c.id, t0) in let kind : ℕ × List ℕ = (form_byte there, text) in
       let is : (form_byte there == 1) ≡ there = form_back there in
-      bind_is (id_at (last_in before) s.names bytes) (page_5 before s bytes) id (id_again c.id t0 h.commit h.ordinal h.number (both_true _ _ h.from.0 h.from.1) (both_true _ _ h.own.0 h.own.1) h.next)
+      bind_is (id_at (last_in before) s.spaces bytes) (page_5 before s bytes) id (id_again c.id t0 h.commit h.ordinal h.number (both_true _ _ h.from.0 h.from.1) (both_true _ _ h.own.0 h.own.1) h.next)
       ∙ (bind_is (check (nat_lt (form_byte there) 2) (length t0)) (λ known. page_3 before s bytes id kind) tt (check_is _ _ (form_small there))
       ∙ (bind_is (check (form_byte there == 1 || map.contains_key s.pages c.id) (length bytes)) (λ there. page_2 before s bytes id kind) tt
       (check_is _ _ (ap (λ (b : Bool). b || map.contains_key s.pages c.id) is ∙ is_there))
@@ -170,11 +170,11 @@ module _ (s : Store) (c : Change) (t : IsTaken s c) where
       ∙ (bind_is (number_at r3) (body_2 s bytes commit names) paged (number_again (length c.pages) r4 t.pages_fit)
       ∙ bind_is (pages_at (length c.pages) [] (after_names c.names s) r4) (body_1 s bytes commit names) (c.pages, rest) (pages_again c.pages [] (after_names c.names s) rest t.pages))))))
 
-first_true : (a b : Bool) → (a && b) ≡ true → a ≡ true
+pub first_true : (a b : Bool) → (a && b) ≡ true → a ≡ true
 first_true true b e = refl
 first_true false b e = e
 
-second_true : (a b : Bool) → (a && b) ≡ true → b ≡ true
+pub second_true : (a b : Bool) → (a && b) ≡ true → b ≡ true
 second_true true b e = e
 second_true false b e = absurd cc
 
@@ -204,7 +204,7 @@ record_again s c gate rest t =
     ∙ (bind_is (check (nat_lt 0 (length end)) 0) (λ gate. record_2 s bytes long read) tt (check_is _ _ (lt-ltb 0 (length end) (omega arith)))
     ∙ (bind_is (check (length body + length end == length r1) (length bytes)) (λ exact. record_1 s bytes long read) tt (check_is _ _ count)
     ∙ bind_is (all_housed c pages (length r1)) (λ housed. Ok read) tt
-    (bind_is (names_housed (with_images c.pages pages) c.names (length r1 - 16)) (λ named. pages_housed c.pages (length r1 - 24 - names_length c.names)) tt (names_are_housed (with_images c.pages pages) c.names (length r1 - 16) t.names_housed)
+    (bind_is (names_housed (with_images no_image c.pages pages) c.names (length r1 - 16)) (λ named. pages_housed c.pages (length r1 - 24 - names_length c.names)) tt (names_are_housed (with_images no_image c.pages pages) c.names (length r1 - 16) t.names_housed)
     ∙ pages_are_housed c.pages (length r1 - 24 - names_length c.names) t.pages_housed)))))
 
 -- behind a record stands a gate

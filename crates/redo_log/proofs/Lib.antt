@@ -1,11 +1,13 @@
-pub mod Parts
 pub mod Gates
+pub mod NameMaps
 pub mod Bodies
 pub mod Texts
 pub mod Lengths
 pub mod Loops
-pub mod Kept
 pub mod Scans
 pub mod Takes
 pub mod Found
 pub mod Again
+pub mod Opened
+pub mod SpaceKeys
+pub mod BySpace

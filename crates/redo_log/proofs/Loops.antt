@@ -10,12 +10,12 @@ use Rattle.redo_log.specs.Store.{after_name, after_names}
 use Rattle.redo_log.specs.Reading.{name_at, names_at, page_at, pages_at}
 
 module _ (commit count i : ℕ) (done : List LogName) (s : Store) (bytes : List ℕ) where
-  pub name_more : (n : LogName) (rest : List ℕ) → i < count → name_at commit done s.names bytes ≡ Ok (n, rest)
+  pub name_more : (n : LogName) (rest : List ℕ) → i < count → name_at commit done s bytes ≡ Ok (n, rest)
       → names_at commit (count - i) done s bytes ≡ names_at commit (count - (i + 1)) (done ++ n ∷ []) (after_name n s) rest
   unfolding names_at
   name_more n rest lt h = let k : count - i ≡ suc (count - (i + 1)) = omega arith in rw (k, h) refl
 
-  pub name_fails : (e : ReadEnd) → i < count → Fails e (name_at commit done s.names bytes) → Fails e (names_at commit (count - i) done s bytes)
+  pub name_fails : (e : ReadEnd) → i < count → Fails e (name_at commit done s bytes) → Fails e (names_at commit (count - i) done s bytes)
   unfolding names_at
   name_fails (ends.Wrong left) lt h = let k : count - i ≡ suc (count - (i + 1)) = omega arith in rw (k, h) refl
   name_fails ends.NoMemory lt h = tt

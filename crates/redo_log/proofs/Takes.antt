@@ -11,6 +11,7 @@ use Rattle.std.proofs.lemmas.Nat.{be_bytes_8}
 use Rattle.page_bytes.specs.declared.ids.DocEntry.{DocEntry}
 use Rattle.page_bytes.specs.declared.ids.PageId.{PageId}
 use Rattle.page_bytes.specs.declared.lists.PageChange.{PageChange}
+use Rattle.page_bytes.specs.Known.{Spaces}
 use Rattle.redo_log.specs.declared.change.LogName.{LogName}
 use Rattle.redo_log.specs.declared.change.Change.{Change}
 use Rattle.redo_log.specs.declared.store.Store.{Store}
@@ -39,7 +40,7 @@ pub check_ok : (b : Bool) (n : ℕ) (u : Unit {0}) → check b n ≡ Ok u → b 
 check_ok true n u e = refl
 check_ok false n u e = absurd cc
 
-guard_ok : {A : Type 0} (b : Bool) (d : ℕ) (x y : A) → cond b (Err d) (Ok x) ≡ Ok y → (b ≡ false) × (x ≡ y)
+pub guard_ok : {A : Type 0} (b : Bool) (d : ℕ) (x y : A) → cond b (Err d) (Ok x) ≡ Ok y → (b ≡ false) × (x ≡ y)
 guard_ok true d x y e = absurd cc
 guard_ok false d x y e = (refl, cc)
 
@@ -89,7 +90,7 @@ form_is zero lt = refl
 form_is (suc zero) lt = refl
 form_is (suc (suc b)) lt = absurd (omega (arith, ltb-true _ _ lt))
 
-module _ (commit : ℕ) (names : List LogName) (name bytes : List ℕ) where
+module _ (commit : ℕ) (s : Store) (name bytes : List ℕ) where
   abbrev pub space_in : ℕ × List ℕ → ℕ × List ℕ → Space
   space_in c o = record { commit = c.0; ordinal = o.0 }
 
@@ -100,21 +101,21 @@ module _ (commit : ℕ) (names : List LogName) (name bytes : List ℕ) where
   entry_2 c o = byte_at o.1 >>= entry_1 c o
 
   abbrev pub entry_3 : ℕ × List ℕ → ℕ × List ℕ → Result (DocEntry × List ℕ) ℕ
-  entry_3 c o = check (is_space_of (entry_of name names) names (space_in c o)) (length bytes) >>= λ own. entry_2 c o
+  entry_3 c o = check (is_space_of (entry_of name s.names) s.spaces (space_in c o)) (length bytes) >>= λ own. entry_2 c o
 
   abbrev pub entry_4 : ℕ × List ℕ → Result (DocEntry × List ℕ) ℕ
   entry_4 c = number_at c.1 >>= entry_3 c
 
   abbrev pub entry_5 : ℕ × List ℕ → Result (DocEntry × List ℕ) ℕ
-  entry_5 c = check (is_commit_of (entry_of name names) commit c.0) (length bytes) >>= λ came. entry_4 c
+  entry_5 c = check (is_commit_of (entry_of name s.names) commit c.0) (length bytes) >>= λ came. entry_4 c
 
-  entry_takes : (x : DocEntry × List ℕ) → IsBytes bytes → entry_at commit names name bytes ≡ Ok x → Takes bytes (space_bytes x.0.space ++ form_byte x.0.clustered ∷ []) x.1
+  pub entry_takes : (x : DocEntry × List ℕ) → IsBytes bytes → entry_at commit s name bytes ≡ Ok x → Takes bytes (space_bytes x.0.space ++ form_byte x.0.clustered ∷ []) x.1
   unfolding entry_at
   entry_takes x fits e =
       let c = bind_ok (number_at bytes) entry_5 x e in
-      let came = bind_ok (check (is_commit_of (entry_of name names) commit c.0.0) (length bytes)) (λ came. entry_4 c.0) x c.2 in
+      let came = bind_ok (check (is_commit_of (entry_of name s.names) commit c.0.0) (length bytes)) (λ came. entry_4 c.0) x c.2 in
       let o = bind_ok (number_at c.0.1) (entry_3 c.0) x came.2 in
-      let own = bind_ok (check (is_space_of (entry_of name names) names (space_in c.0 o.0)) (length bytes)) (λ own. entry_2 c.0 o.0) x o.2 in
+      let own = bind_ok (check (is_space_of (entry_of name s.names) s.spaces (space_in c.0 o.0)) (length bytes)) (λ own. entry_2 c.0 o.0) x o.2 in
       let form = bind_ok (byte_at o.0.1) (entry_1 c.0 o.0) x own.2 in
       let known = bind_ok (check (nat_lt form.0.0 2) (length o.0.1)) (λ known. Ok (record { space = space_in c.0 o.0; clustered = form.0.0 == 1 }, form.0.1)) x form.2 in
       let t0 = number_takes bytes c.0.0 c.0.1 fits c.1 in
@@ -126,26 +127,26 @@ module _ (commit : ℕ) (names : List LogName) (name bytes : List ℕ) where
       subst (λ (y : DocEntry × List ℕ). Takes bytes (space_bytes y.0.space ++ form_byte y.0.clustered ∷ []) y.1) (ok_is made x known.2)
       (subst (λ (b : ℕ). Takes bytes ((number c.0.0 ++ number o.0.0) ++ b ∷ []) form.0.1) (sym (form_is form.0.0 (check_ok (nat_lt form.0.0 2) (length o.0.1) known.0 known.1))) all)
 
-entry_if_takes : (sets : Bool) (commit : ℕ) (names : List LogName) (name bytes : List ℕ) (x : Option DocEntry × List ℕ) → IsBytes bytes → entry_if sets commit names name bytes ≡ Ok x
+entry_if_takes : (sets : Bool) (commit : ℕ) (s : Store) (name bytes : List ℕ) (x : Option DocEntry × List ℕ) → IsBytes bytes → entry_if sets commit s name bytes ≡ Ok x
     → (behind : List ℕ) × Takes bytes behind x.1 × (named_bytes name x.0 ≡ form_byte sets ∷ (name_bytes name ++ behind))
-entry_if_takes false commit names name bytes x fits e =
+entry_if_takes false commit s name bytes x fits e =
     subst (λ (y : Option DocEntry × List ℕ). (behind : List ℕ) × Takes bytes behind y.1 × (named_bytes name y.0 ≡ 0 ∷ (name_bytes name ++ behind))) (ok_is (None, bytes) x e)
     ([], record { parts = refl; rest_fits = fits }, ap (λ (l : List ℕ). 0 ∷ l) (sym (append-nil (name_bytes name))))
-entry_if_takes true commit names name bytes x fits e =
-    let d = bind_ok (entry_at commit names name bytes) (λ (d : DocEntry × List ℕ). Ok (Some d.0, d.1)) x e in
-    let t = entry_takes commit names name bytes d.0 fits d.1 in
+entry_if_takes true commit s name bytes x fits e =
+    let d = bind_ok (entry_at commit s name bytes) (λ (d : DocEntry × List ℕ). Ok (Some d.0, d.1)) x e in
+    let t = entry_takes commit s name bytes d.0 fits d.1 in
     subst (λ (y : Option DocEntry × List ℕ). (behind : List ℕ) × Takes bytes behind y.1 × (named_bytes name y.0 ≡ 1 ∷ (name_bytes name ++ behind))) (ok_is (Some d.0.0, d.0.1) x d.2)
     (space_bytes d.0.0.space ++ form_byte d.0.0.clustered ∷ [], t, ap (λ (l : List ℕ). 1 ∷ l) (append_assoc (name_bytes name) (space_bytes d.0.0.space) (form_byte d.0.0.clustered ∷ [])))
 
-module _ (commit : ℕ) (before names : List LogName) (bytes : List ℕ) where
+module _ (commit : ℕ) (before : List LogName) (s : Store) (bytes : List ℕ) where
   abbrev pub name_1 : ℕ × List ℕ → List ℕ × List ℕ → Option DocEntry × List ℕ → Result (LogName × List ℕ) ℕ
   name_1 kind name entry = Ok (record { name = name.0; entry = entry.0 }, entry.1)
 
   abbrev pub name_2 : ℕ × List ℕ → List ℕ × List ℕ → Result (LogName × List ℕ) ℕ
-  name_2 kind name = entry_if (kind.0 == 1) commit names name.0 name.1 >>= name_1 kind name
+  name_2 kind name = entry_if (kind.0 == 1) commit s name.0 name.1 >>= name_1 kind name
 
   abbrev pub name_3 : ℕ × List ℕ → List ℕ × List ℕ → Result (LogName × List ℕ) ℕ
-  name_3 kind name = check (kind.0 == 1 || is_some (entry_of name.0 names)) (length kind.1) >>= λ there. name_2 kind name
+  name_3 kind name = check (kind.0 == 1 || is_some (entry_of name.0 s.names)) (length kind.1) >>= λ there. name_2 kind name
 
   abbrev pub name_4 : ℕ × List ℕ → List ℕ × List ℕ → Result (LogName × List ℕ) ℕ
   name_4 kind name = check (is_next_name (last_in before) (kind.0 == 1) name.0) (length kind.1) >>= λ next. name_3 kind name
@@ -162,7 +163,7 @@ module _ (commit : ℕ) (before names : List LogName) (bytes : List ℕ) where
   abbrev pub name_8 : ℕ × List ℕ → Result (LogName × List ℕ) ℕ
   name_8 kind = check (nat_lt kind.0 2) (length bytes) >>= λ known. name_7 kind
 
-  name_takes : (x : LogName × List ℕ) → IsBytes bytes → name_at commit before names bytes ≡ Ok x → Takes bytes (name_change x.0) x.1
+  pub name_takes : (x : LogName × List ℕ) → IsBytes bytes → name_at commit before s bytes ≡ Ok x → Takes bytes (name_change x.0) x.1
   unfolding name_at
   name_takes x fits e =
       let kind = bind_ok (byte_at bytes) name_8 x e in
@@ -171,12 +172,12 @@ module _ (commit : ℕ) (before names : List LogName) (bytes : List ℕ) where
       let name = bind_ok (bytes_at long.0.0 long.0.1) (name_5 kind.0) x long.2 in
       let good = bind_ok (check (is_name name.0.0) (length kind.0.1)) (λ good. name_4 kind.0 name.0) x name.2 in
       let next = bind_ok (check (is_next_name (last_in before) (kind.0.0 == 1) name.0.0) (length kind.0.1)) (λ next. name_3 kind.0 name.0) x good.2 in
-      let there = bind_ok (check (kind.0.0 == 1 || is_some (entry_of name.0.0 names)) (length kind.0.1)) (λ there. name_2 kind.0 name.0) x next.2 in
-      let entry = bind_ok (entry_if (kind.0.0 == 1) commit names name.0.0 name.0.1) (name_1 kind.0 name.0) x there.2 in
+      let there = bind_ok (check (kind.0.0 == 1 || is_some (entry_of name.0.0 s.names)) (length kind.0.1)) (λ there. name_2 kind.0 name.0) x next.2 in
+      let entry = bind_ok (entry_if (kind.0.0 == 1) commit s name.0.0 name.0.1) (name_1 kind.0 name.0) x there.2 in
       let t0 = byte_takes bytes kind.0.0 kind.0.1 fits kind.1 in
       let t1 = byte_takes kind.0.1 long.0.0 long.0.1 t0.rest_fits long.1 in
       let t2 = bytes_take long.0.0 long.0.1 name.0.0 name.0.1 t1.rest_fits name.1 in
-      let t3 = entry_if_takes (kind.0.0 == 1) commit names name.0.0 name.0.1 entry.0 t2.0.rest_fits entry.1 in
+      let t3 = entry_if_takes (kind.0.0 == 1) commit s name.0.0 name.0.1 entry.0 t2.0.rest_fits entry.1 in
       let named = takes-then kind.0.1 (long.0.0 ∷ []) long.0.1 name.0.0 name.0.1 t1 t2.0 in
       let sized : Takes kind.0.1 (name_bytes name.0.0) name.0.1 = subst (λ (n : ℕ). Takes kind.0.1 (n ∷ name.0.0) name.0.1) (sym t2.1) named in
       let behind = takes-then kind.0.1 (name_bytes name.0.0) name.0.1 t3.0 entry.0.1 sized t3.1 in
@@ -185,21 +186,21 @@ module _ (commit : ℕ) (before names : List LogName) (bytes : List ℕ) where
       subst (λ (y : LogName × List ℕ). Takes bytes (name_change y.0) y.1) (ok_is made x entry.2)
       (subst (λ (l : List ℕ). Takes bytes l entry.0.1) (ap (λ (k : ℕ). k ∷ (name_bytes name.0.0 ++ t3.0)) (sym (form_is kind.0.0 (check_ok (nat_lt kind.0.0 2) (length bytes) known.0 known.1))) ∙ sym t3.2) all)
 
-names_take : (commit n : ℕ) (done : List LogName) (s : Store) (bytes : List ℕ) (x : List LogName × List ℕ) → IsBytes bytes → names_at commit n done s bytes ≡ Ok x
+pub names_take : (commit n : ℕ) (done : List LogName) (s : Store) (bytes : List ℕ) (x : List LogName × List ℕ) → IsBytes bytes → names_at commit n done s bytes ≡ Ok x
     → (more : List LogName) × (x.0 ≡ done ++ more) × (length more ≡ n) × Takes bytes (flat_map name_change more) x.1
 unfolding names_at
 names_take commit zero done s bytes x fits e =
     subst (λ (y : List LogName × List ℕ). (more : List LogName) × (y.0 ≡ done ++ more) × (length more ≡ 0) × Takes bytes (flat_map name_change more) y.1) (ok_is (done, bytes) x e)
     ([], sym (append-nil done), refl, record { parts = refl; rest_fits = fits })
 names_take commit (suc n) done s bytes x fits e =
-    let first = bind_ok (name_at commit done s.names bytes) (λ (f : LogName × List ℕ). names_at commit n (done ++ f.0 ∷ []) (after_name f.0 s) f.1) x e in
-    let t = name_takes commit done s.names bytes first.0 fits first.1 in
+    let first = bind_ok (name_at commit done s bytes) (λ (f : LogName × List ℕ). names_at commit n (done ++ f.0 ∷ []) (after_name f.0 s) f.1) x e in
+    let t = name_takes commit done s bytes first.0 fits first.1 in
     let rest = names_take commit n (done ++ first.0.0 ∷ []) (after_name first.0.0 s) first.0.1 x t.rest_fits first.2 in
     (first.0.0 ∷ rest.0, rest.1 ∙ append_assoc done (first.0.0 ∷ []) rest.0, ap suc rest.2, takes-then bytes (name_change first.0.0) first.0.1 (flat_map name_change rest.0) x.1 t rest.3)
 
 -- ---- pages
 
-module _ (last : Option PageChange) (names : List LogName) (bytes : List ℕ) where
+module _ (last : Option PageChange) (spaces : Spaces) (bytes : List ℕ) where
   abbrev pub id_in : ℕ × List ℕ → ℕ × List ℕ → ℕ × List ℕ → PageId
   id_in c o n = record { space = record { commit = c.0; ordinal = o.0 }; number = n.0 }
 
@@ -210,7 +211,7 @@ module _ (last : Option PageChange) (names : List LogName) (bytes : List ℕ) wh
   id_2 c o = number_at o.1 >>= id_1 c o
 
   abbrev pub is_own : ℕ × List ℕ → ℕ × List ℕ → Bool
-  is_own c o = is_next_space last (record { commit = c.0; ordinal = o.0 }) && has_space names (record { commit = c.0; ordinal = o.0 })
+  is_own c o = is_next_space last (record { commit = c.0; ordinal = o.0 }) && has_space spaces (record { commit = c.0; ordinal = o.0 })
 
   abbrev pub id_3 : ℕ × List ℕ → ℕ × List ℕ → Result (PageId × List ℕ) ℕ
   id_3 c o = check (is_own c o) (length bytes) >>= λ own. id_2 c o
@@ -219,13 +220,13 @@ module _ (last : Option PageChange) (names : List LogName) (bytes : List ℕ) wh
   id_4 c = number_at c.1 >>= id_3 c
 
   abbrev pub id_5 : ℕ × List ℕ → Result (PageId × List ℕ) ℕ
-  id_5 c = check (is_next_commit last c.0 && has_commit names c.0) (length bytes) >>= λ came. id_4 c
+  id_5 c = check (is_next_commit last c.0 && has_commit spaces c.0) (length bytes) >>= λ came. id_4 c
 
-  id_takes : (x : PageId × List ℕ) → IsBytes bytes → id_at last names bytes ≡ Ok x → Takes bytes (space_bytes x.0.space ++ number x.0.number) x.1
+  pub id_takes : (x : PageId × List ℕ) → IsBytes bytes → id_at last spaces bytes ≡ Ok x → Takes bytes (space_bytes x.0.space ++ number x.0.number) x.1
   unfolding id_at
   id_takes x fits e =
       let c = bind_ok (number_at bytes) id_5 x e in
-      let came = bind_ok (check (is_next_commit last c.0.0 && has_commit names c.0.0) (length bytes)) (λ came. id_4 c.0) x c.2 in
+      let came = bind_ok (check (is_next_commit last c.0.0 && has_commit spaces c.0.0) (length bytes)) (λ came. id_4 c.0) x c.2 in
       let o = bind_ok (number_at c.0.1) (id_3 c.0) x came.2 in
       let own = bind_ok (check (is_own c.0 o.0) (length bytes)) (λ own. id_2 c.0 o.0) x o.2 in
       let n = bind_ok (number_at o.0.1) (id_1 c.0 o.0) x own.2 in
@@ -261,15 +262,15 @@ module _ (before : List PageChange) (s : Store) (bytes : List ℕ) where
   abbrev pub page_5 : PageId × List ℕ → Result (PageChange × List ℕ) ℕ
   page_5 id = byte_at id.1 >>= page_4 id
 
-  page_takes : (x : PageChange × List ℕ) → IsBytes bytes → page_at before s bytes ≡ Ok x → Takes bytes (page_change x.0) x.1
+  pub page_takes : (x : PageChange × List ℕ) → IsBytes bytes → page_at before s bytes ≡ Ok x → Takes bytes (page_change x.0) x.1
   unfolding page_at
   page_takes x fits e =
-      let id = bind_ok (id_at (last_in before) s.names bytes) page_5 x e in
+      let id = bind_ok (id_at (last_in before) s.spaces bytes) page_5 x e in
       let kind = bind_ok (byte_at id.0.1) (page_4 id.0) x id.2 in
       let known = bind_ok (check (nat_lt kind.0.0 2) (length id.0.1)) (λ known. page_3 id.0 kind.0) x kind.2 in
       let there = bind_ok (check (kind.0.0 == 1 || map.contains_key s.pages id.0.0) (length bytes)) (λ there. page_2 id.0 kind.0) x known.2 in
       let image = bind_ok (image_if (kind.0.0 == 1) kind.0.1) (page_1 id.0) x there.2 in
-      let t0 = id_takes (last_in before) s.names bytes id.0 fits id.1 in
+      let t0 = id_takes (last_in before) s.spaces bytes id.0 fits id.1 in
       let t1 = byte_takes id.0.1 kind.0.0 kind.0.1 t0.rest_fits kind.1 in
       let t2 = image_takes (kind.0.0 == 1) kind.0.1 image.0 t1.rest_fits image.1 in
       let behind = takes-then id.0.1 (kind.0.0 ∷ []) kind.0.1 t2.0 image.0.1 t1 t2.1 in
@@ -278,7 +279,7 @@ module _ (before : List PageChange) (s : Store) (bytes : List ℕ) where
       let made : PageChange × List ℕ = (record { id = id.0.0; page = image.0.0 }, image.0.1) in
       subst (λ (y : PageChange × List ℕ). Takes bytes (page_change y.0) y.1) (ok_is made x image.2) all
 
-pages_take : (n : ℕ) (done : List PageChange) (s : Store) (bytes : List ℕ) (x : List PageChange × List ℕ) → IsBytes bytes → pages_at n done s bytes ≡ Ok x
+pub pages_take : (n : ℕ) (done : List PageChange) (s : Store) (bytes : List ℕ) (x : List PageChange × List ℕ) → IsBytes bytes → pages_at n done s bytes ≡ Ok x
     → (more : List PageChange) × (x.0 ≡ done ++ more) × (length more ≡ n) × Takes bytes (flat_map page_change more) x.1
 unfolding pages_at
 pages_take zero done s bytes x fits e =
@@ -311,7 +312,7 @@ module _ (s : Store) (bytes : List ℕ) where
   abbrev pub body_6 : ℕ × List ℕ → Result (Change × List ℕ) ℕ
   body_6 commit = check (commit.0 == s.commit + 1) (length bytes) >>= λ next. body_5 commit
 
-  body_takes : (x : Change × List ℕ) → IsBytes bytes → body_at s bytes ≡ Ok x → Takes bytes (body_of x.0) x.1
+  pub body_takes : (x : Change × List ℕ) → IsBytes bytes → body_at s bytes ≡ Ok x → Takes bytes (body_of x.0) x.1
   unfolding body_at
   body_takes x fits e =
       let commit = bind_ok (number_at bytes) body_6 x e in

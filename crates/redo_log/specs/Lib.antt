@@ -1,6 +1,7 @@
 pub mod Record
 pub mod Body
 pub mod Append
+pub mod Names
 pub mod Store
 pub mod Reading
 pub mod Gives

@@ -19,8 +19,8 @@ use Rattle.redo_log.specs.declared.change.LogName.{LogName}
 use Rattle.redo_log.specs.declared.change.Change.{Change}
 use Rattle.redo_log.specs.Record.{name_change, page_change}
 use Rattle.redo_log.specs.declared.store.Store.{Store}
-use Rattle.page_bytes.specs.Known.{PageIds}
-use Rattle.redo_log.specs.Store.{entry_of, same_space, has_space, has_commit, after_name, after_names, with_images, after}
+use Rattle.page_bytes.specs.Known.{PageIds, Spaces}
+use Rattle.redo_log.specs.Store.{entry_of, same_space, has_space, has_commit, after_name, after_names, with_images, no_image, after}
 
 infixl 10 ◌>>=◌
 abbrev pub ◌>>=◌ : {A B : Type 0} → Result A ℕ → (A → Result B ℕ) → Result B ℕ
@@ -74,45 +74,45 @@ abbrev pub is_commit_of : Option DocEntry → ℕ → ℕ → Bool
 is_commit_of None commit c = c == commit
 is_commit_of (Some e) commit c = c == e.space.commit
 
-abbrev pub is_space_of : Option DocEntry → List LogName → Space → Bool
-is_space_of None names space = not (has_space names space)
-is_space_of (Some e) names space = same_space e.space space
+abbrev pub is_space_of : Option DocEntry → Spaces → Space → Bool
+is_space_of None spaces space = not (has_space spaces space)
+is_space_of (Some e) spaces space = same_space e.space space
 
 -- A set's space and form.
-unfoldable pub entry_at : ℕ → List LogName → List ℕ → List ℕ → Result (DocEntry × List ℕ) ℕ
-entry_at commit names name bytes = do
+unfoldable pub entry_at : ℕ → Store → List ℕ → List ℕ → Result (DocEntry × List ℕ) ℕ
+entry_at commit s name bytes = do
   c ← number_at bytes
-  came ← check (is_commit_of (entry_of name names) commit c.0) (length bytes)
+  came ← check (is_commit_of (entry_of name s.names) commit c.0) (length bytes)
   o ← number_at c.1
-  own ← check (is_space_of (entry_of name names) names (record { commit = c.0; ordinal = o.0 })) (length bytes)
+  own ← check (is_space_of (entry_of name s.names) s.spaces (record { commit = c.0; ordinal = o.0 })) (length bytes)
   form ← byte_at o.1
   known ← check (nat_lt form.0 2) (length o.1)
   Ok (record { space = record { commit = c.0; ordinal = o.0 }; clustered = form.0 == 1 }, form.1)
 
-abbrev pub entry_if : Bool → ℕ → List LogName → List ℕ → List ℕ → Result (Option DocEntry × List ℕ) ℕ
-entry_if false commit names name bytes = Ok (None, bytes)
-entry_if true commit names name bytes = do
-  e ← entry_at commit names name bytes
+abbrev pub entry_if : Bool → ℕ → Store → List ℕ → List ℕ → Result (Option DocEntry × List ℕ) ℕ
+entry_if false commit s name bytes = Ok (None, bytes)
+entry_if true commit s name bytes = do
+  e ← entry_at commit s name bytes
   Ok (Some e.0, e.1)
 
 -- One change of a name, behind those that are done. A wrong name is named by its length.
-unfoldable pub name_at : ℕ → List LogName → List LogName → List ℕ → Result (LogName × List ℕ) ℕ
-name_at commit done names bytes = do
+unfoldable pub name_at : ℕ → List LogName → Store → List ℕ → Result (LogName × List ℕ) ℕ
+name_at commit done s bytes = do
   kind ← byte_at bytes
   known ← check (nat_lt kind.0 2) (length bytes)
   long ← byte_at kind.1
   name ← bytes_at long.0 long.1
   good ← check (is_name name.0) (length kind.1)
   next ← check (is_next_name (last_in done) (kind.0 == 1) name.0) (length kind.1)
-  there ← check (kind.0 == 1 || is_some (entry_of name.0 names)) (length kind.1)
-  entry ← entry_if (kind.0 == 1) commit names name.0 name.1
+  there ← check (kind.0 == 1 || is_some (entry_of name.0 s.names)) (length kind.1)
+  entry ← entry_if (kind.0 == 1) commit s name.0 name.1
   Ok (record { name = name.0; entry = entry.0 }, entry.1)
 
 -- So many more changes of names, behind those that are done. The store is as these leave it.
 unfoldable pub names_at : ℕ → ℕ → List LogName → Store → List ℕ → Result (List LogName × List ℕ) ℕ
 names_at commit zero done s bytes = Ok (done, bytes)
 names_at commit (suc n) done s bytes = do
-  first ← name_at commit done s.names bytes
+  first ← name_at commit done s bytes
   names_at commit n (done ++ first.0 ∷ []) (after_name first.0 s) first.1
 
 -- pages rise
@@ -134,12 +134,23 @@ is_next_page None id = true
 is_next_page (Some last) id = is_below (page_cmp last.id id)
 
 -- A page's place, which lies in a document's space. A wrong page is named by its space's commit.
-unfoldable pub id_at : Option PageChange → List LogName → List ℕ → Result (PageId × List ℕ) ℕ
-id_at last names bytes = do
+unfoldable pub id_at : Option PageChange → Spaces → List ℕ → Result (PageId × List ℕ) ℕ
+id_at last spaces bytes = do
   c ← number_at bytes
-  came ← check (is_next_commit last c.0 && has_commit names c.0) (length bytes)
+  came ← check (is_next_commit last c.0 && has_commit spaces c.0) (length bytes)
   o ← number_at c.1
-  own ← check (is_next_space last (record { commit = c.0; ordinal = o.0 }) && has_space names (record { commit = c.0; ordinal = o.0 })) (length bytes)
+  own ← check (is_next_space last (record { commit = c.0; ordinal = o.0 }) && has_space spaces (record { commit = c.0; ordinal = o.0 })) (length bytes)
+  number ← number_at o.1
+  next ← check (is_next_page last (record { space = record { commit = c.0; ordinal = o.0 }; number = number.0 })) (length bytes)
+  Ok (record { space = record { commit = c.0; ordinal = o.0 }; number = number.0 }, number.1)
+
+-- The same, where the space alone decides if all of it is there.
+unfoldable pub id_by_space : Option PageChange → Spaces → List ℕ → Result (PageId × List ℕ) ℕ
+id_by_space last spaces bytes = do
+  c ← number_at bytes
+  came ← check (is_next_commit last c.0 && (nat_le 8 (length c.1) || has_commit spaces c.0)) (length bytes)
+  o ← number_at c.1
+  own ← check (is_next_space last (record { commit = c.0; ordinal = o.0 }) && has_space spaces (record { commit = c.0; ordinal = o.0 })) (length bytes)
   number ← number_at o.1
   next ← check (is_next_page last (record { space = record { commit = c.0; ordinal = o.0 }; number = number.0 })) (length bytes)
   Ok (record { space = record { commit = c.0; ordinal = o.0 }; number = number.0 }, number.1)
@@ -153,7 +164,7 @@ image_if true bytes = do
 -- One page, behind those that are done. A page that is gone was there.
 unfoldable pub page_at : List PageChange → Store → List ℕ → Result (PageChange × List ℕ) ℕ
 page_at done s bytes = do
-  id ← id_at (last_in done) s.names bytes
+  id ← id_at (last_in done) s.spaces bytes
   kind ← byte_at id.1
   known ← check (nat_lt kind.0 2) (length id.1)
   there ← check (kind.0 == 1 || map.contains_key s.pages id.0) (length bytes)
@@ -205,7 +216,7 @@ names_length (n ∷ ns) = length (name_change n) + names_length ns
 -- Each document has its page 0 after these changes, whose body begins where so many bytes are left; the pages are those that are there after the changes of names.
 abbrev pub all_housed : Change → PageIds → ℕ → Result (Unit {0}) ℕ
 all_housed c pages left = do
-  named ← names_housed (with_images c.pages pages) c.names (left - 16)
+  named ← names_housed (with_images no_image c.pages pages) c.names (left - 16)
   pages_housed c.pages (left - 24 - names_length c.names)
 
 -- A record, from its length on: the length, the body, the next gate. First the fields in their order, the next gate among them; then whether the length is the body's; then the documents without page 0.

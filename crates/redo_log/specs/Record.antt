@@ -4,6 +4,7 @@ use Rattle.std.specs.List.{flat_map}
 use Rattle.std.specs.Int.{w64, to_be_bytes}
 use Rattle.page_bytes.specs.declared.ids.Space.{Space}
 use Rattle.page_bytes.specs.declared.ids.DocEntry.{DocEntry}
+use Rattle.page_bytes.specs.declared.ids.PageId.{PageId}
 use Rattle.page_bytes.specs.declared.lists.PageChange.{PageChange}
 use Rattle.redo_log.specs.declared.change.LogName.{LogName}
 use Rattle.redo_log.specs.declared.change.Change.{Change}
@@ -22,6 +23,14 @@ space_bytes s = number s.commit ++ number s.ordinal
 abbrev pub form_byte : Bool → ℕ
 form_byte clustered = if clustered then 1 else 0
 
+-- a document's space and form
+abbrev pub entry_bytes : DocEntry → List ℕ
+entry_bytes e = space_bytes e.space ++ form_byte e.clustered ∷ []
+
+-- a page's space and number
+abbrev pub id_bytes : PageId → List ℕ
+id_bytes id = space_bytes id.space ++ number id.number
+
 -- a drop is 0 and the name; a set is 1, the name, the space and the form
 abbrev pub named_bytes : List ℕ → Option DocEntry → List ℕ
 named_bytes name None = 0 ∷ name_bytes name
@@ -36,7 +45,7 @@ image_bytes None = 0 ∷ []
 image_bytes (Some page) = 1 ∷ page
 
 abbrev pub page_change : PageChange → List ℕ
-page_change c = space_bytes c.id.space ++ number c.id.number ++ image_bytes c.page
+page_change c = id_bytes c.id ++ image_bytes c.page
 
 -- the commit, the changes of names behind their count, the pages behind theirs
 abbrev pub body_of : Change → List ℕ

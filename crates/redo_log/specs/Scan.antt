@@ -12,16 +12,18 @@ use Rattle.redo_log.specs.declared.store.Store.{Store}
 use Rattle.redo_log.specs.Record.{record_of}
 use Rattle.redo_log.specs.Store.{store_of}
 use Rattle.redo_log.specs.Reading.{AreRecords, IsRefused}
+use Rattle.redo_log.specs.Taken.{AreTaken}
 
 -- what the first record stands on
 abbrev pub store_before : LogBase → Store
 store_before base = store_of base.commit base.entries base.pages
 
--- The records of the file from a place on, and the closed gate behind them. Each byte between is theirs.
+-- The records of the file from a place on, and the closed gate behind them. Each byte between is theirs, and they are commits that follow each other.
 pub record Scans (file : Which) (at : ℕ) (base : LogBase) (c : Image) (s : Scanned) : Type 0 where
   pub file_is : s.end.file ≡ file
   pub records : AreRecords (store_before base) s.changes (drop at (bytes_of c file)) (drop s.end.at (bytes_of c file))
   pub spelled : drop at (bytes_of c file) ≡ flat_map record_of s.changes ++ drop s.end.at (bytes_of c file)
+  pub taken : AreTaken (store_before base) s.changes
 
 -- the first wrong field behind the records that are right
 pub record IsNoStore (file : Which) (at : ℕ) (base : LogBase) (c : Image) (wrong : ℕ) : Type 0 where

@@ -1,85 +1,120 @@
--- What the records of a log stand on: the commit before the next record, the catalogue, and the pages that are there.
-use Rattle.std.specs.Prelude.{ℕ, Bool, false, not, ◌==◌, ◌&&◌, List, [], ◌∷◌, ◌++◌, Option, Some, None, find, filter}
+-- What the records of a log stand on: the commit before the next record, the catalogue with its documents' spaces, and
+-- the pages that are there. What a record does to pages is told for any map of pages, whatever it has at a page: the pages
+-- that are there are one map, with nothing at each page, and the pages' images are another.
+use Rattle.std.specs.Prelude.{ℕ, Bool, not, ◌==◌, ◌&&◌, List, [], ◌∷◌, Option, Some, None}
 use Rattle.std.specs.List.{list_any}
-use Rattle.std.specs.Option.{option_and_then, option_map_or}
-use Rattle.std.specs.Str.{bytes_eq}
+use Rattle.std.specs.Ordering.{nat_cmp}
+use Rattle.std.specs.Cmp.Lexicographic.{slice_cmp}
 use Rattle.std.specs.FinMap as map
 use Rattle.page_bytes.specs.declared.ids.Space.{Space}
 use Rattle.page_bytes.specs.declared.ids.PageId.{PageId}
 use Rattle.page_bytes.specs.declared.ids.DocEntry.{DocEntry}
 use Rattle.page_bytes.specs.declared.lists.PageChange.{PageChange}
-use Rattle.page_bytes.specs.Order.{is_in}
-use Rattle.page_bytes.specs.Known.{PageIds}
+use Rattle.page_bytes.specs.Order.{page_cmp, is_in}
+use Rattle.page_bytes.specs.Known.{PageIds, Spaces}
+use Rattle.redo_log.specs.Names.{Names}
 use Rattle.redo_log.specs.declared.change.LogName.{LogName}
 use Rattle.redo_log.specs.declared.change.Change.{Change}
 use Rattle.redo_log.specs.declared.store.Store.{Store}
 
 -- what the catalogue has under a name
-abbrev pub entry_of : List ℕ → List LogName → Option DocEntry
-entry_of name names = option_and_then (λ n. n.entry) (find (λ n. bytes_eq n.name name) names)
+abbrev pub entry_of : List ℕ → Names → Option DocEntry
+entry_of name names = map.get names name
 
 abbrev pub same_space : Space → Space → Bool
 same_space s t = s.commit == t.commit && s.ordinal == t.ordinal
 
 -- whether a document has this space
-abbrev pub has_space : List LogName → Space → Bool
-has_space names s = list_any (λ n. option_map_or (λ e. same_space e.space s) n.entry false) names
+abbrev pub has_space : Spaces → Space → Bool
+has_space spaces s = map.contains_key spaces s
 
 -- whether a document has a space of this commit
-abbrev pub has_commit : List LogName → ℕ → Bool
-has_commit names commit = list_any (λ n. option_map_or (λ e. e.space.commit == commit) n.entry false) names
+abbrev pub has_commit : Spaces → ℕ → Bool
+has_commit spaces commit = list_any (λ s. s.commit == commit) (map.keys spaces)
 
--- the other names
-abbrev pub others_of : List ℕ → List LogName → List LogName
-others_of name names = filter (λ n. not (bytes_eq n.name name)) names
+-- A drop takes the name, and its space. A set brings the name, or a new form of it.
+abbrev pub names_after : List ℕ → Option DocEntry → Names → Names
+names_after name None names = map.remove names name
+names_after name (Some e) names = map.insert names name e
 
--- the pages without those of a document
-abbrev pub without_document : Option DocEntry → PageIds → PageIds
-without_document None pages = pages
-without_document (Some e) pages = map.retain_keys pages (λ id. not (is_in e.space id))
+abbrev pub without_space : Option DocEntry → Spaces → Spaces
+without_space None spaces = spaces
+without_space (Some e) spaces = map.remove spaces e.space
 
--- A drop takes the name, and all pages of its space. A set brings the name, or a new form of it.
-abbrev pub after_entry : LogName → Option DocEntry → Store → Store
-after_entry n None s = record { commit = s.commit; names = others_of n.name s.names; pages = without_document (entry_of n.name s.names) s.pages }
-after_entry n (Some e) s = record { commit = s.commit; names = others_of n.name s.names ++ n ∷ []; pages = s.pages }
+abbrev pub spaces_after : Option DocEntry → Option DocEntry → Spaces → Spaces
+spaces_after was None spaces = without_space was spaces
+spaces_after was (Some e) spaces = map.insert spaces e.space tt
+
+module _ {V : Type 0} where
+  -- the pages without those of a document
+  abbrev pub without_document : Option DocEntry → map.FinMap page_cmp V → map.FinMap page_cmp V
+  without_document None pages = pages
+  without_document (Some e) pages = map.retain_keys pages (λ id. not (is_in e.space id))
+
+  -- a drop takes all pages of the name's space
+  abbrev pub pages_after_name : Option DocEntry → Option DocEntry → map.FinMap page_cmp V → map.FinMap page_cmp V
+  pages_after_name was None pages = without_document was pages
+  pages_after_name was (Some e) pages = pages
+
+  abbrev pub pages_after_names : List LogName → Names → map.FinMap page_cmp V → map.FinMap page_cmp V
+  pages_after_names [] names pages = pages
+  pages_after_names (n ∷ ns) names pages = pages_after_names ns (names_after n.name n.entry names) (pages_after_name (entry_of n.name names) n.entry pages)
+
+  -- the pages with those of which there is an image, which is seen as a value
+  abbrev pub with_image : (List ℕ → V) → Option (List ℕ) → PageId → map.FinMap page_cmp V → map.FinMap page_cmp V
+  with_image seen None id pages = pages
+  with_image seen (Some page) id pages = map.insert pages id (seen page)
+
+  abbrev pub with_images : (List ℕ → V) → List PageChange → map.FinMap page_cmp V → map.FinMap page_cmp V
+  with_images seen [] pages = pages
+  with_images seen (c ∷ cs) pages = with_images seen cs (with_image seen c.page c.id pages)
+
+  -- the pages without those that are gone
+  abbrev pub without_page : Option (List ℕ) → PageId → map.FinMap page_cmp V → map.FinMap page_cmp V
+  without_page None id pages = map.remove pages id
+  without_page (Some page) id pages = pages
+
+  abbrev pub without_gone : List PageChange → map.FinMap page_cmp V → map.FinMap page_cmp V
+  without_gone [] pages = pages
+  without_gone (c ∷ cs) pages = without_gone cs (without_page c.page c.id pages)
+
+  -- what a record makes of pages, where the catalogue before it has these names
+  abbrev pub pages_after : (List ℕ → V) → Change → Names → map.FinMap page_cmp V → map.FinMap page_cmp V
+  pages_after seen c names pages = without_gone c.pages (with_images seen c.pages (pages_after_names c.names names pages))
+
+-- nothing of an image is seen
+abbrev pub no_image : List ℕ → Unit {0}
+no_image page = tt
 
 abbrev pub after_name : LogName → Store → Store
-after_name n s = after_entry n n.entry s
+after_name n s = record {
+  commit = s.commit;
+  names = names_after n.name n.entry s.names;
+  spaces = spaces_after (entry_of n.name s.names) n.entry s.spaces;
+  pages = pages_after_name (entry_of n.name s.names) n.entry s.pages;
+}
 
 abbrev pub after_names : List LogName → Store → Store
 after_names [] s = s
 after_names (n ∷ ns) s = after_names ns (after_name n s)
 
--- the pages with those of which there is an image
-abbrev pub with_image : Option (List ℕ) → PageId → PageIds → PageIds
-with_image None id pages = pages
-with_image (Some page) id pages = map.insert pages id tt
-
-abbrev pub with_images : List PageChange → PageIds → PageIds
-with_images [] pages = pages
-with_images (c ∷ cs) pages = with_images cs (with_image c.page c.id pages)
-
--- the pages without those that are gone
-abbrev pub without_page : Option (List ℕ) → PageId → PageIds → PageIds
-without_page None id pages = map.remove pages id
-without_page (Some page) id pages = pages
-
-abbrev pub without_gone : List PageChange → PageIds → PageIds
-without_gone [] pages = pages
-without_gone (c ∷ cs) pages = without_gone cs (without_page c.page c.id pages)
-
 -- a commit's pages, where the names are as it leaves them
 abbrev pub with_pages : Change → Store → Store
-with_pages c s = record { commit = c.commit; names = s.names; pages = without_gone c.pages (with_images c.pages s.pages) }
+with_pages c s = record { commit = c.commit; names = s.names; spaces = s.spaces; pages = without_gone c.pages (with_images no_image c.pages s.pages) }
 
 -- what the next record stands on
 abbrev pub after : Change → Store → Store
 after c s = with_pages c (after_names c.names s)
 
--- what the first record stands on
+-- what the record behind these stands on
+abbrev pub after_all : List Change → Store → Store
+after_all [] s = s
+after_all (c ∷ cs) s = after_all cs (after c s)
+
+-- what the first record stands on: the names are set one after the other
 abbrev pub with_ids : List PageId → PageIds → PageIds
 with_ids [] pages = pages
 with_ids (id ∷ ids) pages = with_ids ids (map.insert pages id tt)
 
 abbrev pub store_of : ℕ → List LogName → List PageId → Store
-store_of commit names ids = record { commit = commit; names = names; pages = with_ids ids map.empty }
+store_of commit names ids = after_names names (record { commit = commit; names = map.empty; spaces = map.empty; pages = with_ids ids map.empty })

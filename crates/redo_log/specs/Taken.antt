@@ -1,5 +1,5 @@
 -- Which changes make a record on a store: those that reading takes.
-use Rattle.std.specs.Prelude.{◌≡◌, ℕ, ◌+◌, ◌<◌, ◌^◌, IsTrue, List, [], ◌∷◌, ◌++◌, length, Option, Some, None, is_some}
+use Rattle.std.specs.Prelude.{◌≡◌, ℕ, ◌+◌, ◌<◌, ◌≤◌, ◌^◌, IsTrue, List, [], ◌∷◌, ◌++◌, length, Option, Some, None, is_some}
 use Rattle.std.specs.List.{list_all}
 use Rattle.std.specs.FinMap as map
 use Rattle.page_bytes.specs.declared.ids.DocEntry.{DocEntry}
@@ -9,23 +9,24 @@ use Rattle.redo_log.specs.declared.change.LogName.{LogName}
 use Rattle.redo_log.specs.declared.change.Change.{Change}
 use Rattle.redo_log.specs.declared.store.Store.{Store}
 use Rattle.redo_log.specs.Record.{body_of}
-use Rattle.redo_log.specs.Store.{entry_of, has_space, has_commit, after_name, after_names, with_images, after}
+use Rattle.redo_log.specs.Store.{entry_of, has_space, has_commit, after_name, after_names, with_images, no_image, after}
 use Rattle.redo_log.specs.Reading.{last_in, is_name, is_next_name, is_commit_of, is_space_of, is_next_commit, is_next_space, is_next_page, has_home, is_no_head}
 
 -- a name that is dropped is there; a new document has a new space of this commit, and one that is there keeps its space
-abbrev pub IsEntryTaken : ℕ → List LogName → List ℕ → Option DocEntry → Type 0
-IsEntryTaken commit names name None = IsTrue (is_some (entry_of name names))
-IsEntryTaken commit names name (Some e) =
-    (e.space.commit < 2 ^ 64) × (e.space.ordinal < 2 ^ 64) × IsTrue (is_commit_of (entry_of name names) commit e.space.commit) × IsTrue (is_space_of (entry_of name names) names e.space)
+abbrev pub IsEntryTaken : ℕ → Store → List ℕ → Option DocEntry → Type 0
+IsEntryTaken commit s name None = IsTrue (is_some (entry_of name s.names))
+IsEntryTaken commit s name (Some e) =
+    (e.space.commit < 2 ^ 64) × (e.space.ordinal < 2 ^ 64) × IsTrue (is_commit_of (entry_of name s.names) commit e.space.commit) × IsTrue (is_space_of (entry_of name s.names) s.spaces e.space)
 
-pub record IsNameTaken (commit : ℕ) (done names : List LogName) (n : LogName) : Type 0 where
+pub record IsNameTaken (commit : ℕ) (done : List LogName) (s : Store) (n : LogName) : Type 0 where
   pub name : IsTrue (is_name n.name)
+  pub long : length n.name ≤ 255
   pub next : IsTrue (is_next_name (last_in done) (is_some n.entry) n.name)
-  pub entry : IsEntryTaken commit names n.name n.entry
+  pub entry : IsEntryTaken commit s n.name n.entry
 
 abbrev pub AreNamesTaken : ℕ → List LogName → Store → List LogName → Type 0
 AreNamesTaken commit done s [] = Unit {0}
-AreNamesTaken commit done s (n ∷ ns) = IsNameTaken commit done s.names n × AreNamesTaken commit (done ++ n ∷ []) (after_name n s) ns
+AreNamesTaken commit done s (n ∷ ns) = IsNameTaken commit done s n × AreNamesTaken commit (done ++ n ∷ []) (after_name n s) ns
 
 -- a page that is gone was there; an image has 4,096 bytes
 abbrev pub IsImageTaken : Store → PageId → Option (List ℕ) → Type 0
@@ -36,8 +37,8 @@ pub record IsPageTaken (done : List PageChange) (s : Store) (c : PageChange) : T
   pub commit : c.id.space.commit < 2 ^ 64
   pub ordinal : c.id.space.ordinal < 2 ^ 64
   pub number : c.id.number < 2 ^ 64
-  pub from : IsTrue (is_next_commit (last_in done) c.id.space.commit) × IsTrue (has_commit s.names c.id.space.commit)
-  pub own : IsTrue (is_next_space (last_in done) c.id.space) × IsTrue (has_space s.names c.id.space)
+  pub from : IsTrue (is_next_commit (last_in done) c.id.space.commit) × IsTrue (has_commit s.spaces c.id.space.commit)
+  pub own : IsTrue (is_next_space (last_in done) c.id.space) × IsTrue (has_space s.spaces c.id.space)
   pub next : IsTrue (is_next_page (last_in done) c.id)
   pub image : IsImageTaken s c.id c.page
 
@@ -54,7 +55,7 @@ pub record IsTaken (s : Store) (c : Change) : Type 0 where
   pub pages_fit : length c.pages < 2 ^ 64
   pub pages : ArePagesTaken [] (after_names c.names s) c.pages
   pub long : length (body_of c) < 2 ^ 64
-  pub names_housed : IsTrue (list_all (λ n. has_home (with_images c.pages (after_names c.names s).pages) n.entry) c.names)
+  pub names_housed : IsTrue (list_all (λ n. has_home (with_images no_image c.pages (after_names c.names s).pages) n.entry) c.names)
   pub pages_housed : IsTrue (list_all is_no_head c.pages)
 
 -- the changes of commits that follow each other

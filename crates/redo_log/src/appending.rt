@@ -1,36 +1,14 @@
 //! Appending a record, and settling one that is in doubt. Neither takes memory.
-ghost use Rattle.std.specs.Prelude.{◌≡◌, ◌≤◌, ◌<◌, ◌+◌, ◌↔◌, ℕ, Some, IfSome, is_some, Err, [], ◌∷◌, length, OnOk, OnErr, IfOk, IsErrOf, IsTrue, slice_index};
+ghost use Rattle.std.specs.Prelude.{◌≡◌, ◌≤◌, ◌<◌, ◌+◌, ◌↔◌, ℕ, Some, IfSome, is_some, length, OnOk, OnErr, IfOk, IsErrOf};
 ghost use Rattle.page_device.specs.Image.{Image, bytes_of, with_bytes, SameOthers};
-ghost use Rattle.page_device.specs.Write.{overlay};
-ghost use Rattle.page_device.specs.Device.{FileIs, KeepsOthers, HasCause, Rose, Same, Elapses};
+ghost use Rattle.page_device.specs.Device.{FileIs, KeepsOthers, HasCause, Rose};
 ghost use Rattle.page_device.specs.Run.{Each, LeavesOnly, OthersFrom};
 ghost use Rattle.redo_log.specs.Record.{tail_of};
-ghost use Rattle.redo_log.specs.Append.{IsAtRest, next_end, InPart, Lacks, HasBody, recorded, AtAnyMoment, IsInDoubt, Settles};
+ghost use Rattle.redo_log.specs.Append.{IsAtRest, next_end, Lacks, HasBody, recorded, AtAnyMoment, IsInDoubt, Settles};
 
 use crate::body::LogBody;
 use crate::end::{AppendEnd, LogEnd};
-use page_device::{Device, Failed, LONGEST, Which};
-
-// Writes and syncs.
-fn write_and_sync<D: Device>(
-    device: &mut D,
-    file: Which,
-    at: u64,
-    bytes: &[u8],
-) -> Result<(), Failed>
-    requires { at + length bytes.now ≤ LONGEST }
-    ensures told { is_some (D.contents device.new) ≡ is_some (D.contents device.old) }
-    ensures contents { OnOk result (IfSome (D.contents device.old) (λ c. D.contents device.new ≡ Some (with_bytes c file (overlay (bytes_of c file) at bytes.now)))) }
-    ensures durable { OnOk result (IfSome (D.contents device.old) (λ c. FileIs file (overlay (bytes_of c file) at bytes.now) (D.may_leave device.new))) }
-    ensures stays { OnErr result (IfSome (D.contents device.old) (λ c. (d : Image) × (D.contents device.new ≡ Some d) × SameOthers file c d)) }
-    ensures images { Each (D.may_leave device.new) (InPart file at (length bytes.now) (D.may_leave device.old)) }
-    ensures others { KeepsOthers file (D.may_leave device.old) (D.may_leave device.new) }
-    ensures any_moment { LeavesOnly D.moment D.left_since device.old device.new (InPart file at (length bytes.now) (D.may_leave device.old)) }
-    ensures cause { HasCause (D.failures device.old) (D.failures device.new) result }
-{
-    device.write_at(file, at, bytes)?;
-    device.sync(file)
-}
+use page_device::{Device, Failed, GateEnd, LONGEST, settle_gate, write_behind_gate};
 
 /// Appends a record behind the closed gate that ends the log: its body with its length and the next gate as 0, a sync,
 /// the gate as 1, a sync.
@@ -73,14 +51,14 @@ pub fn append<D: Device>(device: &mut D, end: &mut LogEnd, body: &LogBody) -> Re
     if LONGEST.saturating_sub(end.at) <= long {
         return Err(AppendEnd::Spent { number: LONGEST });
     }
-    let Ok(()) = write_and_sync(device, end.file, end.at + 1, tail) else {
-        return Err(AppendEnd::Failed);
-    };
-    let Ok(()) = write_and_sync(device, end.file, end.at, &[1]) else {
-        return Err(AppendEnd::Doubt);
-    };
-    end.at += long;
-    Ok(())
+    match write_behind_gate(device, end.file, end.at, tail) {
+        Ok(()) => {
+            end.at += long;
+            Ok(())
+        }
+        Err(GateEnd::Failed) => Err(AppendEnd::Failed),
+        Err(GateEnd::Doubt) => Err(AppendEnd::Doubt),
+    }
 }
 
 /// Settles a record that is in doubt: syncs, and reads its gate. The record stands exactly where the gate is 1.
@@ -99,27 +77,9 @@ pub fn settle<D: Device>(device: &mut D, end: &mut LogEnd, body: &LogBody) -> Re
     ensures cause { HasCause (D.failures device.old) (D.failures device.new) result }
 {
     let tail = body.tail();
-    D::sync(device, end.file)?;
-    let yes = is_open(device, end.file, end.at)?;
+    let yes = settle_gate(device, end.file, end.at)?;
     if yes {
         end.at += tail.len() as u64;
     }
     Ok(yes)
-}
-
-// Whether the byte at this place is 1. Behind the end of the file there is none.
-fn is_open<D: Device>(device: &mut D, file: Which, at: u64) -> Result<bool, Failed>
-    ensures answer { IfOk result (λ yes. IfSome (D.contents device.old) (λ c. IsTrue yes ↔ (slice_index (bytes_of c file) at ≡ 1))) }
-    ensures place { IfOk result (λ yes. IsTrue yes → at < LONGEST) }
-    ensures contents { D.contents device.new ≡ D.contents device.old }
-    ensures crash { Same (D.may_leave device.old) (D.may_leave device.new) }
-    ensures time { Elapses (D.moment device.old) (D.moment device.new) (D.left_since device.old) (D.left_since device.new) (D.may_leave device.new) }
-    ensures cause { HasCause (D.failures device.old) (D.failures device.new) result }
-{
-    if at >= LONGEST {
-        return Ok(false);
-    }
-    let mut gate = [0];
-    let count = device.read(file, at, &mut gate)?;
-    Ok(count == 1 && gate[0] == 1)
 }

@@ -2,10 +2,10 @@
 ghost use Rattle.std.specs.Prelude.{◌≡◌, ◌≤◌, ◌++◌, ◌∷◌, [], Option, Some, All, List, ℕ, length, drop, IfOk, OnOk};
 ghost use Rattle.std.specs.List.{flat_map};
 ghost use Rattle.page_bytes.specs.declared.ids.DocEntry.{DocEntry};
-ghost use Rattle.redo_log.specs.Record.{number, space_bytes, form_byte, named_bytes, name_change, page_change, body_of, tail_of};
+ghost use Rattle.redo_log.specs.Record.{number, name_bytes, space_bytes, form_byte, entry_bytes, id_bytes, named_bytes, name_change, page_change, body_of, tail_of};
 
 use crate::change::{Change, LogName};
-use page_bytes::{DocEntry, PageChange, Space};
+use page_bytes::{DocEntry, PageChange, PageId, Space};
 use std::alloc::Global;
 use std::marker::Model;
 use xq_ast::{NoMemory, Str};
@@ -98,23 +98,26 @@ fn push_name(out: &mut Vec<u8>, change: &LogName) -> Result<(), NoMemory>
     }
 }
 
-fn push_text(out: &mut Vec<u8>, name: &Str) -> Result<(), NoMemory>
+/// Writes a name: its length in one byte, and its bytes.
+pub fn push_text(out: &mut Vec<u8>, name: &Str) -> Result<(), NoMemory>
     requires { length name.now ≤ 255 }
-    ensures { OnOk result (out.new.items ≡ out.old.items ++ length name.now ∷ name.now) }
+    ensures { OnOk result (out.new.items ≡ out.old.items ++ name_bytes name.now) }
 {
     let bytes = name.as_bytes();
     out.push(bytes.len() as u8)?;
     Ok(out.extend_from_slice(bytes)?)
 }
 
-fn push_entry(out: &mut Vec<u8>, entry: &DocEntry) -> Result<(), NoMemory>
-    ensures { OnOk result (out.new.items ≡ out.old.items ++ space_bytes entry.now.space ++ form_byte entry.now.clustered ∷ []) }
+/// Writes a document of the catalogue: its space, and whether it is clustered.
+pub fn push_entry(out: &mut Vec<u8>, entry: &DocEntry) -> Result<(), NoMemory>
+    ensures { OnOk result (out.new.items ≡ out.old.items ++ entry_bytes entry.now) }
 {
     push_space(out, &entry.space)?;
     Ok(out.push(if entry.clustered { 1 } else { 0 })?)
 }
 
-fn push_space(out: &mut Vec<u8>, space: &Space) -> Result<(), NoMemory>
+/// Writes a space.
+pub fn push_space(out: &mut Vec<u8>, space: &Space) -> Result<(), NoMemory>
     ensures { OnOk result (out.new.items ≡ out.old.items ++ space_bytes space.now) }
 {
     push_number(out, space.commit)?;
@@ -133,8 +136,7 @@ fn push_pages(out: &mut Vec<u8>, pages: &[PageChange]) -> Result<(), NoMemory>
 fn push_page(out: &mut Vec<u8>, change: &PageChange) -> Result<(), NoMemory>
     ensures { OnOk result (out.new.items ≡ out.old.items ++ page_change change.now) }
 {
-    push_space(out, &change.id.space)?;
-    push_number(out, change.id.number)?;
+    push_id(out, &change.id)?;
     match &change.page {
         None => Ok(out.push(0)?),
         Some(page) => {
@@ -144,8 +146,17 @@ fn push_page(out: &mut Vec<u8>, change: &PageChange) -> Result<(), NoMemory>
     }
 }
 
+/// Writes a page's space and its number.
+pub fn push_id(out: &mut Vec<u8>, id: &PageId) -> Result<(), NoMemory>
+    ensures { OnOk result (out.new.items ≡ out.old.items ++ id_bytes id.now) }
+{
+    push_space(out, &id.space)?;
+    push_number(out, id.number)
+}
+
+/// Writes a number of eight bytes, the highest first.
 #[tactic(auto, unfolding(crate::specs::Record::number))]
-fn push_number(out: &mut Vec<u8>, value: u64) -> Result<(), NoMemory>
+pub fn push_number(out: &mut Vec<u8>, value: u64) -> Result<(), NoMemory>
     ensures { OnOk result (out.new.items ≡ out.old.items ++ number value) }
 {
     Ok(out.extend_from_slice(&value.to_be_bytes())?)

@@ -1,28 +1,16 @@
 //! What a record says: a commit, by the names and the pages that it changes. Contracts see the lists as lists; a list is
 //! made from a `Vec` and gives it back without taking memory.
-ghost use Rattle.std.specs.Prelude.{◌≡◌, ◌++◌, ◌∷◌, [], OnOk, IfOk};
+ghost use Rattle.std.specs.Prelude.{◌≡◌};
 
-use crate::catalogue::is_named;
 use page_bytes::{ChangeList, DocEntry};
 use std::marker::Model;
-use xq_ast::{NoMemory, Str};
+use xq_ast::Str;
 
 /// A name of the catalogue, and the document under it. In a change a name without a document is dropped.
 #[derive(Drop)]
 pub struct LogName {
     pub name: Str,
     pub entry: Option<DocEntry>,
-}
-
-impl LogName {
-    pub(crate) fn copy(&self) -> Result<LogName, NoMemory>
-        ensures { IfOk result (λ n. n ≡ self.now) }
-    {
-        Ok(LogName {
-            name: self.name.copy()?,
-            entry: self.entry,
-        })
-    }
 }
 
 /// A list of names.
@@ -41,8 +29,6 @@ impl Model for LogNameList {
 }
 
 impl LogNameList {
-    ghost use Rattle.redo_log.specs.Store.{others_of};
-
     /// The list of these names.
     pub fn of(items: Vec<LogName>) -> LogNameList
         ensures { result ≡ items.items }
@@ -55,20 +41,6 @@ impl LogNameList {
         ensures { result.now ≡ self.now }
     {
         self.items.as_slice()
-    }
-
-    /// Takes out the name.
-    pub(crate) fn leave(&mut self, name: &[u8])
-        ensures { self.new ≡ others_of name.now self.old }
-    {
-        self.items.retain(|n| !is_named(n, name));
-    }
-
-    /// Puts a name behind the others.
-    pub(crate) fn push(&mut self, name: LogName) -> Result<(), NoMemory>
-        ensures { OnOk result (self.new ≡ self.old ++ name ∷ []) }
-    {
-        Ok(self.items.push(name)?)
     }
 
     /// The names, given back.

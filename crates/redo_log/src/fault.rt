@@ -5,10 +5,12 @@ ghost use Rattle.redo_log.specs.declared.fault.ReadEnd.TheVariants.{NoMemory as 
 use std::alloc::{AllocError, AllocFailed};
 use xq_ast::NoMemory;
 
+/// Why a field was not read.
 #[derive(Debug, Drop)]
 pub enum ReadEnd {
-    // The first wrong field begins where so many bytes of the file are left.
+    /// The first wrong field begins where so many bytes of the file are left.
     Wrong(usize),
+    /// There was no memory.
     NoMemory,
 }
 

@@ -16,6 +16,7 @@ pub fn check(is_right: bool, left: usize) -> Result<(), ReadEnd>
     }
 }
 
+/// A number of eight bytes, the highest first.
 #[tactic(auto, unfolding(crate::specs::Reading::number_in))]
 pub fn number_at(bytes: &[u8]) -> Result<(u64, &[u8]), ReadEnd>
     ensures gives { Gives (λ x. (x.0, x.1.now)) result (number_at bytes.now) }
@@ -31,6 +32,7 @@ pub fn number_at(bytes: &[u8]) -> Result<(u64, &[u8]), ReadEnd>
     Ok((number, rest))
 }
 
+/// One byte.
 pub fn byte_at(bytes: &[u8]) -> Result<(u8, &[u8]), ReadEnd>
     ensures gives { Gives (λ x. (x.0, x.1.now)) result (byte_at bytes.now) }
     ensures shorter { IfOk result (λ x. length x.1.now ≤ length bytes.now) }
@@ -41,6 +43,7 @@ pub fn byte_at(bytes: &[u8]) -> Result<(u8, &[u8]), ReadEnd>
     }
 }
 
+/// So many bytes.
 pub fn bytes_at(count: usize, bytes: &[u8]) -> Result<(&[u8], &[u8]), ReadEnd>
     ensures gives { Gives (λ x. (x.0.now, x.1.now)) result (bytes_at count bytes.now) }
     ensures count { IfOk result (λ x. length x.0.now ≡ count) }

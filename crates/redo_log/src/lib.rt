@@ -8,6 +8,9 @@
 //! `scan` gives the change of each record whose gate is open, and the closed gate that ends them; it refuses with the
 //! first field that runs past the end or is wrong. What the bytes of a record are, and how bytes are read, are
 //! definitions over lists.
+//!
+//! `number_at`, `byte_at`, `bytes_at`, `is_name` and `text_of` read the fields of which a record and a head are made, and
+//! `push_number`, `push_text`, `push_space`, `push_entry` and `push_id` write them.
 #![tactic(auto)]
 
 mod appending;
@@ -23,13 +26,17 @@ mod page_table;
 mod pages;
 mod record;
 mod scanning;
+mod space_table;
 mod store;
 
 pub use appending::{append, settle};
-pub use body::{LogBody, build};
+pub use body::{LogBody, build, push_entry, push_id, push_number, push_space, push_text};
 pub use change::{Change, LogChangeList, LogName, LogNameList};
 pub use end::{AppendEnd, LogEnd};
-pub use laws::record_laws;
+pub use fault::ReadEnd;
+pub use fields::{byte_at, bytes_at, check, number_at};
+pub use laws::{record_laws, scan_laws};
+pub use names::{is_name, text_of};
 pub use scanning::{LogBase, ScanEnd, Scanned, scan};
 
 #[cfg(test)]

@@ -8,18 +8,19 @@ ghost use Rattle.redo_log.specs.Gives.{Gives};
 ghost use Rattle.redo_log.specs.Reading.{is_name, last_in, rises, is_next_name, is_commit_of, is_space_of, entry_at, entry_if, name_at, names_at};
 ghost use Rattle.redo_log.specs.Store.{after_names};
 
-use crate::catalogue::{entry_of, has_space, same_space};
+use crate::catalogue::same_space;
 use crate::change::LogName;
 use crate::fault::ReadEnd;
 use crate::fields::{byte_at, bytes_at, check, number_at};
+use crate::space_table::SpaceTable;
 use crate::store::Store;
 use page_bytes::{DocEntry, Space};
 use std::alloc::Global;
 use std::cmp::Ordering;
 use xq_ast::{NoMemory, Str};
 
-// Whether the bytes are a document's name.
-fn is_name(bytes: &[u8]) -> bool
+/// Whether the bytes are a document's name.
+pub fn is_name(bytes: &[u8]) -> bool
     ensures { result ≡ is_name bytes.now }
 {
     is_text(bytes) && 0 < bytes.len() && is_printable(bytes)
@@ -40,8 +41,8 @@ fn is_printable(bytes: &[u8]) -> bool
     bytes.iter().all(|b| 32 <= *b)
 }
 
-// The text of a document's name.
-fn text_of(alloc: Global, bytes: &[u8]) -> Result<Str, NoMemory>
+/// The text of a document's name.
+pub fn text_of(alloc: Global, bytes: &[u8]) -> Result<Str, NoMemory>
     requires { IsTrue (is_name bytes.now) }
     ensures { IfOk result (λ s. s ≡ bytes.now) }
 {
@@ -79,11 +80,11 @@ fn is_commit_of(entry: Option<DocEntry>, commit: u64, c: u64) -> bool
     }
 }
 
-fn is_space_of(entry: Option<DocEntry>, names: &[LogName], space: Space) -> bool
-    ensures { result ≡ is_space_of entry names.now space }
+fn is_space_of(entry: Option<DocEntry>, spaces: &SpaceTable, space: Space) -> bool
+    ensures { result ≡ is_space_of entry spaces.now space }
 {
     match entry {
-        None => !has_space(names, space),
+        None => !spaces.has(space),
         Some(entry) => same_space(entry.space, space),
     }
 }
@@ -91,14 +92,14 @@ fn is_space_of(entry: Option<DocEntry>, names: &[LogName], space: Space) -> bool
 #[tactic(auto, unfolding(crate::specs::Reading::entry_at))]
 fn entry_at<'a>(
     commit: u64,
-    names: &[LogName],
-    name: &[u8],
+    store: &Store,
+    name: &Str,
     bytes: &'a [u8],
 ) -> Result<(DocEntry, &'a [u8]), ReadEnd>
-    ensures gives { Gives (λ x. (x.0, x.1.now)) result (entry_at commit names.now name.now bytes.now) }
+    ensures gives { Gives (λ x. (x.0, x.1.now)) result (entry_at commit store.now name.now bytes.now) }
     ensures shorter { IfOk result (λ x. length x.1.now ≤ length bytes.now) }
 {
-    let there = entry_of(name, names);
+    let there = store.names.get(name);
     let (came, rest) = number_at(bytes)?;
     check(is_commit_of(there, commit, came), bytes.len())?;
     let (ordinal, rest) = number_at(rest)?;
@@ -106,7 +107,7 @@ fn entry_at<'a>(
         commit: came,
         ordinal,
     };
-    check(is_space_of(there, names, space), bytes.len())?;
+    check(is_space_of(there, &store.spaces, space), bytes.len())?;
     let (form, behind) = byte_at(rest)?;
     check(form < 2, rest.len())?;
     let entry = DocEntry {
@@ -119,17 +120,17 @@ fn entry_at<'a>(
 fn entry_if<'a>(
     sets: bool,
     commit: u64,
-    names: &[LogName],
-    name: &[u8],
+    store: &Store,
+    name: &Str,
     bytes: &'a [u8],
 ) -> Result<(Option<DocEntry>, &'a [u8]), ReadEnd>
-    ensures gives { Gives (λ x. (x.0, x.1.now)) result (entry_if sets commit names.now name.now bytes.now) }
+    ensures gives { Gives (λ x. (x.0, x.1.now)) result (entry_if sets commit store.now name.now bytes.now) }
     ensures shorter { IfOk result (λ x. length x.1.now ≤ length bytes.now) }
 {
     if !sets {
         return Ok((None, bytes));
     }
-    let (entry, rest) = entry_at(commit, names, name, bytes)?;
+    let (entry, rest) = entry_at(commit, store, name, bytes)?;
     Ok((Some(entry), rest))
 }
 
@@ -138,10 +139,10 @@ fn name_at<'a>(
     alloc: Global,
     commit: u64,
     done: &[LogName],
-    names: &[LogName],
+    store: &Store,
     bytes: &'a [u8],
 ) -> Result<(LogName, &'a [u8]), ReadEnd>
-    ensures gives { Gives (λ x. (x.0, x.1.now)) result (name_at commit done.now names.now bytes.now) }
+    ensures gives { Gives (λ x. (x.0, x.1.now)) result (name_at commit done.now store.now bytes.now) }
     ensures shorter { IfOk result (λ x. length x.1.now ≤ length bytes.now) }
 {
     let (kind, named) = byte_at(bytes)?;
@@ -151,9 +152,9 @@ fn name_at<'a>(
     let (name, rest) = bytes_at(long as usize, rest)?;
     check(is_name(name), named.len())?;
     check(is_next_name(done, sets, name), named.len())?;
-    check(sets || entry_of(name, names).is_some(), named.len())?;
-    let (entry, rest) = entry_if(sets, commit, names, name, rest)?;
     let name = text_of(alloc, name)?;
+    check(sets || store.names.has(&name), named.len())?;
+    let (entry, rest) = entry_if(sets, commit, store, &name, rest)?;
     Ok((LogName { name, entry }, rest))
 }
 
@@ -176,7 +177,7 @@ pub fn names_at<'a>(
             alloc,
             commit,
             names.as_slice(),
-            store.names.as_slice(),
+            store,
             rest,
         )?;
         store.take_name(&name)?;

@@ -1,11 +1,12 @@
 //! The pages of a record.
 ghost use Rattle.std.specs.Prelude.{◌≡◌, ◌≤◌, ◌==◌, ◌&&◌, ◌||◌, [], length, IfOk, nat_le, nat_lt};
 ghost use Rattle.redo_log.specs.Gives.{Gives};
-ghost use Rattle.redo_log.specs.Reading.{is_below, last_in, is_next_commit, is_next_space, is_next_page, id_at, image_if, page_at, pages_at};
+ghost use Rattle.redo_log.specs.Store.{has_commit};
+ghost use Rattle.redo_log.specs.Reading.{is_below, last_in, is_next_commit, is_next_space, is_next_page, id_at, id_by_space, image_if, page_at, pages_at};
 
-use crate::catalogue::{has_commit, has_space};
 use crate::fault::ReadEnd;
 use crate::fields::{byte_at, bytes_at, check, number_at};
+use crate::space_table::SpaceTable;
 use crate::store::Store;
 use page_bytes::{Draft, NoMemory, Page, PageChange, PageId, Space};
 use std::alloc::Global;
@@ -48,25 +49,42 @@ fn is_next_page(done: &[PageChange], id: PageId) -> bool
     }
 }
 
-#[tactic(auto, unfolding(crate::specs::Reading::id_at))]
 fn id_at<'a>(
     done: &[PageChange],
-    store: &Store,
+    spaces: &SpaceTable,
     bytes: &'a [u8],
 ) -> Result<(PageId, &'a [u8]), ReadEnd>
-    ensures gives { Gives (λ x. (x.0, x.1.now)) result (id_at (last_in done.now) store.now.names bytes.now) }
+    ensures gives { Gives (λ x. (x.0, x.1.now)) result (id_at (last_in done.now) spaces.now bytes.now) }
     ensures shorter { IfOk result (λ x. length x.1.now ≤ length bytes.now) }
 {
-    let names = store.names.as_slice();
+    id_by_space(done, spaces, bytes)
+}
+
+// Whether the commit may be a space's. Where an ordinal stands behind it, the space decides, and no space is walked.
+fn may_be_commit(spaces: &SpaceTable, commit: u64, behind: &[u8]) -> bool
+    ensures { result ≡ (nat_le 8 (length behind.now) || has_commit spaces.now commit) }
+{
+    8 <= behind.len() || spaces.has_commit(commit)
+}
+
+#[tactic(auto, unfolding(crate::specs::Reading::id_by_space))]
+fn id_by_space<'a>(
+    done: &[PageChange],
+    spaces: &SpaceTable,
+    bytes: &'a [u8],
+) -> Result<(PageId, &'a [u8]), ReadEnd>
+    ensures gives { Gives (λ x. (x.0, x.1.now)) result (id_by_space (last_in done.now) spaces.now bytes.now) }
+    ensures shorter { IfOk result (λ x. length x.1.now ≤ length bytes.now) }
+{
     let (commit, rest) = number_at(bytes)?;
     check(
-        is_next_commit(done, commit) && has_commit(names, commit),
+        is_next_commit(done, commit) && may_be_commit(spaces, commit, rest),
         bytes.len(),
     )?;
     let (ordinal, rest) = number_at(rest)?;
     let space = Space { commit, ordinal };
     check(
-        is_next_space(done, space) && has_space(names, space),
+        is_next_space(done, space) && spaces.has(space),
         bytes.len(),
     )?;
     let (number, rest) = number_at(rest)?;
@@ -105,7 +123,7 @@ fn page_at<'a>(
     ensures gives { Gives (λ x. (x.0, x.1.now)) result (page_at done.now store.now bytes.now) }
     ensures shorter { IfOk result (λ x. length x.1.now ≤ length bytes.now) }
 {
-    let (id, rest) = id_at(done, store, bytes)?;
+    let (id, rest) = id_at(done, &store.spaces, bytes)?;
     let (kind, behind) = byte_at(rest)?;
     check(kind < 2, rest.len())?;
     check(kind == 1 || store.pages.has(id), bytes.len())?;

@@ -7,6 +7,7 @@ ghost use Rattle.page_device.specs.Run.{LeavesOnly};
 ghost use Rattle.std.specs.List.{flat_map};
 ghost use Rattle.redo_log.specs.Record.{record_of};
 ghost use Rattle.redo_log.specs.Reading.{AreRecords};
+ghost use Rattle.redo_log.specs.Taken.{AreTaken};
 ghost use Rattle.redo_log.specs.Scan.{Scans, IsNoStore, Refuses};
 
 use crate::change::{Change, LogChangeList, LogNameList};
@@ -88,6 +89,7 @@ fn read_from<D: Device>(
 fn records_at(alloc: Global, store: Store, bytes: &[u8]) -> Result<(Vec<Change>, &[u8]), ReadEnd>
     ensures found { IfOk result (λ x. AreRecords store x.0.items bytes.now x.1.now) }
     ensures spelled { IfOk result (λ x. bytes.now ≡ flat_map record_of x.0.items ++ x.1.now) }
+    ensures taken { IfOk result (λ x. AreTaken store x.0.items) }
     ensures wrong { IfErr result (λ e. Refuses store bytes.now e) }
 {
     let mut store = store;

@@ -1,20 +1,22 @@
 //! What the records of a log stand on, as they are read.
-ghost use Rattle.std.specs.Prelude.{◌≡◌, IfOk, OnOk};
+ghost use Rattle.std.specs.Prelude.{◌≡◌, IfOk, OnOk, Some, None};
 ghost use Rattle.std.specs.FinMap as map;
-ghost use Rattle.redo_log.specs.Store.{store_of, with_ids, after_name, with_images, without_gone, with_image, without_page};
+ghost use Rattle.redo_log.specs.Store.{store_of, with_ids, names_after, spaces_after, pages_after_name, entry_of, after_name, after_names, with_images, without_gone, with_image, without_page, no_image};
 
-use crate::catalogue::entry_of;
-use crate::change::{LogName, LogNameList};
+use crate::catalogue::Catalogue;
+use crate::change::LogName;
 use crate::page_table::PageTable;
-use page_bytes::{PageChange, PageId};
+use crate::space_table::SpaceTable;
+use page_bytes::{DocEntry, PageChange, PageId};
 use std::alloc::Global;
-use xq_ast::NoMemory;
+use xq_ast::{NoMemory, Str};
 
-/// The commit before the next record, the catalogue, and the pages that are there.
+/// The commit before the next record, the catalogue with its documents' spaces, and the pages that are there.
 #[derive(Drop)]
 pub struct Store {
     pub commit: u64,
-    pub names: LogNameList,
+    pub names: Catalogue,
+    pub spaces: SpaceTable,
     pub pages: PageTable,
 }
 
@@ -28,42 +30,53 @@ impl Store {
     ) -> Result<Store, NoMemory>
         ensures { IfOk result (λ s. s ≡ store_of commit names.now pages.now) }
     {
-        Ok(Store {
+        let mut store = Store {
             commit,
-            names: copy_names(alloc, names)?,
+            names: Catalogue::new(alloc),
+            spaces: SpaceTable::new(alloc),
             pages: table_of(alloc, pages)?,
-        })
+        };
+        store.take_names(names)?;
+        Ok(store)
+    }
+
+    fn take_names(&mut self, names: &[LogName]) -> Result<(), NoMemory>
+        ensures { OnOk result (self.new ≡ after_names names.now self.old) }
+    {
+        for name in names {
+            self.take_name(name)?;
+        }
+        Ok(())
     }
 
     /// Drops or sets a name.
     pub fn take_name(&mut self, n: &LogName) -> Result<(), NoMemory>
         ensures { OnOk result (self.new ≡ after_name n.now self.old) }
     {
-        let name = n.name.as_bytes();
         match n.entry {
             None => {
-                if let Some(entry) = entry_of(name, self.names.as_slice()) {
-                    self.pages.leave(entry.space);
-                }
-                self.names.leave(name);
+                self.drop_name(&n.name);
                 Ok(())
             }
-            Some(_) => {
-                self.names.leave(name);
-                self.names.push(n.copy()?)
-            }
+            Some(entry) => self.set_name(&n.name, entry),
         }
     }
-}
 
-fn copy_names(alloc: Global, names: &[LogName]) -> Result<LogNameList, NoMemory>
-    ensures { IfOk result (λ l. l ≡ names.now) }
-{
-    let mut copies = Vec::new(alloc);
-    for name in names {
-        copies.push(name.copy()?)?;
+    fn drop_name(&mut self, name: &Str)
+        ensures { self.new ≡ after_name (record { name = name.now; entry = None }) self.old }
+    {
+        if let Some(entry) = self.names.remove(name) {
+            self.spaces.remove(entry.space);
+            self.pages.leave(entry.space);
+        }
     }
-    Ok(LogNameList::of(copies))
+
+    fn set_name(&mut self, name: &Str, entry: DocEntry) -> Result<(), NoMemory>
+        ensures { OnOk result (self.new ≡ after_name (record { name = name.now; entry = Some entry }) self.old) }
+    {
+        self.names.insert(name.copy()?, entry)?;
+        self.spaces.insert(entry.space)
+    }
 }
 
 fn table_of(alloc: Global, ids: &[PageId]) -> Result<PageTable, NoMemory>
@@ -78,7 +91,7 @@ fn table_of(alloc: Global, ids: &[PageId]) -> Result<PageTable, NoMemory>
 
 /// Puts in the pages of which there is an image.
 pub fn put_images(table: &mut PageTable, pages: &[PageChange]) -> Result<(), NoMemory>
-    ensures { OnOk result (table.new ≡ with_images pages.now table.old) }
+    ensures { OnOk result (table.new ≡ with_images no_image pages.now table.old) }
 {
     for change in pages {
         put_image(table, change)?;
@@ -87,7 +100,7 @@ pub fn put_images(table: &mut PageTable, pages: &[PageChange]) -> Result<(), NoM
 }
 
 fn put_image(table: &mut PageTable, change: &PageChange) -> Result<(), NoMemory>
-    ensures { OnOk result (table.new ≡ with_image change.now.page change.now.id table.old) }
+    ensures { OnOk result (table.new ≡ with_image no_image change.now.page change.now.id table.old) }
 {
     match change.page {
         None => Ok(()),

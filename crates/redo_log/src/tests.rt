@@ -115,23 +115,6 @@ fn a_second_sync_that_fails_is_a_doubt_that_settles_with_yes(rt: HostRuntime) ->
 }
 
 #[test]
-fn a_first_sync_that_fails_leaves_the_gate(rt: HostRuntime) -> Result<(), Fail> {
-    let alloc = rt.alloc();
-    let mut device = new_log(alloc, 1, None)?;
-    let mut end = first_end();
-    let body = build(alloc, &no_changes(alloc, 1))?;
-    assert_eq!(rt;
-        append(&mut device, &mut end, &body),
-        Err(AppendEnd::Failed)
-    );
-    assert_eq!(rt; end.at, 41);
-    let mut bytes = [9; 36];
-    assert_eq!(rt; read_log(&mut device, &mut bytes), Some(34));
-    assert_eq!(rt; bytes[0], 0);
-    Ok(())
-}
-
-#[test]
 fn an_append_that_failed_may_be_tried_again(rt: HostRuntime) -> Result<(), Fail> {
     let alloc = rt.alloc();
     let mut device = new_log(alloc, 1, None)?;

@@ -3,6 +3,7 @@ use Rattle.std.proofs.lemmas.Result.{err_from_is_err_and}
 use Rattle.redo_log.specs.declared.change.Change.{Change}
 use Rattle.redo_log.specs.Reading.{AreRecords, IsRefused}
 use Rattle.redo_log.proofs.Takes.{records_take}
+use Rattle.redo_log.proofs.Opened.{records_taken}
 use Rattle.redo_log.proofs.Scans.{byte_is, follows, refuses, ends_at, gate_fails, record_fails}
 use Rattle.redo_log.proofs.scanning.records_at.Goals as goal
 
@@ -41,6 +42,12 @@ pub returns-then-gate-ne1-clause-spelled : goal.returns-then-gate-ne1-clause-spe
 returns-then-gate-ne1-clause-spelled c =
     let l = c.loop-changes in let is = byte_is l.rest.now c.in_ok-gate.gate c.in_ok-gate.behind.now c.in_ok-gate.ensures.gives in
     records_take l.changes.items c.args.store c.args.bytes.now l.rest.now (λ i. omega (arith, c.type_inv.bytes i))
+    (ends_at c.args.store c.args.bytes.now l.store l.rest.now l.changes.items c.in_ok-gate.gate c.in_ok-gate.behind.now l.invariant.follow is c.if-gate-ne1.true)
+
+pub returns-then-gate-ne1-clause-taken : goal.returns-then-gate-ne1-clause-taken
+returns-then-gate-ne1-clause-taken c =
+    let l = c.loop-changes in let is = byte_is l.rest.now c.in_ok-gate.gate c.in_ok-gate.behind.now c.in_ok-gate.ensures.gives in
+    records_taken l.changes.items c.args.store c.args.bytes.now l.rest.now (λ i. omega (arith, c.type_inv.bytes i))
     (ends_at c.args.store c.args.bytes.now l.store l.rest.now l.changes.items c.in_ok-gate.gate c.in_ok-gate.behind.now l.invariant.follow is c.if-gate-ne1.true)
 
 pub returns-in_err-change-clause-wrong : goal.returns-in_err-change-clause-wrong

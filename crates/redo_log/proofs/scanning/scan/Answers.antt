@@ -8,6 +8,7 @@ use Rattle.redo_log.specs.Record.{record_of}
 use Rattle.redo_log.specs.Store.{store_of}
 use Rattle.redo_log.specs.Reading.{AreRecords}
 use Rattle.redo_log.specs.Scan.{store_before}
+use Rattle.redo_log.specs.Taken.{AreTaken}
 use Rattle.redo_log.proofs.Found.{place_of, scans}
 use Rattle.redo_log.proofs.scanning.scan.Goals as goal
 
@@ -24,4 +25,5 @@ returns-in-Ok-records_at-clause-found g c =
     if_told (g.D.Device.contents c.args.device.now) _ (λ i is.
     scans c.args.file c.args.at base i s items rest (told (g.D.Device.contents c.args.device.now) (λ k. items ≡ drop c.args.at (bytes_of k c.args.file)) i is c.in_ok-bytes.ensures.bytes) end
     (subst (λ (cs : List Change). AreRecords (store_before base) cs items rest) changes (subst (λ (z : Store). AreRecords z c.in-Ok-records_at.changes.items items rest) store found))
-    (spelled ∙ ap (λ (cs : List Change). flat_map record_of cs ++ rest) changes))
+    (spelled ∙ ap (λ (cs : List Change). flat_map record_of cs ++ rest) changes)
+    (subst (λ (cs : List Change). AreTaken (store_before base) cs) changes (subst (λ (z : Store). AreTaken z c.in-Ok-records_at.changes.items) store c.in-Ok-records_at.ensures.taken)))

@@ -2,11 +2,12 @@ use Rattle.std.proofs.Common.{◌≡◌, ◌<◌, ◌+◌, ℕ, true, cond, Some
 use Rattle.page_bytes.specs.declared.ids.PageId.{PageId}
 use Rattle.page_versions.specs.ChainMap.{ChainMap, chain_in}
 use Rattle.page_versions.specs.Chains.{version_at}
-use Rattle.page_versions.specs.Kept.{Kept, chain_of}
+use Rattle.page_versions.specs.Kept.{Kept, chain_of, IsKnownAt}
 use Rattle.page_versions.specs.Purging.{unstaged}
 use Rattle.page_versions.specs.Inside.{IsSound, is_listed}
-use Rattle.page_versions.proofs.Chaining.{version_at-base, later_staged}
+use Rattle.page_versions.proofs.Chaining.{version_at-base, version_at-with_image, later_staged}
 use Rattle.page_versions.proofs.Sounding.{stage_sound, stage_once, stage_under, stage_back, past_before}
+use Rattle.page_versions.proofs.Callers.{staged_newest}
 use Rattle.page_bytes.proofs.Sharing.{on_ok_is}
 use Rattle.page_versions.proofs.versions.Versions.stage.Goals as goal
 
@@ -83,3 +84,18 @@ returns-clause-seen c =
     let later = subst (λ (x : Kept). (s : ℕ) → Contains x.snapshots (Some s) → s < k) (sym c.self.view_is) c.requires.past.snapshots in
     subst (λ (x : Kept). (s : ℕ) → Contains slots (Some s) → (q : PageId) → version_at (chain_in n q) s ≡ version_at (chain_of x q) s) c.self.view_is
     (λ s there q. sym (version_at-base (Some k) s (chain_in n q) (later_staged k s (chain_in n q) (later s there))) ∙ ap (λ x. version_at x s) (stage_under m n slots c.self.inside.touched.items c.stage_with_room-staged.new.touched.items c.self.inside.older.items _ _ k sound past c.stage_with_room-staged.ensures.under q))
+
+pub returns-clause-same : goal.returns-clause-same
+returns-clause-same c n lt q =
+    let m = c.self.inside.table in let new = c.stage_with_room-staged.new.table in
+    let chains = on_ok_is c.stage_with_room-staged.result (sym c.is_err.ensures.value ∙ c.if-is_err.false) c.stage_with_room-staged.ensures.ok in
+    subst (λ (x : Kept). version_at (chain_in new q) n ≡ version_at (chain_of x q) n) c.self.view_is
+    (ap (λ chain. version_at chain n) (chains q) ∙ version_at-with_image c.args.commit n _ (chain_in m q) lt)
+
+pub returns-clause-newest : goal.returns-clause-newest
+returns-clause-newest c n lt known q =
+    let m = c.self.inside.table in let new = c.stage_with_room-staged.new.table in
+    let is : c.self.inside.staged ≡ None = ap (λ (x : Kept). x.staged) c.self.view_is ∙ c.requires.nothing_staged in
+    let chains = on_ok_is c.stage_with_room-staged.result (sym c.is_err.ensures.value ∙ c.if-is_err.false) c.stage_with_room-staged.ensures.ok in
+    let before = subst (λ (x : Kept). All (IsKnownAt x.staged n) (chain_of x q)) (sym c.self.view_is) (known q) in
+    staged_newest c.args.commit n _ (chain_in m q) (chain_in new q) lt (chains q) (subst (λ st. All (IsKnownAt st n) (chain_in m q)) is before)
