@@ -14,3 +14,6 @@ pub mod WrittenFields
 pub mod SeenPages
 pub mod Growing
 pub mod Owning
+pub mod Askings
+pub mod Frames
+pub mod Keeping
