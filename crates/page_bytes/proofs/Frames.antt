@@ -1,5 +1,5 @@
 -- What calls keep that keep to their own: pages that they have nothing to do with, and the texts and the schema entries there.
-use Rattle.std.proofs.Common.{◌≡◌, ◌≢◌, ℕ, zero, suc, ◌+◌, ◌<◌, ◌≤◌, ◌==◌, ◌&&◌, ◌⊎◌, ⊎_elim, inl, inr, Bool, true, false, not, nat_le, List, [], ◌∷◌, length, slice_index, Option, Some, None, Result, Ok, Err, refl, sym, ap, ◌∙◌, subst, is_some, unwrap_or, IsTrue, true≢false, if◌then◌else◌, arith}
+use Rattle.std.proofs.Common.{◌≡◌, ℕ, zero, suc, ◌+◌, ◌<◌, ◌==◌, ◌&&◌, ⊎_elim, inl, inr, Bool, true, false, not, nat_le, List, [], ◌∷◌, length, slice_index, Option, Some, None, Result, Ok, Err, refl, sym, ap, ◌∙◌, subst, unwrap_or, IsTrue, true≢false, if◌then◌else◌, arith}
 use Rattle.std.proofs.lemmas.Bool.{eqb-true}
 use Rattle.std.proofs.lemmas.Bool.Decides.{nat_tests}
 use Rattle.std.proofs.lemmas.List.{take_all}
@@ -12,10 +12,10 @@ use Rattle.page_bytes.specs.declared.end.PageEnd.{PageEnd}
 use Rattle.page_bytes.specs.declared.end.PageEnd.TheVariants.{Damaged}
 use Rattle.page_bytes.specs.Fields.{field, bytes_at}
 use Rattle.page_bytes.specs.Head.{head_of, is_head, next_page, head_in}
-use Rattle.page_bytes.specs.Known.{Known, is_unknown}
+use Rattle.page_bytes.specs.Known.{is_unknown}
 use Rattle.page_bytes.specs.Links.{page_in, and_then, asked, tested}
-use Rattle.page_bytes.specs.Own.{PageField, Own, HasOwnPage, HasNoField, AreBeside, HasFieldWrite, ChangesOwn, KeepsPage}
-use Rattle.page_bytes.specs.Seen.{seen, bytes, next_of}
+use Rattle.page_bytes.specs.Own.{PageField, HasOwnPage, HasNoField, AreBeside, HasFieldWrite, KeepsPage}
+use Rattle.page_bytes.specs.Seen.{bytes, next_of}
 use Rattle.page_bytes.specs.Schema.{SCHEMA_KIND, first_schema_page, entry_count, next_schema_page, entry_id, entry_end, is_entry, entry_among, schema_page, Looked, Next, Found, looked_at, looked_on_page, looked_on, first_in, looked, IsSchemaEntry}
 use Rattle.page_bytes.specs.Texts.{TEXT_KIND, slot_count, slot_at, is_readable, has_piece, is_piece, piece_page, Joined, with_piece, joined_more, joined, IsTextAt}
 use Rattle.page_bytes.specs.Frames.{Call, Keeps, before, behind, IsSpared, SparesText, entry_place, SparesEntries, SparesSchema}

@@ -1,6 +1,6 @@
 -- What writes to a structure's pages and to its fields of the head leave: the structure's own is kept to, the head is whole, and
 -- the pages are still the structure's. The structure is a parameter.
-use Rattle.std.proofs.Common.{◌≡◌, ◌≢◌, ℕ, ◌+◌, ◌<◌, ◌≤◌, ◌^◌, ◌==◌, ◌⊎◌, ⊎_elim, Bool, true, false, List, length, slice_index, Option, Some, None, Result, Ok, Err, OnOk, refl, sym, ap, ◌∙◌, cond, subst, is_some, unwrap_or, arith, IsTrue}
+use Rattle.std.proofs.Common.{◌≡◌, ◌≢◌, ℕ, ◌+◌, ◌<◌, ◌≤◌, ◌^◌, ◌==◌, ◌⊎◌, ⊎_elim, false, List, length, slice_index, Option, Some, None, Result, Ok, Err, OnOk, refl, sym, ap, ◌∙◌, cond, subst, is_some, unwrap_or, arith, IsTrue}
 use Rattle.std.proofs.lemmas.Bool.Decides.{nat_tests}
 use Rattle.std.specs.FinMap as map
 use Rattle.page_bytes.specs.declared.ids.Space.{Space}
@@ -85,7 +85,7 @@ module _ (own : Own) where
   -- one step after another
   pub kept_twice : (a b c : Work) (space : Space) (j k : ℕ) → HasKept own j a b space → HasKept own k b c space → HasKept own (j + k) a c space
   kept_twice a b c space j k one two = record {
-    own = λ all. own_twice own all space a b c j k (one.own all) (two.own all) (two.stays all);
+    kept = λ all. own_twice own all space a b c j k (one.kept all) (two.kept all) (two.stays all);
     stays = λ all. stays_twice all space a b c (one.stays all) (two.stays all);
     head = two.head;
   }
@@ -94,7 +94,7 @@ module _ (own : Own) where
   pub page_kept : (w : Work) (space : Space) (n : ℕ) (b : List ℕ) → IsWholePage own w.now space n → IsTrue (own.is_kind (slice_index b 0)) → IsWholeHead w.now space
       → HasKept own 0 w (with_page w (page_in space n) b) space
   page_kept w space n b is kind head = record {
-    own = λ all. own_page own all space w n b is.beside (subst (HasOwnPage own) (sym (page-first w.now all space n is.there)) is.kind) kind;
+    kept = λ all. own_page own all space w n b is.beside (subst (HasOwnPage own) (sym (page-first w.now all space n is.there)) is.kind) kind;
     stays = λ all. stays_page all space w n b;
     head = head_beside w space n b is.beside head;
   }
@@ -104,7 +104,7 @@ module _ (own : Own) where
       → HasKept own 0 w (with_page w (page_in space 0) (with_field m (first_bytes w.now (page_in space 0)) to x)) space
   head_kept w space m to x past within mine head =
       let b = first_bytes w.now (page_in space 0) in let long = head.long in record {
-        own = λ all. own_field own all space w m to x head.there head.long past within mine;
+        kept = λ all. own_field own all space w m to x head.there head.long past within mine;
         stays = λ all. stays_page all space w 0 (with_field m b to x);
         head = record {
           there = written_there w (page_in space 0) (with_field m b to x);
@@ -132,7 +132,7 @@ module _ (own : Own) where
 
     pub new_kept : HasKept own 1 w made space
     new_kept = record {
-      own = λ all. own_fresh own all space w b none fits head.long mine;
+      kept = λ all. own_fresh own all space w b none fits head.long mine;
       stays = λ all. stays_fresh all space w b;
       head = record {
         there = there_with_page (with_fresh w space) (page_in space number) (page_in space 0) b (there_with_fresh w space (page_in space 0) head.there);

@@ -16,4 +16,5 @@ pub mod Growing
 pub mod Owning
 pub mod Askings
 pub mod Frames
+pub mod Among
 pub mod Keeping

@@ -1,13 +1,13 @@
 -- What writes to a structure's own pages and fields leave: it kept to its own. One lemma for each write, and one that joins them.
-use Rattle.std.proofs.Common.{◌≡◌, ◌≢◌, ℕ, ◌+◌, ◌<◌, ◌≤◌, ◌^◌, ◌⊎◌, ⊎_elim, inl, inr, Bool, true, false, nat_lt, IsTrue, List, [], ◌∷◌, length, slice_index, Option, Some, None, refl, sym, ap, subst, is_some, ◌∙◌, true≢false, arith}
+use Rattle.std.proofs.Common.{◌≡◌, ◌≢◌, ℕ, ◌+◌, ◌<◌, ◌≤◌, ◌^◌, ◌⊎◌, ⊎_elim, inl, inr, Bool, true, false, nat_lt, IsTrue, List, length, slice_index, Option, Some, None, refl, sym, ap, subst, is_some, ◌∙◌, true≢false, arith}
 use Rattle.std.proofs.lemmas.Bool.{ltb-true, ltb-false}
 use Rattle.page_bytes.specs.declared.ids.Space.{Space}
 use Rattle.page_bytes.specs.declared.ids.PageId.{PageId}
-use Rattle.page_bytes.specs.Fields.{bytes_at, field, with_field}
-use Rattle.page_bytes.specs.Head.{head_of, next_page, with_next_page, LAST_PAGE}
+use Rattle.page_bytes.specs.Fields.{bytes_at, with_field}
+use Rattle.page_bytes.specs.Head.{head_of, next_page, with_next_page}
 use Rattle.page_bytes.specs.Known.{is_there}
 use Rattle.page_bytes.specs.Links.{page_in}
-use Rattle.page_bytes.specs.Own.{PageField, Own, HasOwnPage, IsOwnPage, IsNewNumber, HasNoField, AreBeside, IsFieldWrite, HasFieldWrite, ChangesOwn, KeepsPage, KeepsToOwn}
+use Rattle.page_bytes.specs.Own.{PageField, Own, HasOwnPage, IsOwnPage, IsNewNumber, AreBeside, IsFieldWrite, HasFieldWrite, KeepsPage, KeepsToOwn}
 use Rattle.page_bytes.specs.Refusal.{fresh_refusal}
 use Rattle.page_bytes.specs.Seen.{PagesByNumber, seen, bytes, next_of}
 use Rattle.page_bytes.specs.Work.{Work, with_page, without_page, with_fresh, first_bytes, next_in, zeros}

@@ -23,6 +23,6 @@ pub record IsWholePage (own : Own) (k : Known) (space : Space) (n : ℕ) : Type 
 
 -- The structure's own was kept to, with `most` new pages at most; all pages that were there are; and the head is whole.
 pub record HasKept (own : Own) (most : ℕ) (w new : Work) (space : Space) : Type 0 where
-  pub own : (all : PageId → Option (List ℕ)) → KeepsToOwn own most w new all space
+  pub kept : (all : PageId → Option (List ℕ)) → KeepsToOwn own most w new all space
   pub stays : (all : PageId → Option (List ℕ)) (n : ℕ) → is_some (seen w.now all space n) ≡ true → is_some (seen new.now all space n) ≡ true
   pub head : IsWholeHead new.now space

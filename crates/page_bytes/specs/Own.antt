@@ -6,8 +6,7 @@ use Rattle.page_bytes.specs.declared.ids.Space.{Space}
 use Rattle.page_bytes.specs.declared.ids.PageId.{PageId}
 use Rattle.page_bytes.specs.Fields.{bytes_at}
 use Rattle.page_bytes.specs.Head.{LAST_PAGE}
-use Rattle.page_bytes.specs.Known.{Known, is_unknown}
-use Rattle.page_bytes.specs.Links.{page_in}
+use Rattle.page_bytes.specs.Known.{is_unknown}
 use Rattle.page_bytes.specs.Seen.{PagesByNumber, seen, bytes, next_of}
 use Rattle.page_bytes.specs.Work.{Work}
 

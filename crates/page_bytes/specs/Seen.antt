@@ -1,5 +1,5 @@
 -- What is there of a space's pages, by their numbers.
-use Rattle.std.specs.Prelude.{ℕ, List, [], Option, unwrap_or, if◌then◌else◌}
+use Rattle.std.specs.Prelude.{ℕ, ◌==◌, ◌||◌, Bool, List, [], Option, None, unwrap_or, if◌then◌else◌}
 use Rattle.std.specs.FinMap as map
 use Rattle.page_bytes.specs.declared.ids.Space.{Space}
 use Rattle.page_bytes.specs.declared.ids.PageId.{PageId}
@@ -22,3 +22,11 @@ bytes pages n = unwrap_or (pages n) []
 -- the head's next page number
 abbrev pub next_of : PagesByNumber → ℕ
 next_of pages = next_page (bytes pages 0)
+
+-- the pages of a set, and no others
+abbrev pub only : (ℕ → Bool) → PagesByNumber → PagesByNumber
+only set pages n = if set n then pages n else None
+
+-- the set with one page more
+abbrev pub also : (ℕ → Bool) → ℕ → ℕ → Bool
+also set n q = q == n || set q

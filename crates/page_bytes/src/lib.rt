@@ -29,7 +29,7 @@ mod workspace;
 pub use end::{NoMemory, PageEnd};
 pub use fields::{field_laws, read_bytes, read_u8, read_u16, read_u32, read_u64};
 pub use head::{NEXT_PAGE_AT, read_head, tests_head};
-pub use ids::{Addr, DocEntry, NodeNo, PageId, SchemaId, Space};
+pub use ids::{Addr, DocEntry, LAST_LAYER, NodeNo, PageId, SchemaId, Space};
 pub use laws::frame_laws;
 pub use links::ask;
 pub use lists::{ChangeList, PageChange, PageIdList};
