@@ -26,3 +26,4 @@ pub mod GetTexts
 pub mod Keepings
 pub mod TextKinds
 pub mod Ownings
+pub mod Frames

@@ -1,5 +1,5 @@
 //! One text page: its slots, and pieces that are put in and taken out.
-ghost use Rattle.text_pages.specs.Putting as form;
+ghost use Rattle.text_pages.specs.Putting as limits;
 ghost use Rattle.std.specs.Prelude.{◌≡◌, ◌<◌, ◌≤◌, ◌+◌, length, IsTrue, IfSome};
 ghost use Rattle.page_bytes.specs.Texts.{slot_at, slot_count, piece_at, piece_length, has_piece, next_piece};
 ghost use Rattle.text_pages.specs.Slots as form;
@@ -69,7 +69,7 @@ fn free_slot(page: &[u8; 4096]) -> u16
 /// The place for a piece of so many bytes, if the page has one.
 pub fn place_on(page: &[u8; 4096], size: usize) -> Option<Place>
     requires slotted { IsTrue (form.is_writable page.now) }
-    requires size { size ≤ form.MOST_SIZE }
+    requires size { size ≤ limits.MOST_SIZE }
     ensures place { result ≡ form.place_for size page.now }
     ensures slot { IfSome result (λ place. place.slot < 1022) }
     ensures inside { IfSome result (λ place. place.at + size ≤ 4096) }
