@@ -14,7 +14,7 @@ use Rattle.page_bytes.specs.Refusal.{fresh_refusal}
 use Rattle.page_bytes.specs.Seen.{seen}
 use Rattle.page_bytes.specs.Texts.{TEXT_KIND}
 use Rattle.page_bytes.specs.Work.{Work, with_page, without_page, with_fresh, first_bytes, next_in, zeros}
-use Rattle.page_bytes.proofs.Owning.{own_more, own_twice, own_behind, own_page, own_freed, own_field, own_fresh, on_page, Stays, stays_page, stays_twice, stays_fresh}
+use Rattle.page_bytes.proofs.Owning.{own_more, own_twice, own_behind, own_page, own_freed, own_field, own_fresh, on_page as in_head, Stays, stays_page, stays_twice, stays_fresh}
 use Rattle.page_bytes.proofs.PageWrites.{next_positive, get_with_page, get_head_without, get_head_beside}
 use Rattle.page_bytes.proofs.SeenPages.{page-first}
 use Rattle.text_pages.specs.declared.forms.Place.{Place}
@@ -28,7 +28,7 @@ use Rattle.text_pages.specs.Inside.{IsLong, IsFirstLong}
 use Rattle.text_pages.specs.Keeping.{texts_own}
 use Rattle.text_pages.proofs.Heads.{raised_long}
 use Rattle.text_pages.proofs.TextKinds.{IsOfText, of_piece, of_new_page, of_closed}
-use Rattle.page_bytes.proofs.Askings.{not_none, both_gave, one_value}
+use Rattle.page_bytes.proofs.Askings.{not_none, both_gave, one_value, unless_gave}
 use Rattle.text_pages.proofs.Passing.{slotted_is}
 use Rattle.text_pages.proofs.Places.{place_within}
 use Rattle.text_pages.proofs.TakeCases.{slotted_there, IsTested, hole_inside, long_bytes, EachCase, taken_case}
@@ -82,7 +82,7 @@ module _ (all : PageId → Option (List ℕ)) (space : Space) where
 
   -- another page is tried first
   first_own : (w : Work) (x : ℕ) (head : List ℕ) → map.get w.now.pages (head_of space) ≡ Some head → length head ≡ 4096 → Owned 0 w (with_first w space x)
-  first_own w x head is long = own_field texts_own all space w 8 26 x (ap is_some is) (ap (λ (o : Option (List ℕ)). length (unwrap_or o zeros)) is ∙ long) (lit≤ tt) (lit≤ tt) (λ at n beside. on_page 0 beside.0)
+  first_own w x head is long = own_field texts_own all space w 8 26 x (ap is_some is) (ap (λ (o : Option (List ℕ)). length (unwrap_or o zeros)) is ∙ long) (lit≤ tt) (lit≤ tt) (λ at n beside. in_head 0 beside.0)
 
   -- a piece is taken away
   module _ (w : Work) (at : TextRef) (past : 0 < at.page) (long_head : IsLong w.now (head_of space)) (long_page : IsLong w.now (page_in space at.page)) where

@@ -4,7 +4,7 @@ use Rattle.std.specs.FinMap as map
 use Rattle.page_bytes.specs.declared.ids.Space.{Space}
 use Rattle.page_bytes.specs.declared.ids.PageId.{PageId}
 use Rattle.page_bytes.specs.declared.texts.TextRef.{TextRef}
-use Rattle.page_bytes.specs.Head.{head_of, is_head}
+use Rattle.page_bytes.specs.Head.{head_of, is_head, head_in}
 use Rattle.page_bytes.specs.Known.{Known}
 use Rattle.page_bytes.specs.Links.{page_in, and_then, asked, tested}
 use Rattle.page_bytes.specs.Texts.{has_piece}
@@ -20,10 +20,16 @@ use Rattle.text_pages.proofs.Passing.{slotted_is, has_piece_is, may_go_is}
 -- a head that was tested is there
 pub first_there : (k : Known) (space : Space) (n : ℕ) → first_in k space ≡ Ok n → (head : List ℕ) × ((map.get k.pages (head_of space) ≡ Some head) × (n ≡ tried_first head) × (is_head head ≡ true))
 first_there k space n is =
-    let asked_is = both_gave (asked k (head_of space) (head_of space)) (λ head. and_then (tested (head_of space) (is_head head) head) (λ head. Ok (tried_first head))) n is in
-    let tested_is = both_gave (tested (head_of space) (is_head asked_is.0) asked_is.0) (λ head. Ok (tried_first head)) n asked_is.1.1 in
-    let passed = test_passed (head_of space) (is_head asked_is.0) asked_is.0 tested_is.0 tested_is.1.0 in
-    (asked_is.0, (asked_there k (head_of space) (head_of space) asked_is.0 asked_is.1.0, sym (one_value (tried_first tested_is.0) n tested_is.1.1) ∙ ap tried_first (sym passed.1), passed.0))
+    let whole = both_gave (head_in k space) (λ head. Ok (tried_first head)) n is in
+    let asked_is = both_gave (asked k (head_of space) (head_of space)) (λ head. tested (head_of space) (is_head head) head) whole.0 whole.1.0 in
+    let passed = test_passed (head_of space) (is_head asked_is.0) asked_is.0 whole.0 asked_is.1.1 in (
+      asked_is.0,
+      (
+        asked_there k (head_of space) (head_of space) asked_is.0 asked_is.1.0,
+        sym (one_value (tried_first whole.0) n whole.1.1) ∙ ap tried_first (sym passed.1),
+        passed.0,
+      ),
+    )
 
 -- a text page that was tested is there
 pub slotted_there : (k : Known) (space : Space) (from number : ℕ) (page : List ℕ) → text_page k space from number ≡ Ok page → (map.get k.pages (page_in space number) ≡ Some page) × (is_writable page ≡ true)
