@@ -12,7 +12,9 @@ use crate::forms::{
     DIRECTORY_KIND, ENTRIES, Entry, FIRST_FREE_AT, HIGHEST_AT, LEAF_KIND, LINKS, Leaf,
     MOST_NUMBERS, Numbers, ROOT_AT, entry_at, link_at,
 };
-use page_bytes::{Addr, PageEnd, PageId, Pages, Space, ask, read_head, read_u8, read_u32, read_u64};
+use page_bytes::{
+    Addr, PageEnd, PageId, Pages, Space, ask, read_head, read_u8, read_u32, read_u64,
+};
 
 /// Whether a page is of this kind.
 fn is_of_kind(page: &[u8; 4096], kind: u8) -> bool

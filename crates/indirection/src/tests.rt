@@ -1,7 +1,7 @@
 use crate::{add, change, find, remove};
 use page_bytes::{
-    Addr, Draft, LAST_LAYER, NoMemory, NodeNo, Page, PageEnd, PageId, PageSet, Pages, Space, Workspace,
-    read_u64,
+    Addr, Draft, LAST_LAYER, NoMemory, NodeNo, Page, PageEnd, PageId, PageSet, Pages, Space,
+    Workspace, read_u64,
 };
 use std::alloc::Global;
 use std::test::Fail;
@@ -80,34 +80,19 @@ fn removed_number_is_given_again(rt: HostRuntime) -> Result<(), Fail> {
     Ok(())
 }
 
-// The first number of which the answer is another than its address.
-fn first_wrong(work: &Workspace, count: u32) -> Option<u32> {
-    for number in 1..count {
-        if find(work, SPACE, NodeNo(number)) != Ok(Some(address(number))) {
-            return Some(number);
-        }
-    }
-    None
-}
-
-fn add_up_to(work: &mut Workspace, count: u32) -> Result<bool, PageEnd> {
-    for number in 1..count {
-        if added(work, address(number))? != NodeNo(number) {
-            return Ok(false);
-        }
-    }
-    Ok(true)
-}
-
+// With as many numbers as one directory page has, the next one makes a directory page and a leaf.
 #[test]
 fn numbers_stand_in_two_directory_pages(rt: HostRuntime) -> Result<(), Fail> {
-    let mut work = empty_document(rt.alloc())?;
-    let count = 340 * 511 + 342;
-    assert_eq!(rt; add_up_to(&mut work, count), Ok(true));
-    assert_eq!(rt; first_wrong(&work, count), None);
-    assert_eq!(rt; find(&work, SPACE, NodeNo(count)), Ok(None));
+    let alloc = rt.alloc();
+    let mut set = PageSet::new(alloc);
+    set.put(id(0), head(alloc, 9, 1, 0, 340 * 511)?)?;
+    set.put(id(1), page(alloc, 7, 8, 2)?)?;
+    let mut work = Workspace::over(alloc, set);
+    let next = NodeNo(340 * 511 + 1);
+    assert_eq!(rt; added(&mut work, address(5)), Ok(next));
+    assert_eq!(rt; find(&work, SPACE, next), Ok(Some(address(5))));
     let head = work.page(id(0)).ok_or("no head")?;
-    assert_eq!(rt; read_u64(head, 2), 1 + 1 + 2 + 513);
+    assert_eq!(rt; read_u64(head, 2), 11);
     Ok(())
 }
 

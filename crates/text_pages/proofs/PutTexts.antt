@@ -114,8 +114,11 @@ pub not_put : (set : ℕ → Bool) (k : Known) (all : PageId → Option (List �
     → IsUnput set k all space (piece_count text) end → IsNotPut k all space text end
 not_put set k all space text end form is = split is
     (λ stop. inl stop)
-    (λ spent. inr (spent.0, subst (λ (b : List ℕ). LAST_PAGE < next_page b + piece_count text)
-    (bytes-in set (seen k all space) 0 (long_in set (seen k all space) 0 form.long)) spent.1))
+    (λ spent. inr (
+      spent.0,
+      subst (λ (b : List ℕ). LAST_PAGE < next_page b + piece_count text)
+          (bytes-in set (seen k all space) 0 (long_in set (seen k all space) 0 form.long)) spent.1,
+    ))
 
 -- what the call `put` does
 pub put_means : (w : Work) (all : PageId → Option (List ℕ)) (space : Space) (texts : TextMap) (text : List ℕ) → MeansTexts (seen w.now all space) texts → (r : Result TextRef PageEnd) (new : Work)
