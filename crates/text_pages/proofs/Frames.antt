@@ -1,8 +1,7 @@
 -- What calls of other structures leave of texts.
-use Rattle.std.proofs.Common.{◌≡◌, ◌≢◌, ℕ, ◌+◌, ◌<◌, ◌≤◌, ◌==◌, ◌&&◌, ◌⊎◌, inl, inr, Bool, true, false, not, List, [], length, slice_index, Option, Some, None, refl, sym, ap, ◌∙◌, subst, IsTrue, unwrap_or, true≢false, arith}
+use Rattle.std.proofs.Common.{◌≡◌, ◌≢◌, ℕ, ◌<◌, ◌≤◌, ◌==◌, ◌&&◌, inl, inr, Bool, true, not, List, [], length, slice_index, Option, Some, None, sym, ap, ◌∙◌, subst, unwrap_or, true≢false, arith}
 use Rattle.std.proofs.lemmas.Bool.Decides.{nat_tests}
 use Rattle.page_bytes.specs.declared.texts.TextRef.{TextRef}
-use Rattle.page_bytes.specs.Fields.{field, bytes_at}
 use Rattle.page_bytes.specs.Frames.{Call, before, behind}
 use Rattle.page_bytes.specs.Head.{is_head, next_page}
 use Rattle.page_bytes.specs.Own.{HasOwnPage, IsOwnPage, HasFieldWrite, KeepsPage}

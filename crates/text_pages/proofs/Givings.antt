@@ -1,15 +1,12 @@
 -- What the calls read where the pages are in the form of texts: the head, a text page, a piece, or a page is needed.
-use Rattle.std.proofs.Common.{◌≡◌, ◌≢◌, ℕ, ◌+◌, ◌<◌, ◌≤◌, ◌==◌, ◌||◌, ◌&&◌, ◌⊎◌, inl, inr, Bool, true, false, not, nat_le, nat_lt, List, [], length, slice_index, Option, Some, None, Result, Ok, Err, refl, sym, ap, ◌∙◌, is_some, unwrap_or, subst, arith, IsTrue, if◌then◌else◌}
+use Rattle.std.proofs.Common.{◌≡◌, ◌≢◌, ℕ, ◌+◌, ◌<◌, ◌≤◌, ◌==◌, ◌&&◌, inl, Bool, true, false, not, nat_le, nat_lt, List, slice_index, Option, Some, None, Ok, refl, sym, ap, ◌∙◌, subst, arith, IsTrue, if◌then◌else◌}
 use Rattle.std.proofs.lemmas.Bool.Decides.{nat_tests}
-use Rattle.std.specs.FinMap as map
 use Rattle.page_bytes.specs.declared.ids.Space.{Space}
 use Rattle.page_bytes.specs.declared.ids.PageId.{PageId}
 use Rattle.page_bytes.specs.declared.texts.TextRef.{TextRef}
-use Rattle.page_bytes.specs.declared.end.PageEnd.{PageEnd}
-use Rattle.page_bytes.specs.declared.end.PageEnd.TheVariants.{Need, Damaged}
 use Rattle.page_bytes.specs.Head.{head_of, is_head, head_in}
-use Rattle.page_bytes.specs.Known.{Known, is_there, is_unknown}
-use Rattle.page_bytes.specs.Links.{page_in, and_then, or_damaged, asked, tested}
+use Rattle.page_bytes.specs.Known.{Known, is_there}
+use Rattle.page_bytes.specs.Links.{page_in, and_then, asked, tested}
 use Rattle.page_bytes.specs.Texts.{TEXT_KIND, slot_count, piece_at, piece_length, has_piece}
 use Rattle.text_pages.specs.declared.forms.Tried.TheVariants.{Absent}
 use Rattle.text_pages.specs.Slots.{lowest, slots_end, is_writable, room, place_for, may_go}
@@ -19,7 +16,6 @@ use Rattle.text_pages.specs.Meaning.{IsTextPage, HasPiece, IsSound, IsForm, IsPi
 use Rattle.page_bytes.proofs.Askings.{Gives, gives_then}
 use Rattle.text_pages.proofs.PageSteps.{head_is_none}
 use Rattle.text_pages.proofs.Reached.{among, asked-among}
-use Rattle.text_pages.proofs.Ranges.{split}
 
 -- a sound page passes the tests
 pub slotted : (page : List ℕ) → slice_index page 0 ≡ TEXT_KIND → IsSound page → is_writable page ≡ true

@@ -5,7 +5,6 @@ use Rattle.page_bytes.specs.declared.ids.Space.{Space}
 use Rattle.page_bytes.specs.declared.ids.PageId.{PageId}
 use Rattle.page_bytes.specs.declared.texts.TextRef.{TextRef}
 use Rattle.page_bytes.specs.declared.end.PageEnd.{PageEnd}
-use Rattle.page_bytes.specs.Answers.{unless}
 use Rattle.page_bytes.specs.Fields.{with_field}
 use Rattle.page_bytes.specs.Head.{head_of, with_next_page}
 use Rattle.page_bytes.specs.Links.{page_in, and_then}

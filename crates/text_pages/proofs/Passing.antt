@@ -1,5 +1,5 @@
 -- What the tests of a text page say, as facts.
-use Rattle.std.proofs.Common.{◌≡◌, ℕ, zero, suc, ◌+◌, ◌<◌, ◌≤◌, ◌==◌, ◌&&◌, Bool, true, false, not, nat_le, nat_lt, List, slice_index, refl, sym, true≢false, arith}
+use Rattle.std.proofs.Common.{◌≡◌, ℕ, ◌+◌, ◌<◌, ◌≤◌, ◌==◌, ◌&&◌, true, not, nat_le, nat_lt, List, slice_index}
 use Rattle.std.proofs.lemmas.Bool.{ltb-true, leb-true, eqb-true}
 use Rattle.page_bytes.proofs.Askings.{first_true, second_true, not_none}
 use Rattle.page_bytes.specs.Texts.{slot_count, piece_at, piece_length, has_piece}

@@ -1,5 +1,5 @@
 -- What taking a text away, and replacing it, does to the texts that the pages mean.
-use Rattle.std.proofs.Common.{◌≡◌, ◌≢◌, ℕ, zero, suc, ◌+◌, ◌≤◌, ◌==◌, inl, Bool, true, false, List, [], Option, Some, IsSome, Result, Ok, Err, MatchResult, refl, sym, ◌∙◌, subst, true≢false, eq-eqb, if◌then◌else◌, arith}
+use Rattle.std.proofs.Common.{◌≡◌, ◌≢◌, ℕ, zero, suc, ◌≤◌, ◌==◌, inl, Bool, true, false, List, [], Option, Some, IsSome, Result, Ok, Err, MatchResult, refl, sym, ◌∙◌, subst, true≢false, eq-eqb, if◌then◌else◌, arith}
 use Rattle.std.proofs.lemmas.Bool.{eqb-true}
 use Rattle.std.specs.FinMap as map
 use Rattle.page_bytes.specs.declared.ids.Space.{Space}

@@ -1,9 +1,8 @@
 -- A text page stays one where pieces and slots are written, whatever else its bytes are.
-use Rattle.std.proofs.Common.{◌≡◌, ℕ, zero, suc, ◌+◌, ◌-◌, ◌<◌, ◌≤◌, ◌==◌, ◌&&◌, Bool, true, false, not, nat_lt, List, length, slice_index, sym, ap, ◌∙◌, if◌then◌else◌, arith}
+use Rattle.std.proofs.Common.{ℕ, zero, suc, ◌+◌, ◌-◌, ◌<◌, ◌≤◌, ◌==◌, ◌&&◌, Bool, true, false, not, nat_lt, List, length, if◌then◌else◌, arith}
 use Rattle.page_bytes.specs.declared.texts.TextRef.{TextRef}
-use Rattle.page_bytes.specs.Fields.{bytes_at, with_bytes, with_field}
+use Rattle.page_bytes.specs.Fields.{bytes_at, with_field}
 use Rattle.page_bytes.specs.Texts.{TEXT_KIND, slot_at, piece_at}
-use Rattle.page_bytes.proofs.FieldLaws.{length-with_bytes, bytes_at-before, slice_index-bytes_at}
 use Rattle.page_bytes.proofs.WrittenFields.{IsOfKind, of_field, of_bytes}
 use Rattle.text_pages.specs.declared.forms.Place.{Place}
 use Rattle.text_pages.specs.declared.forms.Hole.{Hole}

@@ -1,4 +1,4 @@
-use Rattle.std.proofs.Common.{◌+◌, length, Option, List, ℕ, arith}
+use Rattle.std.proofs.Common.{length, Option, List, ℕ}
 use Rattle.page_bytes.specs.declared.ids.PageId.{PageId}
 use Rattle.text_pages.specs.Keeping.{texts_own}
 use Rattle.page_bytes.proofs.Owning.{own_behind}
