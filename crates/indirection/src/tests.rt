@@ -131,17 +131,15 @@ const SOUND: Fields = Fields {
 // The first of these pages, as many as this.
 fn first_pages(alloc: Global, fields: &Fields, count: u64) -> Result<PageSet, NoMemory> {
     let forms = [
-        (fields.root_kind, 8, fields.directory),
-        (fields.directory_kind, 8, fields.leaf),
-        (fields.leaf_kind, 16, fields.entry),
+        (1, fields.root_kind, 8, fields.directory),
+        (2, fields.directory_kind, 8, fields.leaf),
+        (3, fields.leaf_kind, 16, fields.entry),
     ];
     let mut set = PageSet::new(alloc);
-    let mut number = 1;
-    for (kind, at, link) in forms {
+    for (number, kind, at, link) in forms {
         if number < count {
             set.put(id(number), page(alloc, kind, at, link)?)?;
         }
-        number += 1;
     }
     if count > 0 {
         let first = head(alloc, fields.next, fields.root, fields.free, fields.highest)?;
