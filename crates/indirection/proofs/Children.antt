@@ -135,6 +135,13 @@ module _ (all : PageId → Option (List ℕ)) (space : Space) (begun : ℕ → O
         placed = λ l below. absurd (omega (arith, below));
       }
 
+  -- the head's next page number is one more
+  pub rooted_next : next_page (bytes (seen (with_child DIRECTORY_KIND w space 0 18).now all space) 0) ≡ next_page (bytes (seen w.now all space) 0) + 1
+  rooted_next =
+      let mid = mid_stands all space begun 0 w 0 0 0 s DIRECTORY_KIND more in let long = mid.table.head.1 in
+      ap next_page root_bytes ∙ field_apart 8 2 8 (bytes (seen (with_new DIRECTORY_KIND w space).now all space) 0) 18 (next_in w space) (inl (omega arith)) (omega (arith, long))
+      ∙ (mid_made all space begun 0 w 0 0 0 s DIRECTORY_KIND more).next
+
   pub rooted_there : IsTrue (is_there (with_child DIRECTORY_KIND w space 0 18).now (page_in space (next_in w space)))
   rooted_there = there_with_page (with_new DIRECTORY_KIND w space) (page_in space 0) (page_in space (next_in w space)) _ (written_there (with_fresh w space) (page_in space (next_in w space)) _)
 
@@ -185,6 +192,14 @@ module _ (all : PageId → Option (List ℕ)) (space : Space) (begun : ℕ → O
         rooted = λ some. omega arith;
         placed = λ l less. let inside = s.placed l less in omega (arith, inside);
       }
+
+  pub directed_next : next_page (bytes (seen directed.now all space) 0) ≡ next_page (bytes (seen w.now all space) 0) + 1
+  directed_next =
+      let v = with_new DIRECTORY_KIND w space in let mid = mid_stands all space begun old w 1 directories leaves s DIRECTORY_KIND more in
+      ap next_page (head_same (seen v.now all space) (seen directed.now all space) directories leaves (next_in w space) mid.table mid.placed
+      (mid_beside all space begun old w 1 directories leaves s DIRECTORY_KIND more) (mid_numbered all space begun old w 1 directories leaves s DIRECTORY_KIND more)
+      (mid_made all space begun old w 1 directories leaves s DIRECTORY_KIND more).page links)
+      ∙ (mid_made all space begun old w 1 directories leaves s DIRECTORY_KIND more).next
 
   pub directed_root : root_number (seen directed.now all space) ≡ root_number (seen w.now all space)
   directed_root =

@@ -1,5 +1,5 @@
 -- What is found where the pages mean numbers: the number's entry, or a page is needed.
-use Rattle.std.proofs.Common.{◌≡◌, ◌≢◌, ℕ, ◌/◌, ◌%◌, ◌<◌, ◌≤◌, ◌==◌, ◌||◌, ◌&&◌, ◌⊎◌, inl, inr, ⊎_elim, Bool, true, false, not, nat_lt, List, [], slice_index, Option, Some, None, Result, Ok, Err, refl, sym, ap, ◌∙◌, is_some, unwrap_or, subst, true≢false, eq-eqb, arith, IsTrue, if◌then◌else◌}
+use Rattle.std.proofs.Common.{◌≡◌, ◌≢◌, ℕ, ◌/◌, ◌%◌, ◌<◌, ◌≤◌, ◌==◌, ◌||◌, ◌&&◌, ◌⊎◌, inl, inr, ⊎_elim, Bool, true, false, not, nat_lt, nat_le, List, [], slice_index, Option, Some, None, Result, Ok, Err, refl, sym, ap, ◌∙◌, is_some, unwrap_or, subst, true≢false, eq-eqb, arith, IsTrue, if◌then◌else◌}
 use Rattle.std.proofs.lemmas.Bool.{eqb-true, ltb-true, ltb-false}
 use Rattle.std.proofs.lemmas.Bool.Decides.{nat_tests}
 use Rattle.std.specs.FinMap as map
@@ -9,65 +9,47 @@ use Rattle.page_bytes.specs.declared.ids.Addr.{Addr}
 use Rattle.page_bytes.specs.declared.end.PageEnd.{PageEnd}
 use Rattle.page_bytes.specs.declared.end.PageEnd.TheVariants.{Need, Damaged}
 use Rattle.page_bytes.specs.Known.{Known, is_there, is_unknown}
-use Rattle.page_bytes.specs.Head.{next_page}
+use Rattle.page_bytes.specs.Head.{is_head, next_page, head_in}
 use Rattle.indirection.specs.declared.forms.Leaf.{Leaf}
 use Rattle.indirection.specs.declared.forms.Numbers.{Numbers}
 use Rattle.indirection.specs.declared.forms.Entry.{Entry}
 use Rattle.indirection.specs.declared.forms.Entry.TheVariants.{Taken, Free}
 use Rattle.indirection.specs.Forms.{MOST_NUMBERS, LEAF_KIND, DIRECTORY_KIND, leaf_index, entry_index, first_free, highest, link, entry_page, entry_place}
 use Rattle.page_bytes.specs.Links.{and_then, page_in, or_damaged, asked, tested}
-use Rattle.indirection.specs.Reading.{is_number_head, head_in, linked}
+use Rattle.indirection.specs.Reading.{numbers_head, linked}
 use Rattle.indirection.specs.Finding.{directory_in, leaf_in, entry_of, found_in, numbers_in, address_of, address_in}
 use Rattle.page_bytes.specs.Seen.{seen, bytes}
 use Rattle.indirection.specs.Meaning.{IsPage, root_number, directory_number, leaf_number, IsTable, page_at, place_at, leaf_count, directory_count, NodeNumbers, is_listed, EntryMeans, MeansNumbers}
 use Rattle.page_bytes.specs.Answers.{GivesOrNeeds}
+use Rattle.page_bytes.proofs.Askings.{Needs, Gives, gives_then, asked-is}
 use Rattle.indirection.proofs.Steps.{kinds_apart}
-
--- a page is needed of which nothing is known
-abbrev pub Needs : {X : Type 0} → Known → Result X PageEnd → Type 0
-Needs k r = (id : PageId) × (r ≡ Err (Need id)) × IsTrue (is_unknown k id)
-
--- a value is given of which P holds, or a page is needed
-abbrev pub Gives : {X : Type 0} → Known → Result X PageEnd → X → Type 0 → Type 0
-Gives k r x P = ((r ≡ Ok x) × P) ⊎ Needs k r
-
-pub gives_then : {X Y : Type 0} {P Q : Type 0} (k : Known) (r : Result X PageEnd) (f : X → Result Y PageEnd) (x : X) (y : Y)
-    → Gives k r x P → (P → Gives k (f x) y Q) → Gives k (and_then r f) y Q
-gives_then {P = P} {Q = Q} k r f x y given more = ⊎_elim
-    (λ is. subst (λ r. Gives k (and_then r f) y Q) (sym is.0) (more is.1))
-    (λ need. inr (need.0, ap (λ r. and_then r f) need.1, need.2))
-    given
-
--- a page's bytes, by what is known of it
-page_found : (id from : PageId) (k : Known) (page : Option (List ℕ)) (out : Bool) (all : Option (List ℕ)) (kind : ℕ) (good : List ℕ → Bool)
-    → (unknown : (not (is_some page) && out) ≡ is_unknown k id) → 0 < kind → slice_index (unwrap_or (if not (is_some page) && out then all else page) []) 0 ≡ kind
-    → good (unwrap_or (if not (is_some page) && out then all else page) []) ≡ true
-    → Gives k (and_then (if not (is_some page) && out then Err (Need id) else or_damaged from page) (λ b. tested id (good b) b)) (unwrap_or (if not (is_some page) && out then all else page) []) (is_some page ≡ true)
-page_found id from k (Some b) out all kind good unknown positive is passes = inl (ap (λ t. tested id t b) passes, refl)
-page_found id from k None true all kind good unknown positive is passes = inr (id, refl, sym unknown)
-page_found id from k None false all kind good unknown positive is passes = absurd (omega (arith, is, positive))
 
 module _ (k : Known) (all : PageId → Option (List ℕ)) (space : Space) where
   abbrev pages : ℕ → Option (List ℕ)
   pages = seen k all space
 
   pub head-is : IsPage (seen k all space) 2 0 → 0 < next_page (bytes (seen k all space) 0) → highest (bytes (seen k all space) 0) ≤ MOST_NUMBERS
-      → Gives k (head_in k space) (bytes (seen k all space) 0) (IsTrue (is_there k (page_in space 0)))
-  unfolding bytes
+      → Gives k all space (numbers_head k space) (bytes (seen k all space) 0) (IsTrue (is_there k (page_in space 0)))
   head-is page next most =
-      let id = page_in space 0 in
-      page_found id id k (map.get k.pages id) (not (map.contains_key k.whole space || map.contains_key k.freed id)) (all id) 2 is_number_head refl (omega arith) page.0 (passes (bytes (seen k all space) 0) page.0 next most)
+      let id = page_in space 0 in let b = bytes (seen k all space) 0 in let long = page.1 in
+      gives_then k all space (head_in k space) (λ head. tested id (nat_le (highest head) MOST_NUMBERS) head) b b
+      (gives_then k all space (asked k id id) (λ head. tested id (is_head head) head) b b (asked-is k all space id 0 (omega (arith, long)))
+      (λ there. inl (ap (λ t. tested id t b) (passes b page.0 next), there)))
+      (λ there. inl (ap (λ t. tested id t b) (few b most), there))
     where
-      passes : (b : List ℕ) → slice_index b 0 ≡ 2 → 0 < next_page b → highest b ≤ MOST_NUMBERS → is_number_head b ≡ true
-      passes b is next most = grind (arith, nat_tests)
+      passes : (b : List ℕ) → slice_index b 0 ≡ 2 → 0 < next_page b → is_head b ≡ true
+      passes b is next = grind (arith, nat_tests)
+
+      few : (b : List ℕ) → highest b ≤ MOST_NUMBERS → nat_le (highest b) MOST_NUMBERS ≡ true
+      few b most = grind (arith, nat_tests)
 
   pub linked-is : (kind from n : ℕ) → 0 < kind → n ≢ 0 → IsPage (seen k all space) kind n
-      → Gives k (linked k space kind from n) (bytes (seen k all space) n) (IsTrue (is_there k (page_in space n)))
-  unfolding bytes
+      → Gives k all space (linked k space kind from n) (bytes (seen k all space) n) (IsTrue (is_there k (page_in space n)))
   linked-is kind from n positive past page =
-      let id = page_in space n in
-      subst (λ t. Gives k (if t then Err (Damaged (page_in space from)) else and_then (asked k (page_in space from) id) (λ b. tested id (slice_index b 0 == kind) b)) (bytes (seen k all space) n) (IsTrue (is_there k id))) (sym (not_zero n past))
-      (page_found id (page_in space from) k (map.get k.pages id) (not (map.contains_key k.whole space || map.contains_key k.freed id)) (all id) kind (λ b. slice_index b 0 == kind) refl positive page.0 (eq-eqb (slice_index (bytes (seen k all space) n) 0) kind page.0))
+      let id = page_in space n in let source = page_in space from in let b = bytes (seen k all space) n in let long = page.1 in
+      subst (λ t. Gives k all space (if t then Err (Damaged source) else and_then (asked k source id) (λ b. tested id (slice_index b 0 == kind) b)) b (IsTrue (is_there k id))) (sym (not_zero n past))
+      (gives_then k all space (asked k source id) (λ b. tested id (slice_index b 0 == kind) b) b b (asked-is k all space source n (omega (arith, long)))
+      (λ there. inl (ap (λ t. tested id t b) (eq-eqb (slice_index b 0) kind page.0), there)))
     where
       not_zero : (n : ℕ) → n ≢ 0 → (n == 0) ≡ false
       not_zero n past = grind (arith, nat_tests)
@@ -77,9 +59,9 @@ module _ (k : Known) (all : PageId → Option (List ℕ)) (space : Space) where
   numbers_seen = record { root = root_number (seen k all space); first_free = first_free (bytes (seen k all space) 0); highest = highest (bytes (seen k all space) 0) }
 
   pub numbers-is : IsPage (seen k all space) 2 0 → 0 < next_page (bytes (seen k all space) 0) → highest (bytes (seen k all space) 0) ≤ MOST_NUMBERS
-      → Gives k (numbers_in k space) (record { root = root_number (seen k all space); first_free = first_free (bytes (seen k all space) 0); highest = highest (bytes (seen k all space) 0) }) (IsTrue (is_there k (page_in space 0)))
+      → Gives k all space (numbers_in k space) (record { root = root_number (seen k all space); first_free = first_free (bytes (seen k all space) 0); highest = highest (bytes (seen k all space) 0) }) (IsTrue (is_there k (page_in space 0)))
   unfolding root_number
-  numbers-is page next most = gives_then k (head_in k space) _ (bytes (seen k all space) 0) _ (head-is page next most) (λ there. inl (refl, there))
+  numbers-is page next most = gives_then k all space (numbers_head k space) _ (bytes (seen k all space) 0) _ (head-is page next most) (λ there. inl (refl, there))
 
   module _ (roots directories leaves : ℕ) (t : IsTable (seen k all space) roots directories leaves) (rooted : 0 < roots) where
     root_past : root_number (seen k all space) ≢ 0
@@ -91,26 +73,26 @@ module _ (k : Known) (all : PageId → Option (List ℕ)) (space : Space) where
     leaf_past : (l : ℕ) → l < leaves → leaf_number (seen k all space) l ≢ 0
     leaf_past l below = kinds_apart (seen k all space) LEAF_KIND 2 (leaf_number (seen k all space) l) 0 (λ is. absurd (omega (arith, is))) (t.leaf l below).0 t.head
 
-    pub root-is : Gives k (linked k space DIRECTORY_KIND 0 (root_number (seen k all space))) (bytes (seen k all space) (root_number (seen k all space))) (IsTrue (is_there k (page_in space (root_number (seen k all space)))))
+    pub root-is : Gives k all space (linked k space DIRECTORY_KIND 0 (root_number (seen k all space))) (bytes (seen k all space) (root_number (seen k all space))) (IsTrue (is_there k (page_in space (root_number (seen k all space)))))
     root-is = linked-is DIRECTORY_KIND 0 (root_number (seen k all space)) (omega arith) root_past (t.root rooted).0
 
     pub directory-is : (from d : ℕ) → d < directories
-        → Gives k (linked k space DIRECTORY_KIND from (directory_number (seen k all space) d)) (bytes (seen k all space) (directory_number (seen k all space) d)) (IsTrue (is_there k (page_in space (directory_number (seen k all space) d))))
+        → Gives k all space (linked k space DIRECTORY_KIND from (directory_number (seen k all space) d)) (bytes (seen k all space) (directory_number (seen k all space) d)) (IsTrue (is_there k (page_in space (directory_number (seen k all space) d))))
     directory-is from d below = linked-is DIRECTORY_KIND from (directory_number (seen k all space) d) (omega arith) (directory_past d below) (t.directory d below).0
 
     pub leaf-is : (from l : ℕ) → l < leaves
-        → Gives k (linked k space LEAF_KIND from (leaf_number (seen k all space) l)) (bytes (seen k all space) (leaf_number (seen k all space) l)) (IsTrue (is_there k (page_in space (leaf_number (seen k all space) l))))
+        → Gives k all space (linked k space LEAF_KIND from (leaf_number (seen k all space) l)) (bytes (seen k all space) (leaf_number (seen k all space) l)) (IsTrue (is_there k (page_in space (leaf_number (seen k all space) l))))
     leaf-is from l below = linked-is LEAF_KIND from (leaf_number (seen k all space) l) (omega arith) (leaf_past l below) (t.leaf l below).0
 
-    pub directory_in-is : (leaf : ℕ) → leaf / 511 < directories → Gives k (directory_in k space (root_number (seen k all space)) leaf) (directory_number (seen k all space) (leaf / 511)) (Unit {0})
+    pub directory_in-is : (leaf : ℕ) → leaf / 511 < directories → Gives k all space (directory_in k space (root_number (seen k all space)) leaf) (directory_number (seen k all space) (leaf / 511)) (Unit {0})
     unfolding directory_number
-    directory_in-is leaf below = gives_then k (linked k space DIRECTORY_KIND 0 (root_number (seen k all space))) (λ b. Ok (link (leaf / 511) b)) (bytes (seen k all space) (root_number (seen k all space))) _ root-is (λ there. inl (refl, tt))
+    directory_in-is leaf below = gives_then k all space (linked k space DIRECTORY_KIND 0 (root_number (seen k all space))) (λ b. Ok (link (leaf / 511) b)) (bytes (seen k all space) (root_number (seen k all space))) _ root-is (λ there. inl (refl, tt))
 
     pub leaf_in-is : (leaf : ℕ) → leaf / 511 < directories
-        → Gives k (leaf_in k space (root_number (seen k all space)) (directory_number (seen k all space) (leaf / 511)) leaf) (leaf_number (seen k all space) leaf) (Unit {0})
+        → Gives k all space (leaf_in k space (root_number (seen k all space)) (directory_number (seen k all space) (leaf / 511)) leaf) (leaf_number (seen k all space) leaf) (Unit {0})
     unfolding leaf_number
     leaf_in-is leaf below =
-        gives_then k (linked k space DIRECTORY_KIND (root_number (seen k all space)) (directory_number (seen k all space) (leaf / 511))) (λ b. Ok (link (leaf % 511) b)) (bytes (seen k all space) (directory_number (seen k all space) (leaf / 511))) _
+        gives_then k all space (linked k space DIRECTORY_KIND (root_number (seen k all space)) (directory_number (seen k all space) (leaf / 511))) (λ b. Ok (link (leaf % 511) b)) (bytes (seen k all space) (directory_number (seen k all space) (leaf / 511))) _
         (directory-is (root_number (seen k all space)) (leaf / 511) below) (λ there. inl (refl, tt))
 
     pub entry_seen : ℕ → ℕ → Entry
@@ -126,17 +108,17 @@ module _ (k : Known) (all : PageId → Option (List ℕ)) (space : Space) where
         at false false z_is s_is = let past = ltb-false place 65536 s_is in absurd (⊎_elim (λ zero_is. true≢false (sym (eq-eqb page 0 zero_is) ∙ z_is)) (λ small. absurd (omega (arith, past, small))) sound)
 
     pub found-is : (h : ℕ) → leaf_index h < leaves → leaf_index h / 511 < directories → (page_at (seen k all space) h ≡ 0) ⊎ (place_at (seen k all space) h < 65536)
-        → Gives k (found_in k space (root_number (seen k all space)) h)
+        → Gives k all space (found_in k space (root_number (seen k all space)) h)
         (record { number = leaf_number (seen k all space) (leaf_index h); entry = if page_at (seen k all space) h == 0 then Free (place_at (seen k all space) h) else Taken (record { layer = page_at (seen k all space) h / 256; page = page_at (seen k all space) h % 256; at = place_at (seen k all space) h }) })
         (IsTrue (is_there k (page_in space (leaf_number (seen k all space) (leaf_index h)))))
     unfolding page_at place_at
     found-is h below above sound =
         let p = seen k all space in let l = leaf_index h in let d = directory_number p (l / 511) in let n = leaf_number p l in let b = bytes p n in let i = entry_index h in
-        gives_then k (directory_in k space (root_number p) l) (λ directory. and_then (leaf_in k space (root_number p) directory l) (λ leaf. and_then (linked k space LEAF_KIND directory leaf) (λ bytes. and_then (entry_of space leaf (entry_page i bytes) (entry_place i bytes)) (λ entry. Ok (record { number = leaf; entry = entry })))))
+        gives_then k all space (directory_in k space (root_number p) l) (λ directory. and_then (leaf_in k space (root_number p) directory l) (λ leaf. and_then (linked k space LEAF_KIND directory leaf) (λ bytes. and_then (entry_of space leaf (entry_page i bytes) (entry_place i bytes)) (λ entry. Ok (record { number = leaf; entry = entry })))))
         d _ (directory_in-is l above) (λ _.
-        gives_then k (leaf_in k space (root_number p) d l) (λ leaf. and_then (linked k space LEAF_KIND d leaf) (λ bytes. and_then (entry_of space leaf (entry_page i bytes) (entry_place i bytes)) (λ entry. Ok (record { number = leaf; entry = entry }))))
+        gives_then k all space (leaf_in k space (root_number p) d l) (λ leaf. and_then (linked k space LEAF_KIND d leaf) (λ bytes. and_then (entry_of space leaf (entry_page i bytes) (entry_place i bytes)) (λ entry. Ok (record { number = leaf; entry = entry }))))
         n _ (leaf_in-is l above) (λ _.
-        gives_then k (linked k space LEAF_KIND d n) (λ bytes. and_then (entry_of space n (entry_page i bytes) (entry_place i bytes)) (λ entry. Ok (record { number = n; entry = entry })))
+        gives_then k all space (linked k space LEAF_KIND d n) (λ bytes. and_then (entry_of space n (entry_page i bytes) (entry_place i bytes)) (λ entry. Ok (record { number = n; entry = entry })))
         b _ (leaf-is d l below) (λ there.
         inl (ap (λ r. and_then r (λ entry. Ok (record { number = n; entry = entry }))) (entry_of-is n (entry_page i b) (entry_place i b) sound), there))))
 
@@ -166,11 +148,11 @@ out_or_in h top {P = P} out inside = at (h == 0) (nat_lt top h) refl refl
         inside (positive h (λ none. true≢false (sym (eq-eqb h 0 none) ∙ zero_is))) (ltb-false top h less) (λ i. zero_is i || less i)
 
 module _ (k : Known) (all : PageId → Option (List ℕ)) (space : Space) (m : NodeNumbers) (means : MeansNumbers (seen k all space) m) where
-  pub means_numbers-is : Gives k (numbers_in k space) (record { root = root_number (seen k all space); first_free = first_free (bytes (seen k all space) 0); highest = highest (bytes (seen k all space) 0) }) (IsTrue (is_there k (page_in space 0)))
+  pub means_numbers-is : Gives k all space (numbers_in k space) (record { root = root_number (seen k all space); first_free = first_free (bytes (seen k all space) 0); highest = highest (bytes (seen k all space) 0) }) (IsTrue (is_there k (page_in space 0)))
   means_numbers-is = let top = means.highest in let most = means.most in numbers-is k all space means.table.head means.table.next (omega (arith, top, most))
 
   pub means_found-is : (h : ℕ) → 0 < h → h ≤ m.highest
-      → Gives k (found_in k space (root_number (seen k all space)) h)
+      → Gives k all space (found_in k space (root_number (seen k all space)) h)
       (record { number = leaf_number (seen k all space) (leaf_index h); entry = if page_at (seen k all space) h == 0 then Free (place_at (seen k all space) h) else Taken (record { layer = page_at (seen k all space) h / 256; page = page_at (seen k all space) h % 256; at = place_at (seen k all space) h }) })
       (IsTrue (is_there k (page_in space (leaf_number (seen k all space) (leaf_index h)))))
   means_found-is h positive inside =
@@ -179,16 +161,16 @@ module _ (k : Known) (all : PageId → Option (List ℕ)) (space : Space) (m : N
       (entry_sound (map.get m.taken h) (is_listed m.free h) (page_at (seen k all space) h) (place_at (seen k all space) h) (means.entry h positive inside))
 
   -- the address that the pages mean is found, or a page is needed
-  pub address-is : (h : ℕ) → GivesOrNeeds k (address_in k space h) (map.get m.taken h)
+  pub address-is : (h : ℕ) → GivesOrNeeds k all space (address_in k space h) (map.get m.taken h)
   address-is h = ⊎_elim (λ is. inl is.0) (λ need. inr need)
-      (gives_then k (numbers_in k space) (λ (numbers : Numbers). if h == 0 || nat_lt numbers.highest h then Ok None else and_then (found_in k space numbers.root h) (λ leaf. Ok (address_of leaf.entry)))
+      (gives_then k all space (numbers_in k space) (λ (numbers : Numbers). if h == 0 || nat_lt numbers.highest h then Ok None else and_then (found_in k space numbers.root h) (λ leaf. Ok (address_of leaf.entry)))
       (record { root = root_number (seen k all space); first_free = first_free (bytes (seen k all space) 0); highest = highest (bytes (seen k all space) 0) }) (map.get m.taken h) means_numbers-is (λ _. at))
     where
-      at : Gives k (if h == 0 || nat_lt (highest (bytes (seen k all space) 0)) h then Ok None else and_then (found_in k space (root_number (seen k all space)) h) (λ leaf. Ok (address_of leaf.entry))) (map.get m.taken h) (Unit {0})
+      at : Gives k all space (if h == 0 || nat_lt (highest (bytes (seen k all space) 0)) h then Ok None else and_then (found_in k space (root_number (seen k all space)) h) (λ leaf. Ok (address_of leaf.entry))) (map.get m.taken h) (Unit {0})
       at = out_or_in h (highest (bytes (seen k all space) 0))
-          (λ out is. subst (λ b. Gives k (if b then Ok None else and_then (found_in k space (root_number (seen k all space)) h) (λ leaf. Ok (address_of leaf.entry))) (map.get m.taken h) (Unit {0})) (sym is)
+          (λ out is. subst (λ b. Gives k all space (if b then Ok None else and_then (found_in k space (root_number (seen k all space)) h) (λ leaf. Ok (address_of leaf.entry))) (map.get m.taken h) (Unit {0})) (sym is)
           (inl (ap Ok (sym (means.outside h (⊎_elim (λ none. inl none) (λ past. let same = means.highest in inr (omega (arith, same, past))) out)).0), tt)))
-          (λ positive inside is. subst (λ b. Gives k (if b then Ok None else and_then (found_in k space (root_number (seen k all space)) h) (λ leaf. Ok (address_of leaf.entry))) (map.get m.taken h) (Unit {0})) (sym is)
+          (λ positive inside is. subst (λ b. Gives k all space (if b then Ok None else and_then (found_in k space (root_number (seen k all space)) h) (λ leaf. Ok (address_of leaf.entry))) (map.get m.taken h) (Unit {0})) (sym is)
           (let below : h ≤ m.highest = let same = means.highest in omega (arith, same, inside) in
-          gives_then k (found_in k space (root_number (seen k all space)) h) (λ (leaf : Leaf). Ok (address_of leaf.entry)) _ (map.get m.taken h) (means_found-is h positive below)
+          gives_then k all space (found_in k space (root_number (seen k all space)) h) (λ (leaf : Leaf). Ok (address_of leaf.entry)) _ (map.get m.taken h) (means_found-is h positive below)
           (λ there. inl (ap Ok (entry_address (map.get m.taken h) (is_listed m.free h) (page_at (seen k all space) h) (place_at (seen k all space) h) (means.entry h positive below)), tt))))

@@ -23,28 +23,31 @@ use Rattle.indirection.specs.Reading.{linked}
 use Rattle.indirection.specs.Finding.{numbers_in, directory_in, leaf_in, found_in}
 use Rattle.indirection.specs.Writing.{with_number, with_entry_in}
 use Rattle.indirection.specs.Adding.{free_behind, reused_in, placed_in, grown_in, last_leaf, appended_in, added_in}
-use Rattle.page_bytes.specs.Answers.{Answers, IsStop}
+use Rattle.page_bytes.specs.Answers.{Answers, IsStop, IsNeed, IsSpent}
 use Rattle.page_bytes.specs.Seen.{seen, bytes}
-use Rattle.indirection.specs.Meaning.{root_number, directory_number, leaf_number, page_at, place_at, leaf_count, directory_count, NodeNumbers, is_listed, EntryMeans, IsFreeList, MeansNumbers, next_number, highest_given, free_left, with_number_given, IsNotGiven}
+use Rattle.indirection.specs.Meaning.{root_number, directory_number, leaf_number, page_at, place_at, leaf_count, directory_count, NodeNumbers, is_listed, EntryMeans, IsFreeList, MeansNumbers, next_number, highest_given, free_left, with_number_given, MOST_PAGES, IsNotGiven}
+use Rattle.page_bytes.proofs.Askings.{Gives, gives_then}
 use Rattle.page_bytes.proofs.PageWrites.{there_with_page}
 use Rattle.indirection.proofs.Meanings.{page_at-written, place_at-written, page_at-kept, place_at-kept, IsFreeList-kept, means_after}
 use Rattle.indirection.proofs.Writings.{entered_table, entered_stays, entered_writes, entered_head, headed_table, headed_field, headed_written, headed_page, headed_place}
-use Rattle.indirection.proofs.Findings.{Gives, gives_then, directory_in-is, leaf_in-is, leaf-is, means_numbers-is, means_found-is}
+use Rattle.indirection.proofs.Findings.{directory_in-is, leaf_in-is, leaf-is, means_numbers-is, means_found-is}
 use Rattle.indirection.proofs.Changing.{get-with_same, get-with_other, means_address, in_range, entry_written, written_table, written_head, written_page, written_place, written_page_kept, written_place_kept, listed_other}
 use Rattle.indirection.proofs.Ending.{free_small, refused_or_needs, then_refused}
 use Rattle.indirection.proofs.Children.{Stands, one_root}
 use Rattle.indirection.proofs.Reaching.{Reaches, reaches_then, gives_reaches, HasLeaf, grown-is}
 
 -- the end of a call that reaches a value
-pub reached : {X : Type 0} (k : Known) (s : Result (X × Work) PageEnd) (r : Result X PageEnd) (w' : Work) (Q : X × Work → Type 0) (R : PageEnd → Type 0)
-    → Reaches k s Q → Answers s r w' → MatchResult r (λ x. Q (x, w')) (λ e. IsStop k e ⊎ ((e ≡ Spent LAST_PAGE) ⊎ R e))
-reached k s (Ok y) w' Q R (inl given) answer =
+pub reached : {X : Type 0} (k : Known) (all : PageId → Option (List ℕ)) (space : Space) (most : ℕ) (s : Result (X × Work) PageEnd) (r : Result X PageEnd) (w' : Work) (Q : X × Work → Type 0) (R : PageEnd → Type 0)
+    → Reaches k all space most s Q → Answers s r w' → MatchResult r (λ x. Q (x, w')) (λ e. IsStop k all space e ⊎ (IsSpent (seen k all space) most e ⊎ R e))
+reached k all space most s (Ok y) w' Q R (inl given) answer =
     let is = subst (λ s. Answers s (Ok y) w') given.1 answer in subst Q (λ i. (sym is.0 i, sym is.1 i)) given.2
-reached k s (Err e) w' Q R (inl given) answer = inl (inl (subst (λ s. Answers s (Err e) w') given.1 answer))
-reached k s (Ok y) w' Q R (inr (inl need)) answer = absurd (subst (λ s. Answers s (Ok y) w') need.1 answer)
-reached k s (Err e) w' Q R (inr (inl need)) answer = ⊎_elim (λ is. inl (inr (need.0, is, need.2))) (λ is. inl (inl is)) (subst (λ s. Answers s (Err e) w') need.1 answer)
-reached k s (Ok y) w' Q R (inr (inr is)) answer = absurd (subst (λ s. Answers s (Ok y) w') is answer)
-reached k s (Err e) w' Q R (inr (inr is)) answer = ⊎_elim (λ same. inr (inl same)) (λ none. inl (inl none)) (subst (λ s. Answers s (Err e) w') is answer)
+reached k all space most s (Err e) w' Q R (inl given) answer = inl (inl (subst (λ s. Answers s (Err e) w') given.1 answer))
+reached k all space most s (Ok y) w' Q R (inr (inl need)) answer = absurd (subst (λ s. Answers s (Ok y) w') need.1.0 answer)
+reached k all space most s (Err e) w' Q R (inr (inl need)) answer =
+    ⊎_elim (λ is. inl (inr (subst (IsNeed k all space) (sym is) need.1.1))) (λ is. inl (inl is)) (subst (λ s. Answers s (Err e) w') need.1.0 answer)
+reached k all space most s (Ok y) w' Q R (inr (inr is)) answer = absurd (subst (λ s. Answers s (Ok y) w') is.0 answer)
+reached k all space most s (Err e) w' Q R (inr (inr is)) answer =
+    ⊎_elim (λ same. inr (inl (same, is.1))) (λ none. inl (inl none)) (subst (λ s. Answers s (Err e) w') is.0 answer)
 
 module _ (w : Work) (all : PageId → Option (List ℕ)) (space : Space) (m : NodeNumbers) (means : MeansNumbers (seen w.now all space) m)
     (to : Addr) (page_small : to.page < 256) (at_small : to.at < 65536) (layer_small : to.layer < 2 ^ 56) (some : 0 < page_number to) where
@@ -164,8 +167,8 @@ module _ (w : Work) (all : PageId → Option (List ℕ)) (space : Space) (m : No
   abbrev heading : ℕ → Numbers
   heading first = record { root = root_number (seen w.now all space); first_free = first; highest = m.highest }
 
-  heading-is : (first : ℕ) → first_free (bytes (seen w.now all space) 0) ≡ first → Gives w.now (numbers_in w.now space) (record { root = root_number (seen w.now all space); first_free = first; highest = m.highest }) (IsTrue (is_there w.now (page_in space 0)))
-  heading-is first is = subst (λ (n : Numbers). Gives w.now (numbers_in w.now space) n (IsTrue (is_there w.now (page_in space 0)))) (λ i. record { root = root_number (seen w.now all space); first_free = is i; highest = means.highest i }) (means_numbers-is w.now all space m means)
+  heading-is : (first : ℕ) → first_free (bytes (seen w.now all space) 0) ≡ first → Gives w.now all space (numbers_in w.now space) (record { root = root_number (seen w.now all space); first_free = first; highest = m.highest }) (IsTrue (is_there w.now (page_in space 0)))
+  heading-is first is = subst (λ (n : Numbers). Gives w.now all space (numbers_in w.now space) n (IsTrue (is_there w.now (page_in space 0)))) (λ i. record { root = root_number (seen w.now all space); first_free = is i; highest = means.highest i }) (means_numbers-is w.now all space m means)
 
   -- a number was given
   abbrev pub Given : NodeNo × Work → Type 0
@@ -180,7 +183,7 @@ module _ (w : Work) (all : PageId → Option (List ℕ)) (space : Space) (m : No
       ap (λ b. free_behind space m.highest leaf (if b then Free place else Taken (record { layer = page / 256; page = page % 256; at = place }))) (eq-eqb page 0 none)
       ∙ ap (λ b. if b then Err (Damaged (page_in space leaf)) else Ok place) (le-ltb m.highest place low)
 
-  reused-is : (h : ℕ) (hs : List ℕ) → m.free ≡ h ∷ hs → IsTrue (is_there w.now (page_in space 0)) → Reaches w.now (reused_in w space (record { root = root_number (seen w.now all space); first_free = h; highest = m.highest }) to) Given
+  reused-is : (h : ℕ) (hs : List ℕ) → m.free ≡ h ∷ hs → IsTrue (is_there w.now (page_in space 0)) → Reaches w.now all space MOST_PAGES (reused_in w space (record { root = root_number (seen w.now all space); first_free = h; highest = m.highest }) to) Given
   reused-is h hs split head_there =
       let list = free_is h hs split in let first : first_free (bytes (seen w.now all space) 0) ≡ h = list.0 in
       let inside : h ≤ m.highest = let low = free_small w all space m means h m.free (first_free (bytes (seen w.now all space) 0)) (λ x listed. listed) means.free in omega (arith, low, first) in
@@ -190,12 +193,12 @@ module _ (w : Work) (all : PageId → Option (List ℕ)) (space : Space) (m : No
       let low_next : next ≤ m.highest = free_small w all space m means h hs next (part h hs split) list.2 in
       let free = free_entry (map.get m.taken h) (is_listed m.free h) (page_at (seen w.now all space) h) next (means.entry h positive inside) (listed_first h hs split) in
       let entry = if page_at (seen w.now all space) h == 0 then Free next else Taken (record { layer = page_at (seen w.now all space) h / 256; page = page_at (seen w.now all space) h % 256; at = next }) in
-      subst (λ b. Reaches w.now (if b then Err (Damaged (head_of space)) else and_then (found_in w.now space (root_number (seen w.now all space)) h) (λ (leaf : Leaf). and_then (free_behind space m.highest leaf.number leaf.entry)
+      subst (λ b. Reaches w.now all space MOST_PAGES (if b then Err (Damaged (head_of space)) else and_then (found_in w.now space (root_number (seen w.now all space)) h) (λ (leaf : Leaf). and_then (free_behind space m.highest leaf.number leaf.entry)
       (λ next. Ok (record { 0 = h }, with_number 4 (with_entry_in w space leaf.number (entry_index h) (page_number to) to.at) space 0 34 next)))) Given) (sym (le-ltb m.highest h inside))
-      (gives_reaches w.now (found_in w.now space (root_number (seen w.now all space)) h) (λ (leaf : Leaf). and_then (free_behind space m.highest leaf.number leaf.entry)
+      (gives_reaches w.now all space MOST_PAGES (found_in w.now space (root_number (seen w.now all space)) h) (λ (leaf : Leaf). and_then (free_behind space m.highest leaf.number leaf.entry)
       (λ next. Ok (record { 0 = h }, with_number 4 (with_entry_in w space leaf.number (entry_index h) (page_number to) to.at) space 0 34 next)))
       _ Given (means_found-is w.now all space m means h positive inside) (λ there.
-      subst (λ r. Reaches w.now (and_then r (λ next. Ok (record { 0 = h }, with_number 4 (with_entry_in w space (leaf_number (seen w.now all space) (leaf_index h)) (entry_index h) (page_number to) to.at) space 0 34 next))) Given)
+      subst (λ r. Reaches w.now all space MOST_PAGES (and_then r (λ next. Ok (record { 0 = h }, with_number 4 (with_entry_in w space (leaf_number (seen w.now all space) (leaf_index h)) (entry_index h) (page_number to) to.at) space 0 34 next))) Given)
       (sym (behind (leaf_number (seen w.now all space) (leaf_index h)) (page_at (seen w.now all space) h) next free low_next))
       (inl (
         _,
@@ -223,7 +226,7 @@ module _ (w : Work) (all : PageId → Option (List ℕ)) (space : Space) (m : No
     placed = λ l below. omega (arith, below);
   }
 
-  last-is : (first : ℕ) → IsTrue (is_there w.now (page_in space 0)) → m.highest < MOST_NUMBERS → Reaches w.now (last_leaf w space (record { root = root_number (seen w.now all space); first_free = first; highest = m.highest })) HasLast
+  last-is : (first : ℕ) → IsTrue (is_there w.now (page_in space 0)) → m.highest < MOST_NUMBERS → Reaches w.now all space MOST_PAGES (last_leaf w space (record { root = root_number (seen w.now all space); first_free = first; highest = m.highest })) HasLast
   last-is first there room = at (m.highest % 340 == 0) refl
     where
       whole : m.highest % 340 ≡ 0 → (p : ℕ × Work) → HasLeaf all space (seen w.now all space) (leaf_count m.highest) (m.highest / 340) p → HasLast p
@@ -243,12 +246,12 @@ module _ (w : Work) (all : PageId → Option (List ℕ)) (space : Space) (m : No
             has.2,
           )
 
-      at : (b : Bool) → (m.highest % 340 == 0) ≡ b → Reaches w.now (if b then grown_in w space (root_number (seen w.now all space)) (m.highest / 340) else and_then (placed_in w.now space (root_number (seen w.now all space)) (m.highest / 340)) (λ number. Ok (number, w))) HasLast
+      at : (b : Bool) → (m.highest % 340 == 0) ≡ b → Reaches w.now all space MOST_PAGES (if b then grown_in w space (root_number (seen w.now all space)) (m.highest / 340) else and_then (placed_in w.now space (root_number (seen w.now all space)) (m.highest / 340)) (λ number. Ok (number, w))) HasLast
       at true is =
           let none = eqb-true (m.highest % 340) 0 is in let count : leaf_count m.highest ≡ m.highest / 340 = omega (arith, none) in
           weaker (grown-is all space (seen w.now all space) (leaf_count m.highest) w (m.highest / 340) (subst (λ c. Stands all space (seen w.now all space) (leaf_count m.highest) w (directory_count c) (directory_count c) c) count (begins there)) (omega (arith, room)))
         where
-          weaker : Reaches w.now (grown_in w space (root_number (seen w.now all space)) (m.highest / 340)) (HasLeaf all space (seen w.now all space) (leaf_count m.highest) (m.highest / 340)) → Reaches w.now (grown_in w space (root_number (seen w.now all space)) (m.highest / 340)) HasLast
+          weaker : Reaches w.now all space MOST_PAGES (grown_in w space (root_number (seen w.now all space)) (m.highest / 340)) (HasLeaf all space (seen w.now all space) (leaf_count m.highest) (m.highest / 340)) → Reaches w.now all space MOST_PAGES (grown_in w space (root_number (seen w.now all space)) (m.highest / 340)) HasLast
           weaker (inl given) = inl (given.0, given.1, whole (eqb-true (m.highest % 340) 0 is) given.0 given.2)
           weaker (inr stop) = inr stop
       at false is =
@@ -256,12 +259,12 @@ module _ (w : Work) (all : PageId → Option (List ℕ)) (space : Space) (m : No
           let l = m.highest / 340 in let leaves = leaf_count m.highest in let directories = directory_count leaves in
           let rooted : 0 < directories = omega (arith, some_left) in let above : l / 511 < directories = omega (arith, some_left) in let below : l < leaves = omega (arith, some_left) in
           let p = seen w.now all space in
-          gives_reaches w.now (placed_in w.now space (root_number p) l) (λ number. Ok (number, w)) (leaf_number p l) HasLast
-          (gives_then w.now (directory_in w.now space (root_number p) l) (λ directory. and_then (leaf_in w.now space (root_number p) directory l) (λ number. and_then (linked w.now space LEAF_KIND directory number) (λ bytes. Ok number)))
+          gives_reaches w.now all space MOST_PAGES (placed_in w.now space (root_number p) l) (λ number. Ok (number, w)) (leaf_number p l) HasLast
+          (gives_then w.now all space (directory_in w.now space (root_number p) l) (λ directory. and_then (leaf_in w.now space (root_number p) directory l) (λ number. and_then (linked w.now space LEAF_KIND directory number) (λ bytes. Ok number)))
           (directory_number p (l / 511)) (leaf_number p l) (directory_in-is w.now all space directories directories leaves means.table rooted l above) (λ _.
-          gives_then w.now (leaf_in w.now space (root_number p) (directory_number p (l / 511)) l) (λ number. and_then (linked w.now space LEAF_KIND (directory_number p (l / 511)) number) (λ bytes. Ok number))
+          gives_then w.now all space (leaf_in w.now space (root_number p) (directory_number p (l / 511)) l) (λ number. and_then (linked w.now space LEAF_KIND (directory_number p (l / 511)) number) (λ bytes. Ok number))
           (leaf_number p l) (leaf_number p l) (leaf_in-is w.now all space directories directories leaves means.table rooted l above) (λ _.
-          gives_then w.now (linked w.now space LEAF_KIND (directory_number p (l / 511)) (leaf_number p l)) (λ bytes. Ok (leaf_number p l)) _ (leaf_number p l)
+          gives_then w.now all space (linked w.now space LEAF_KIND (directory_number p (l / 511)) (leaf_number p l)) (λ bytes. Ok (leaf_number p l)) _ (leaf_number p l)
           (leaf-is w.now all space directories directories leaves means.table rooted (directory_number p (l / 511)) l below) (λ leaf_there. inl (refl, leaf_there)))))
           (λ leaf_there.
           let count : leaf_count m.highest ≡ leaf_count (m.highest + 1) = omega (arith, some_left) in let index : m.highest / 340 ≡ leaf_index (m.highest + 1) = omega arith in
@@ -275,11 +278,11 @@ module _ (w : Work) (all : PageId → Option (List ℕ)) (space : Space) (m : No
             ),
           ))
 
-  appended-is : m.free ≡ [] → m.highest < MOST_NUMBERS → (first : ℕ) → IsTrue (is_there w.now (page_in space 0)) → Reaches w.now (appended_in w space (record { root = root_number (seen w.now all space); first_free = first; highest = m.highest }) to) Given
+  appended-is : m.free ≡ [] → m.highest < MOST_NUMBERS → (first : ℕ) → IsTrue (is_there w.now (page_in space 0)) → Reaches w.now all space MOST_PAGES (appended_in w space (record { root = root_number (seen w.now all space); first_free = first; highest = m.highest }) to) Given
   appended-is none room first head_there =
-      subst (λ b. Reaches w.now (if b then Err (Damaged (head_of space)) else and_then (last_leaf w space (record { root = root_number (seen w.now all space); first_free = first; highest = m.highest }))
+      subst (λ b. Reaches w.now all space MOST_PAGES (if b then Err (Damaged (head_of space)) else and_then (last_leaf w space (record { root = root_number (seen w.now all space); first_free = first; highest = m.highest }))
       (λ (last : ℕ × Work). Ok (record { 0 = m.highest + 1 }, with_number 4 (with_entry_in last.1 space last.0 (m.highest % 340) (page_number to) to.at) space 0 38 (m.highest + 1)))) Given) (sym (not_most m.highest room))
-      (reaches_then w.now (last_leaf w space (record { root = root_number (seen w.now all space); first_free = first; highest = m.highest }))
+      (reaches_then w.now all space MOST_PAGES (last_leaf w space (record { root = root_number (seen w.now all space); first_free = first; highest = m.highest }))
       (λ (last : ℕ × Work). Ok (record { 0 = m.highest + 1 }, with_number 4 (with_entry_in last.1 space last.0 (m.highest % 340) (page_number to) to.at) space 0 38 (m.highest + 1))) HasLast Given (last-is first head_there room) (λ last has.
       let index : entry_index (m.highest + 1) ≡ m.highest % 340 = omega arith in
       inl (
@@ -302,20 +305,20 @@ module _ (w : Work) (all : PageId → Option (List ℕ)) (space : Space) (m : No
 
   -- what the call `add` does to the numbers
   pub add_means : (r : Result NodeNo PageEnd) (w' : Work) → Answers (added_in w space to) r w'
-      → MatchResult r (λ number. (number.0 ≡ next_number m.highest m.free) × MeansNumbers (seen w'.now all space) (with_number_given m to)) (λ end. IsNotGiven w.now space m end)
+      → MatchResult r (λ number. (number.0 ≡ next_number m.highest m.free) × MeansNumbers (seen w'.now all space) (with_number_given m to)) (λ end. IsNotGiven w.now all space m end)
   add_means r w' answer = at m.free refl (m.highest == MOST_NUMBERS) refl
     where
       begun_with : (first : ℕ) → first_free (bytes (seen w.now all space) 0) ≡ first
-          → (IsTrue (is_there w.now (page_in space 0)) → Reaches w.now (if first == 0 then appended_in w space (heading first) to else reused_in w space (heading first) to) Given)
-          → MatchResult r (λ number. Given (number, w')) (λ end. IsNotGiven w.now space m end)
-      begun_with first is more = reached w.now (added_in w space to) r w' Given full
-          (gives_reaches w.now (numbers_in w.now space) (λ (n : Numbers). if n.first_free == 0 then appended_in w space n to else reused_in w space n to) (heading first) Given (heading-is first is) more) answer
+          → (IsTrue (is_there w.now (page_in space 0)) → Reaches w.now all space MOST_PAGES (if first == 0 then appended_in w space (heading first) to else reused_in w space (heading first) to) Given)
+          → MatchResult r (λ number. Given (number, w')) (λ end. IsNotGiven w.now all space m end)
+      begun_with first is more = reached w.now all space MOST_PAGES (added_in w space to) r w' Given full
+          (gives_reaches w.now all space MOST_PAGES (numbers_in w.now space) (λ (n : Numbers). if n.first_free == 0 then appended_in w space n to else reused_in w space n to) (heading first) Given (heading-is first is) more) answer
 
-      at : (l : List ℕ) → m.free ≡ l → (b : Bool) → (m.highest == MOST_NUMBERS) ≡ b → MatchResult r (λ number. Given (number, w')) (λ end. IsNotGiven w.now space m end)
+      at : (l : List ℕ) → m.free ≡ l → (b : Bool) → (m.highest == MOST_NUMBERS) ≡ b → MatchResult r (λ number. Given (number, w')) (λ end. IsNotGiven w.now all space m end)
       at [] none true most =
           let first : first_free (bytes (seen w.now all space) 0) ≡ 0 = subst (IsFreeList (seen w.now all space) (first_free (bytes (seen w.now all space) 0))) none means.free in
-          refused_or_needs w.now (added_in w space to) (Damaged (head_of space)) r w' (λ number v. Given (number, v)) (λ end. (end ≡ Spent LAST_PAGE) ⊎ full end)
-          (then_refused w.now (numbers_in w.now space) (λ (n : Numbers). if n.first_free == 0 then appended_in w space n to else reused_in w space n to) (heading 0) (Damaged (head_of space)) (heading-is 0 first)
+          refused_or_needs w.now all space (added_in w space to) (Damaged (head_of space)) r w' (λ number v. Given (number, v)) (λ end. IsSpent (seen w.now all space) MOST_PAGES end ⊎ full end)
+          (then_refused w.now all space (numbers_in w.now space) (λ (n : Numbers). if n.first_free == 0 then appended_in w space n to else reused_in w space n to) (heading 0) (Damaged (head_of space)) (heading-is 0 first)
           (λ there. inl (ap (λ b. if b then Err (Damaged (head_of space)) else and_then (last_leaf w space (heading 0))
           (λ (last : ℕ × Work). Ok (record { 0 = m.highest + 1 }, with_number 4 (with_entry_in last.1 space last.0 (m.highest % 340) (page_number to) to.at) space 0 38 (m.highest + 1)))) most)))
           answer (inr (eqb-true m.highest MOST_NUMBERS most, none, refl))
@@ -326,7 +329,7 @@ module _ (w : Work) (all : PageId → Option (List ℕ)) (space : Space) (m : No
       at (h ∷ hs) split b most =
           let list = free_is h hs split in
           let past : h ≢ 0 = λ zero_is. true≢false (sym (listed_first h hs split) ∙ (means.outside h (inl zero_is)).1) in
-          begun_with h list.0 (λ there. subst (λ b. Reaches w.now (if b then appended_in w space (heading h) to else reused_in w space (heading h) to) Given) (sym (not_zero h past)) (reused-is h hs split there))
+          begun_with h list.0 (λ there. subst (λ b. Reaches w.now all space MOST_PAGES (if b then appended_in w space (heading h) to else reused_in w space (heading h) to) Given) (sym (not_zero h past)) (reused-is h hs split there))
         where
           not_zero : (h : ℕ) → h ≢ 0 → (h == 0) ≡ false
           not_zero h past = grind (arith, nat_tests)

@@ -12,3 +12,4 @@ pub mod Children
 pub mod Reaching
 pub mod Giving
 pub mod OwnPages
+pub mod Frames

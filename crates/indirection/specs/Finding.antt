@@ -11,7 +11,7 @@ use Rattle.indirection.specs.declared.forms.Entry.{Entry}
 use Rattle.indirection.specs.declared.forms.Entry.TheVariants.{Taken, Free}
 use Rattle.indirection.specs.Forms.{LEAF_KIND, DIRECTORY_KIND, leaf_index, entry_index, root, first_free, highest, link, entry_page, entry_place}
 use Rattle.page_bytes.specs.Links.{and_then, page_in}
-use Rattle.indirection.specs.Reading.{head_in, linked}
+use Rattle.indirection.specs.Reading.{numbers_head, linked}
 
 -- the number of the directory page of a leaf, by the root
 abbrev pub directory_in : Known → Space → ℕ → ℕ → Result ℕ PageEnd
@@ -44,7 +44,7 @@ address_of (Free next) = None
 
 -- what the head says of node numbers
 abbrev pub numbers_in : Known → Space → Result Numbers PageEnd
-numbers_in k space = and_then (head_in k space) (λ head. Ok (record { root = root head; first_free = first_free head; highest = highest head }))
+numbers_in k space = and_then (numbers_head k space) (λ head. Ok (record { root = root head; first_free = first_free head; highest = highest head }))
 
 -- the address of a number, if the number is there
 abbrev pub address_in : Known → Space → ℕ → Result (Option Addr) PageEnd

@@ -1,33 +1,20 @@
--- What the parts of a call tell each other: that the head and pages of node numbers are there with all their bytes, and that
--- they kept to node numbers' own.
-use Rattle.std.specs.Prelude.{◌≡◌, ℕ, ◌<◌, ◌≤◌, ◌⊎◌, IsTrue, List, length, slice_index, Option, is_some, true}
+-- What the parts of a call tell each other: what pages of node numbers are, and that node numbers' own was kept to.
+use Rattle.std.specs.Prelude.{◌≡◌, ℕ, ◌≤◌, ◌⊎◌}
 use Rattle.page_bytes.specs.declared.ids.Space.{Space}
-use Rattle.page_bytes.specs.declared.ids.PageId.{PageId}
-use Rattle.page_bytes.specs.Known.{Known, is_there}
-use Rattle.page_bytes.specs.Links.{page_in}
-use Rattle.page_bytes.specs.Own.{KeepsToOwn}
-use Rattle.page_bytes.specs.Seen.{seen}
-use Rattle.page_bytes.specs.Work.{Work, first_bytes}
-use Rattle.indirection.specs.Owned.{is_number_kind, number_pages}
+use Rattle.page_bytes.specs.Kept as kept
+use Rattle.page_bytes.specs.Kept.{IsWholePage}
+use Rattle.page_bytes.specs.Known.{Known}
+use Rattle.page_bytes.specs.Work.{Work}
+use Rattle.indirection.specs.Owned.{number_pages}
 
--- The head is there with its 4,096 bytes.
-pub record IsWholeHead (k : Known) (space : Space) : Type 0 where
-  pub there : IsTrue (is_there k (page_in space 0))
-  pub long : length (first_bytes k (page_in space 0)) ≡ 4096
-
--- A page of node numbers is there with its 4,096 bytes. It isn't the head.
-pub record IsNumberPage (k : Known) (space : Space) (n : ℕ) : Type 0 where
-  pub beside : 0 < n
-  pub there : IsTrue (is_there k (page_in space n))
-  pub long : length (first_bytes k (page_in space n)) ≡ 4096
-  pub kind : IsTrue (is_number_kind (slice_index (first_bytes k (page_in space n)) 0))
+-- a page of node numbers is there with its 4,096 bytes. It isn't the head
+abbrev pub IsNumberPage : Known → Space → ℕ → Type 0
+IsNumberPage k space n = IsWholePage number_pages k space n
 
 -- a link to a new page may be written there: the head's to the root, or one of a page of node numbers, behind its kind
 abbrev pub TakesLink : Known → Space → ℕ → ℕ → Type 0
 TakesLink k space parent at = ((parent ≡ 0) × (at ≡ 18)) ⊎ (IsNumberPage k space parent × (1 ≤ at))
 
--- Node numbers' own was kept to, with `most` new pages at most; all pages that were there are; and the head is whole.
-pub record HasKept (most : ℕ) (w new : Work) (space : Space) : Type 0 where
-  pub own : (all : PageId → Option (List ℕ)) → KeepsToOwn number_pages most w new all space
-  pub stays : (all : PageId → Option (List ℕ)) (n : ℕ) → is_some (seen w.now all space n) ≡ true → is_some (seen new.now all space n) ≡ true
-  pub head : IsWholeHead new.now space
+-- node numbers' own was kept to, with `most` new pages at most
+abbrev pub HasKept : ℕ → Work → Work → Space → Type 0
+HasKept most w new space = kept.HasKept number_pages most w new space

@@ -6,3 +6,4 @@ pub mod Adding
 pub mod Meaning
 pub mod Owned
 pub mod Inside
+pub mod Sparing

@@ -4,14 +4,15 @@ use Rattle.std.specs.Prelude.{◌≡◌, ◌≢◌, ℕ, ◌+◌, ◌/◌, ◌%�
 use Rattle.std.specs.Ordering.{nat_cmp}
 use Rattle.std.specs.FinMap as map
 use Rattle.page_bytes.specs.declared.ids.Space.{Space}
+use Rattle.page_bytes.specs.declared.ids.PageId.{PageId}
 use Rattle.page_bytes.specs.declared.ids.Addr.{Addr}
 use Rattle.page_bytes.specs.declared.end.PageEnd.{PageEnd}
-use Rattle.page_bytes.specs.declared.end.PageEnd.TheVariants.{Damaged, Spent}
+use Rattle.page_bytes.specs.declared.end.PageEnd.TheVariants.{Damaged}
 use Rattle.page_bytes.specs.Head.{head_of, next_page, LAST_PAGE}
 use Rattle.page_bytes.specs.Known.{Known}
 use Rattle.indirection.specs.Forms.{MOST_NUMBERS, LEAF_KIND, DIRECTORY_KIND, leaf_index, entry_index, root, first_free, highest, link, entry_page, entry_place}
-use Rattle.page_bytes.specs.Answers.{IsStop}
-use Rattle.page_bytes.specs.Seen.{bytes}
+use Rattle.page_bytes.specs.Answers.{IsStop, IsSpent}
+use Rattle.page_bytes.specs.Seen.{seen, bytes}
 
 -- a page of 4,096 bytes, of a kind
 abbrev pub IsPage : (ℕ → Option (List ℕ)) → ℕ → ℕ → Type 0
@@ -118,11 +119,16 @@ with_number_given numbers to = record {
 
 -- why a call on a number may stop: a need of a page of which nothing is known, want of memory, or that the number isn't
 -- there, which damages the head
-abbrev pub IsRefused : Known → Space → Option Addr → PageEnd → Type 0
-IsRefused k space there end = IsStop k end ⊎ ((there ≡ None) × (end ≡ Damaged (head_of space)))
+abbrev pub IsRefused : Known → (PageId → Option (List ℕ)) → Space → Option Addr → PageEnd → Type 0
+IsRefused k all space there end = IsStop k all space end ⊎ ((there ≡ None) × (end ≡ Damaged (head_of space)))
 
--- why no number is given: a need, want of memory, the end of the page numbers, or that there are as many numbers as there
+-- how many pages a number takes at most: a leaf, a directory page and the root
+abbrev pub MOST_PAGES : ℕ
+MOST_PAGES = 3
+
+-- why no number is given: a need, want of memory, that the page numbers are spent, or that there are as many numbers as there
 -- can be, which damages the head
-abbrev pub IsNotGiven : Known → Space → NodeNumbers → PageEnd → Type 0
-IsNotGiven k space numbers end =
-    IsStop k end ⊎ ((end ≡ Spent LAST_PAGE) ⊎ ((numbers.highest ≡ MOST_NUMBERS) × (numbers.free ≡ []) × (end ≡ Damaged (head_of space))))
+abbrev pub IsNotGiven : Known → (PageId → Option (List ℕ)) → Space → NodeNumbers → PageEnd → Type 0
+IsNotGiven k all space numbers end =
+    IsStop k all space end
+    ⊎ (IsSpent (seen k all space) MOST_PAGES end ⊎ ((numbers.highest ≡ MOST_NUMBERS) × (numbers.free ≡ []) × (end ≡ Damaged (head_of space))))

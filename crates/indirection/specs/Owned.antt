@@ -11,5 +11,5 @@ is_number_kind kind = kind == LEAF_KIND || kind == DIRECTORY_KIND
 abbrev pub number_pages : Own
 number_pages = record {
   is_kind = is_number_kind;
-  fields = record { at = 18; width = 8 } ∷ record { at = 34; width = 4 } ∷ record { at = 38; width = 4 } ∷ [];
+  fields = record { page = 0; at = 18; width = 8 } ∷ record { page = 0; at = 34; width = 4 } ∷ record { page = 0; at = 38; width = 4 } ∷ [];
 }

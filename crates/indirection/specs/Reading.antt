@@ -1,19 +1,16 @@
 -- How a call asks for pages, and what it answers where it cannot have one.
-use Rattle.std.specs.Prelude.{ℕ, Bool, ◌&&◌, ◌==◌, nat_le, List, Result, Err, slice_index, if◌then◌else◌}
+use Rattle.std.specs.Prelude.{ℕ, ◌==◌, nat_le, List, Result, Err, slice_index, if◌then◌else◌}
 use Rattle.page_bytes.specs.declared.ids.Space.{Space}
 use Rattle.page_bytes.specs.declared.end.PageEnd.{PageEnd}
 use Rattle.page_bytes.specs.declared.end.PageEnd.TheVariants.{Damaged}
 use Rattle.page_bytes.specs.Known.{Known}
-use Rattle.page_bytes.specs.Head.{head_of, is_head}
+use Rattle.page_bytes.specs.Head.{head_of, head_in}
 use Rattle.indirection.specs.Forms.{MOST_NUMBERS, highest}
 use Rattle.page_bytes.specs.Links.{page_in, and_then, asked, tested}
 
--- whether a page passes the test of a head: its kind, a next page number, and no more numbers than there can be
-abbrev pub is_number_head : List ℕ → Bool
-is_number_head head = is_head head && nat_le (highest head) MOST_NUMBERS
-
-abbrev pub head_in : Known → Space → Result (List ℕ) PageEnd
-head_in k space = and_then (asked k (head_of space) (head_of space)) (λ head. tested (head_of space) (is_number_head head) head)
+-- the head's bytes, once it has passed its test and has no more numbers than there can be
+abbrev pub numbers_head : Known → Space → Result (List ℕ) PageEnd
+numbers_head k space = and_then (head_in k space) (λ head. tested (head_of space) (nat_le (highest head) MOST_NUMBERS) head)
 
 -- the page of a kind to which the page `from` has a link, which is 0 where it leads nowhere
 abbrev pub linked : Known → Space → ℕ → ℕ → ℕ → Result (List ℕ) PageEnd

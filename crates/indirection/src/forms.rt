@@ -4,9 +4,6 @@ ghost use Rattle.indirection.specs.Forms as form;
 
 use page_bytes::Addr;
 
-/// The kind of a head.
-pub const HEAD_KIND: u8 = 2;
-
 /// The kind of the root and of directory pages.
 pub const DIRECTORY_KIND: u8 = 7;
 
@@ -20,9 +17,7 @@ pub const ENTRIES: u32 = 340;
 pub const LINKS: u32 = 511;
 
 /// How many node numbers a document has at most.
-pub const MOST_NUMBERS: u32 = 88781140;
-
-pub const NEXT_PAGE_AT: usize = 2;
+pub const MOST_NUMBERS: u32 = 88_781_140;
 
 pub const ROOT_AT: usize = 18;
 

@@ -2,7 +2,9 @@
 //! it needs them.
 ghost use Rattle.std.specs.Prelude.{◌≡◌, ◌<◌, ◌*◌, OnOk, IfOk};
 ghost use Rattle.indirection.specs.Adding.{root_for, directory_for, leaf_for, directed_in, grown_in, placed_in, last_leaf};
-ghost use Rattle.indirection.specs.Inside.{IsWholeHead, IsNumberPage, HasKept};
+ghost use Rattle.indirection.specs.Forms as form;
+ghost use Rattle.indirection.specs.Inside.{IsNumberPage, HasKept};
+ghost use Rattle.page_bytes.specs.Kept.{IsWholeHead};
 ghost use Rattle.page_bytes.specs.Answers.{Answers};
 
 use crate::forms::{DIRECTORY_KIND, ENTRIES, LEAF_KIND, LINKS, Numbers, ROOT_AT, link_at};
@@ -98,7 +100,7 @@ fn found_leaf(work: &Workspace, space: Space, root: u64, leaf: u32) -> Result<u6
 /// The leaf of the number after the highest: a new one where all entries of the last are numbers.
 pub fn leaf_of_next(work: &mut Workspace, space: Space, numbers: &Numbers) -> Result<u64, PageEnd>
     requires head { IsWholeHead work.old.now space }
-    requires highest { numbers.now.highest < 88781140 }
+    requires highest { numbers.now.highest < form.MOST_NUMBERS }
     ensures answer { Answers (last_leaf work.old space numbers.now) result work.new }
     ensures kept { OnOk result (HasKept 3 work.old work.new space) }
     ensures page { IfOk result (λ number. IsNumberPage work.new.now space number) }

@@ -10,11 +10,13 @@
 
 mod forms;
 mod growing;
+mod laws;
 mod map;
 mod numbers;
 mod reading;
 mod writing;
 
+pub use laws::frame_law;
 pub use map::{add, change, find, remove};
 
 #[cfg(test)]

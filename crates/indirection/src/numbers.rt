@@ -1,12 +1,14 @@
 //! What the calls on node numbers do, page by page.
 ghost use Rattle.std.specs.Prelude.{◌≡◌, ℕ, ◌<◌, ◌≤◌, List, Option, OnOk, IfOk};
 ghost use Rattle.page_bytes.specs.declared.ids.PageId.{PageId};
-ghost use Rattle.page_bytes.specs.PageNumber.{page_number};
+ghost use Rattle.page_bytes.specs.PageNumber.{page_number, LAST_LAYER};
 ghost use Rattle.page_bytes.specs.Own.{KeepsToOwn};
 ghost use Rattle.indirection.specs.Finding.{address_in};
 ghost use Rattle.indirection.specs.Adding.{taken_in, changed_in, removed_in, free_behind, reused_in, appended_in, added_in};
 ghost use Rattle.indirection.specs.Owned.{number_pages};
-ghost use Rattle.indirection.specs.Inside.{IsWholeHead, IsNumberPage};
+ghost use Rattle.indirection.specs.Forms as form;
+ghost use Rattle.indirection.specs.Inside.{IsNumberPage};
+ghost use Rattle.page_bytes.specs.Kept.{IsWholeHead};
 ghost use Rattle.page_bytes.specs.Answers.{Answers};
 
 use crate::forms::{ENTRIES, Entry, FIRST_FREE_AT, HIGHEST_AT, Leaf, MOST_NUMBERS, Numbers};
@@ -36,7 +38,7 @@ fn taken_leaf<P: Pages>(
     numbers: &Numbers,
     number: u32,
 ) -> Result<u64, PageEnd>
-    requires { numbers.now.highest ≤ 88781140 }
+    requires { numbers.now.highest ≤ form.MOST_NUMBERS }
     ensures taken { result ≡ taken_in (P.known pages.now) space numbers.now number }
     ensures page { IfOk result (λ leaf. IsNumberPage (P.known pages.now) space leaf) }
     ensures given { OnOk result (0 < number) }
@@ -54,7 +56,7 @@ fn taken_leaf<P: Pages>(
 
 /// Gives a number that is there another address.
 pub fn set_address(work: &mut Workspace, space: Space, no: NodeNo, to: Addr) -> Result<(), PageEnd>
-    requires layer { to.layer ≤ 72057594037927935 }
+    requires layer { to.layer ≤ LAST_LAYER }
     requires page { 0 < page_number to }
     ensures pages { Answers (changed_in work.old space no.0 to) result work.new }
     ensures own { OnOk result ((all : PageId → Option (List ℕ)) → KeepsToOwn number_pages 0 work.old work.new all space) }
@@ -102,9 +104,9 @@ fn free_number_behind(space: Space, highest: u32, leaf: &Leaf) -> Result<u32, Pa
 
 /// Gives the first free number again.
 fn reuse(work: &mut Workspace, space: Space, numbers: &Numbers, to: Addr) -> Result<NodeNo, PageEnd>
-    requires layer { to.layer ≤ 72057594037927935 }
+    requires layer { to.layer ≤ LAST_LAYER }
     requires free { 0 < numbers.now.first_free }
-    requires highest { numbers.now.highest ≤ 88781140 }
+    requires highest { numbers.now.highest ≤ form.MOST_NUMBERS }
     requires head { IsWholeHead work.old.now space }
     ensures pages { Answers (reused_in work.old space numbers.now to) result work.new }
     ensures own { OnOk result ((all : PageId → Option (List ℕ)) → KeepsToOwn number_pages 0 work.old work.new all space) }
@@ -130,8 +132,8 @@ fn append(
     numbers: &Numbers,
     to: Addr,
 ) -> Result<NodeNo, PageEnd>
-    requires layer { to.layer ≤ 72057594037927935 }
-    requires highest { numbers.now.highest ≤ 88781140 }
+    requires layer { to.layer ≤ LAST_LAYER }
+    requires highest { numbers.now.highest ≤ form.MOST_NUMBERS }
     requires head { IsWholeHead work.old.now space }
     ensures pages { Answers (appended_in work.old space numbers.now to) result work.new }
     ensures own { OnOk result ((all : PageId → Option (List ℕ)) → KeepsToOwn number_pages 3 work.old work.new all space) }
@@ -151,7 +153,7 @@ fn append(
 
 /// Gives a node a number: the first free one, or else the one after the highest.
 pub fn give_number(work: &mut Workspace, space: Space, to: Addr) -> Result<NodeNo, PageEnd>
-    requires layer { to.layer ≤ 72057594037927935 }
+    requires layer { to.layer ≤ LAST_LAYER }
     requires page { 0 < page_number to }
     ensures pages { Answers (added_in work.old space to) result work.new }
     ensures own { OnOk result ((all : PageId → Option (List ℕ)) → KeepsToOwn number_pages 3 work.old work.new all space) }

@@ -1,16 +1,20 @@
 //! How pages are asked for, and how a number's entry is found.
 ghost use Rattle.std.specs.Prelude.{◌≡◌, ◌<◌, ◌≤◌, ◌*◌, ◌==◌, length, slice_index, IfOk, OnOk, IsTrue};
 ghost use Rattle.std.specs.Result.{result_map_both};
-ghost use Rattle.indirection.specs.Reading.{head_in, linked};
+ghost use Rattle.indirection.specs.Reading.{numbers_head, linked};
 ghost use Rattle.indirection.specs.Finding.{numbers_in, directory_in, leaf_in, entry_of, found_in};
 ghost use Rattle.indirection.specs.Owned.{is_number_kind};
-ghost use Rattle.indirection.specs.Inside.{IsWholeHead, IsNumberPage};
+ghost use Rattle.indirection.specs.Forms as form;
+ghost use Rattle.indirection.specs.Inside.{IsNumberPage};
+ghost use Rattle.page_bytes.specs.Kept.{IsWholeHead};
 
 use crate::forms::{
-    DIRECTORY_KIND, ENTRIES, Entry, FIRST_FREE_AT, HEAD_KIND, HIGHEST_AT, LEAF_KIND, LINKS, Leaf,
-    MOST_NUMBERS, NEXT_PAGE_AT, Numbers, ROOT_AT, entry_at, link_at,
+    DIRECTORY_KIND, ENTRIES, Entry, FIRST_FREE_AT, HIGHEST_AT, LEAF_KIND, LINKS, Leaf,
+    MOST_NUMBERS, Numbers, ROOT_AT, entry_at, link_at,
 };
-use page_bytes::{Addr, PageEnd, PageId, Pages, Space, ask, read_u8, read_u32, read_u64};
+use page_bytes::{
+    Addr, PageEnd, PageId, Pages, Space, ask, read_head, read_u8, read_u32, read_u64,
+};
 
 /// Whether a page is of this kind.
 fn is_of_kind(page: &[u8; 4096], kind: u8) -> bool
@@ -22,16 +26,13 @@ fn is_of_kind(page: &[u8; 4096], kind: u8) -> bool
 
 /// The bytes of the head, which passes its test.
 fn head_bytes<P: Pages>(pages: &P, space: Space) -> Result<&[u8; 4096], PageEnd>
-    ensures head { result_map_both (λ page. page.now) (λ end. end) result ≡ head_in (P.known pages.now) space }
+    ensures head { result_map_both (λ page. page.now) (λ end. end) result ≡ numbers_head (P.known pages.now) space }
     ensures whole { OnOk result (IsWholeHead (P.known pages.now) space) }
 {
-    let id = PageId { space, number: 0 };
-    let head = ask(pages, id, id)?;
-    if !is_of_kind(head, HEAD_KIND) || read_u64(head, NEXT_PAGE_AT) == 0 {
-        return Err(PageEnd::Damaged { page: id });
-    }
+    let head = read_head(pages, space)?;
     if read_u32(head, HIGHEST_AT) > MOST_NUMBERS {
-        return Err(PageEnd::Damaged { page: id });
+        let page = PageId { space, number: 0 };
+        return Err(PageEnd::Damaged { page });
     }
     Ok(head)
 }
@@ -66,7 +67,7 @@ pub fn linked_page<P: Pages>(
 pub fn read_numbers<P: Pages>(pages: &P, space: Space) -> Result<Numbers, PageEnd>
     ensures numbers { result ≡ numbers_in (P.known pages.now) space }
     ensures whole { OnOk result (IsWholeHead (P.known pages.now) space) }
-    ensures most { IfOk result (λ numbers. numbers.highest ≤ 88781140) }
+    ensures most { IfOk result (λ numbers. numbers.highest ≤ form.MOST_NUMBERS) }
 {
     let head = head_bytes(pages, space)?;
     Ok(Numbers {
@@ -123,7 +124,7 @@ fn entry_of_fields(space: Space, leaf: u64, page: u64, place: u32) -> Result<Ent
 /// The leaf of a number, with the number's entry.
 pub fn find_leaf<P: Pages>(pages: &P, space: Space, root: u64, number: u32) -> Result<Leaf, PageEnd>
     requires above { 0 < number }
-    requires below { number ≤ 88781140 }
+    requires below { number ≤ form.MOST_NUMBERS }
     ensures found { result ≡ found_in (P.known pages.now) space root number }
     ensures page { IfOk result (λ leaf. IsNumberPage (P.known pages.now) space leaf.number) }
 {

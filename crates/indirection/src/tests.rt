@@ -1,7 +1,7 @@
 use crate::{add, change, find, remove};
 use page_bytes::{
-    Addr, Draft, NoMemory, NodeNo, Page, PageEnd, PageId, PageSet, Pages, Space, Workspace,
-    read_u64,
+    Addr, Draft, LAST_LAYER, NoMemory, NodeNo, Page, PageEnd, PageId, PageSet, Pages, Space,
+    Workspace, read_u64,
 };
 use std::alloc::Global;
 use std::test::Fail;
@@ -51,14 +51,14 @@ fn address(number: u32) -> Addr {
 }
 
 fn added(work: &mut Workspace, to: Addr) -> Result<NodeNo, PageEnd> {
-    if to.layer > 72057594037927935 || to.number() == 0 {
+    if to.layer > LAST_LAYER || to.number() == 0 {
         return Err(PageEnd::NoMemory);
     }
     add(work, SPACE, to)
 }
 
 fn changed(work: &mut Workspace, number: u32, to: Addr) -> Result<(), PageEnd> {
-    if to.layer > 72057594037927935 || to.number() == 0 {
+    if to.layer > LAST_LAYER || to.number() == 0 {
         return Err(PageEnd::NoMemory);
     }
     change(work, SPACE, NodeNo(number), to)
@@ -70,129 +70,34 @@ fn removed_number_is_given_again(rt: HostRuntime) -> Result<(), Fail> {
     for number in 1..4 {
         assert_eq!(rt; added(&mut work, address(number)), Ok(NodeNo(number)));
     }
+    assert_eq!(rt; changed(&mut work, 3, address(8)), Ok(()));
     assert_eq!(rt; remove(&mut work, SPACE, NodeNo(2)), Ok(()));
     assert_eq!(rt; find(&work, SPACE, NodeNo(2)), Ok(None));
     assert_eq!(rt; added(&mut work, address(9)), Ok(NodeNo(2)));
     assert_eq!(rt; find(&work, SPACE, NodeNo(1)), Ok(Some(address(1))));
     assert_eq!(rt; find(&work, SPACE, NodeNo(2)), Ok(Some(address(9))));
-    assert_eq!(rt; find(&work, SPACE, NodeNo(3)), Ok(Some(address(3))));
+    assert_eq!(rt; find(&work, SPACE, NodeNo(3)), Ok(Some(address(8))));
     Ok(())
 }
 
-// The first number of which the answer is another than its address.
-fn first_wrong(work: &Workspace, count: u32) -> Option<u32> {
-    for number in 1..count {
-        if find(work, SPACE, NodeNo(number)) != Ok(Some(address(number))) {
-            return Some(number);
-        }
-    }
-    None
-}
-
-fn add_up_to(work: &mut Workspace, count: u32) -> Result<bool, PageEnd> {
-    for number in 1..count {
-        if added(work, address(number))? != NodeNo(number) {
-            return Ok(false);
-        }
-    }
-    Ok(true)
-}
-
+// With as many numbers as one directory page has, the next one makes a directory page and a leaf.
 #[test]
 fn numbers_stand_in_two_directory_pages(rt: HostRuntime) -> Result<(), Fail> {
-    let mut work = empty_document(rt.alloc())?;
-    let count = 340 * 511 + 342;
-    assert_eq!(rt; add_up_to(&mut work, count), Ok(true));
-    assert_eq!(rt; first_wrong(&work, count), None);
-    assert_eq!(rt; find(&work, SPACE, NodeNo(count)), Ok(None));
+    let alloc = rt.alloc();
+    let mut set = PageSet::new(alloc);
+    set.put(id(0), head(alloc, 9, 1, 0, 340 * 511)?)?;
+    set.put(id(1), page(alloc, 7, 8, 2)?)?;
+    let mut work = Workspace::over(alloc, set);
+    let next = NodeNo(340 * 511 + 1);
+    assert_eq!(rt; added(&mut work, address(5)), Ok(next));
+    assert_eq!(rt; find(&work, SPACE, next), Ok(Some(address(5))));
     let head = work.page(id(0)).ok_or("no head")?;
-    assert_eq!(rt; read_u64(head, 2), 1 + 1 + 2 + 513);
-    Ok(())
-}
-
-// What is done to a number, in turn, by a sequence of numbers that looks random.
-fn churn(work: &mut Workspace, model: &mut Vec<Option<Addr>>, turns: u32) -> Result<bool, PageEnd> {
-    let mut seed: u64 = 17;
-    for turn in 0..turns {
-        seed = seed
-            .wrapping_mul(6364136223846793005)
-            .wrapping_add(1442695040888963407);
-        let place = (seed >> 33) as usize % model.len().max(1);
-        if !turn_on(work, model, place, turn)? {
-            return Ok(false);
-        }
-    }
-    Ok(true)
-}
-
-// A number that is there is changed or removed, else one is added.
-fn turn_on(
-    work: &mut Workspace,
-    model: &mut Vec<Option<Addr>>,
-    place: usize,
-    turn: u32,
-) -> Result<bool, PageEnd> {
-    if place >= model.len() || place > 9999 {
-        return Ok(false);
-    }
-    let number = place as u32 + 1;
-    if model[place].is_none() {
-        let given = added(work, address(turn))?.0 as usize;
-        if given == 0 || given > model.len() || model[given - 1].is_some() {
-            return Ok(false);
-        }
-        model[given - 1] = Some(address(turn));
-    } else if turn % 2 == 0 {
-        changed(work, number, address(turn))?;
-        model[place] = Some(address(turn));
-    } else {
-        remove(work, SPACE, NodeNo(number))?;
-        model[place] = None;
-    }
-    Ok(true)
-}
-
-fn agrees(work: &Workspace, model: &[Option<Addr>]) -> bool {
-    for (place, wanted) in model.iter().enumerate() {
-        let number = (place % 100000) as u32 + 1;
-        if find(work, SPACE, NodeNo(number)) != Ok(*wanted) {
-            return false;
-        }
-    }
-    true
-}
-
-#[test]
-fn ten_thousand_changes_agree_with_a_map(rt: HostRuntime) -> Result<(), Fail> {
-    let mut work = empty_document(rt.alloc())?;
-    let mut model = vec![in rt.alloc(); None; 900]?;
-    assert_eq!(rt; churn(&mut work, &mut model, 10000), Ok(true));
-    assert!(rt; agrees(&work, &model));
+    assert_eq!(rt; read_u64(head, 2), 11);
     Ok(())
 }
 
 fn needed(number: u64) -> Result<Option<Addr>, PageEnd> {
     Err(PageEnd::Need { page: id(number) })
-}
-
-#[test]
-fn pages_that_are_not_there_are_needed_or_damaged(rt: HostRuntime) -> Result<(), Fail> {
-    let alloc = rt.alloc();
-    let mut work = Workspace::over(alloc, PageSet::new(alloc));
-    assert_eq!(rt; find(&work, SPACE, NodeNo(1)), needed(0));
-    work.open_space(SPACE)?;
-    let damaged = Err(PageEnd::Damaged { page: id(0) });
-    assert_eq!(rt; find(&work, SPACE, NodeNo(1)), damaged);
-    let mut set = PageSet::new(alloc);
-    set.put(id(0), head(alloc, 4, 1, 0, 1)?)?;
-    assert_eq!(rt; find(&set, SPACE, NodeNo(1)), needed(1));
-    set.put(id(1), page(alloc, 7, 8, 2)?)?;
-    assert_eq!(rt; find(&set, SPACE, NodeNo(1)), needed(2));
-    set.put(id(2), page(alloc, 7, 8, 3)?)?;
-    assert_eq!(rt; find(&set, SPACE, NodeNo(1)), needed(3));
-    set.put(id(3), page(alloc, 6, 16, 5)?)?;
-    assert_eq!(rt; find(&set, SPACE, NodeNo(1)), Ok(Some(Addr::of(5, 0))));
-    Ok(())
 }
 
 // Fields of the head, the root, a directory page and a leaf, in pages 0, 1, 2 and 3.
@@ -223,14 +128,39 @@ const SOUND: Fields = Fields {
     entry: 5,
 };
 
-fn pages_of(alloc: Global, fields: &Fields) -> Result<PageSet, NoMemory> {
+// The first of these pages, as many as this.
+fn first_pages(alloc: Global, fields: &Fields, count: u64) -> Result<PageSet, NoMemory> {
+    let forms = [
+        (1, fields.root_kind, 8, fields.directory),
+        (2, fields.directory_kind, 8, fields.leaf),
+        (3, fields.leaf_kind, 16, fields.entry),
+    ];
     let mut set = PageSet::new(alloc);
-    let first = head(alloc, fields.next, fields.root, fields.free, fields.highest)?;
-    set.put(id(0), first)?;
-    set.put(id(1), page(alloc, fields.root_kind, 8, fields.directory)?)?;
-    set.put(id(2), page(alloc, fields.directory_kind, 8, fields.leaf)?)?;
-    set.put(id(3), page(alloc, fields.leaf_kind, 16, fields.entry)?)?;
+    for (number, kind, at, link) in forms {
+        if number < count {
+            set.put(id(number), page(alloc, kind, at, link)?)?;
+        }
+    }
+    if count > 0 {
+        let first = head(alloc, fields.next, fields.root, fields.free, fields.highest)?;
+        set.put(id(0), first)?;
+    }
     Ok(set)
+}
+
+fn pages_of(alloc: Global, fields: &Fields) -> Result<PageSet, NoMemory> {
+    first_pages(alloc, fields, 4)
+}
+
+#[test]
+fn pages_that_are_not_there_are_needed(rt: HostRuntime) -> Result<(), Fail> {
+    for count in 0..4 {
+        let set = first_pages(rt.alloc(), &SOUND, count)?;
+        assert_eq!(rt; find(&set, SPACE, NodeNo(1)), needed(count));
+    }
+    let all = pages_of(rt.alloc(), &SOUND)?;
+    assert_eq!(rt; find(&all, SPACE, NodeNo(1)), Ok(Some(Addr::of(5, 0))));
+    Ok(())
 }
 
 fn found_over(alloc: Global, fields: &Fields) -> Result<Option<Addr>, PageEnd> {

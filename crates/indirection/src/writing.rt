@@ -6,7 +6,8 @@ ghost use Rattle.page_bytes.specs.Links.{page_in};
 ghost use Rattle.indirection.specs.Writing.{with_number, with_entry_in, with_kind};
 ghost use Rattle.indirection.specs.Adding.{new_in, child_in};
 ghost use Rattle.indirection.specs.Owned.{is_number_kind};
-ghost use Rattle.indirection.specs.Inside.{IsWholeHead, IsNumberPage, TakesLink, HasKept};
+ghost use Rattle.indirection.specs.Inside.{IsNumberPage, TakesLink, HasKept};
+ghost use Rattle.page_bytes.specs.Kept.{IsWholeHead};
 ghost use Rattle.page_bytes.specs.Answers.{Answers};
 
 use crate::forms::entry_at;

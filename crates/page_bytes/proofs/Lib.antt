@@ -14,3 +14,7 @@ pub mod WrittenFields
 pub mod SeenPages
 pub mod Growing
 pub mod Owning
+pub mod Askings
+pub mod Frames
+pub mod Among
+pub mod Keeping

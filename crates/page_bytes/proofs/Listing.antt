@@ -8,8 +8,8 @@ use Rattle.std.specs.FinMap as map
 use Rattle.page_bytes.specs.declared.ids.PageId.{PageId}
 use Rattle.page_bytes.specs.Order.{page_cmp}
 use Rattle.page_bytes.specs.Known.{PageMap, PageIds, Spaces, is_unknown}
-use Rattle.page_bytes.specs.Changes.{IsChange}
-use Rattle.page_bytes.specs.Inside.{stays, pages_of, work_of, now_of, Notes, IsListedAt, IsListed}
+use Rattle.page_bytes.specs.Changes.{IsChange, IsLongChange}
+use Rattle.page_bytes.specs.Inside.{stays, pages_of, work_of, now_of, Notes, AreLong, IsListedAt, IsListed}
 use Rattle.page_bytes.proofs.Orders.{page_cmp-total, page_cmp-exact}
 use Rattle.page_bytes.proofs.Works.{get-inserted, get-beside, get-pages_of}
 
@@ -36,6 +36,15 @@ either {P} k q same other = at (page_cmp q k) refl
     at Less e = other (ap is_eq e)
     at Equal e = same (page_cmp-exact q k e) (ap is_eq e)
     at Greater e = other (ap is_eq e)
+
+-- a page of 4,096 bytes, or none, is put in among such
+pub AreLong-inserted : (changes : Changes) (id : PageId) (page : Option (List ℕ)) → IsLongChange (Some page) → AreLong changes → AreLong (map.insert changes id page)
+AreLong-inserted changes id page long all q = either id q
+    (λ same tied. subst IsLongChange (sym (ap (map.get (map.insert changes id page)) same ∙ get-inserted changes id page)) long)
+    (λ apart. subst IsLongChange (sym (get-beside changes id q page apart)) (all q))
+
+pub AreLong-empty : (changes : Changes) → changes ≡ map.empty → AreLong changes
+AreLong-empty changes none q = subst IsLongChange (sym (ap (λ m. map.get m q) none ∙ map.get-empty page_cmp q)) tt
 
 nothing : (s : Bool) (o : Option (List ℕ)) → o ≡ cond s o o
 nothing true o = refl

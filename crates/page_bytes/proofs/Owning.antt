@@ -1,20 +1,21 @@
 -- What writes to a structure's own pages and fields leave: it kept to its own. One lemma for each write, and one that joins them.
-use Rattle.std.proofs.Common.{◌≡◌, ◌≢◌, ℕ, ◌+◌, ◌<◌, ◌≤◌, ◌^◌, ◌⊎◌, ⊎_elim, inl, inr, Bool, true, false, nat_lt, IsTrue, List, [], ◌∷◌, length, slice_index, Option, Some, None, refl, sym, ap, subst, is_some, ◌∙◌, true≢false, arith}
+use Rattle.std.proofs.Common.{◌≡◌, ◌≢◌, ℕ, ◌+◌, ◌<◌, ◌≤◌, ◌^◌, ◌⊎◌, ⊎_elim, inl, inr, Bool, true, false, nat_lt, IsTrue, List, length, slice_index, Option, Some, None, refl, sym, ap, subst, is_some, ◌∙◌, true≢false, arith}
 use Rattle.std.proofs.lemmas.Bool.{ltb-true, ltb-false}
 use Rattle.page_bytes.specs.declared.ids.Space.{Space}
 use Rattle.page_bytes.specs.declared.ids.PageId.{PageId}
-use Rattle.page_bytes.specs.Fields.{bytes_at, field, with_field}
+use Rattle.page_bytes.specs.Fields.{bytes_at, with_field}
 use Rattle.page_bytes.specs.Head.{head_of, next_page, with_next_page}
 use Rattle.page_bytes.specs.Known.{is_there}
 use Rattle.page_bytes.specs.Links.{page_in}
-use Rattle.page_bytes.specs.Own.{HeadField, Own, HasOwnPage, IsOwnPage, next_of, IsNewNumber, KeepsPage, AreBeside, KeepsToOwn}
+use Rattle.page_bytes.specs.Own.{PageField, Own, HasOwnPage, IsOwnPage, IsNewNumber, AreBeside, IsFieldWrite, HasFieldWrite, KeepsPage, KeepsToOwn}
 use Rattle.page_bytes.specs.Refusal.{fresh_refusal}
-use Rattle.page_bytes.specs.Seen.{PagesByNumber, seen, bytes}
+use Rattle.page_bytes.specs.Seen.{PagesByNumber, seen, bytes, next_of}
 use Rattle.page_bytes.specs.Work.{Work, with_page, without_page, with_fresh, first_bytes, next_in, zeros}
 use Rattle.page_bytes.proofs.FieldLaws.{field-written}
+use Rattle.page_bytes.proofs.Growing.{grows_with, grows_without}
 use Rattle.page_bytes.proofs.PageWrites.{next_positive, next_small, head_there}
-use Rattle.page_bytes.proofs.SeenPages.{page-written, page-beside, seen-written, seen-beside, seen-first, seen-freed_beside, page-freed, page-freed_beside, page-other, page-other_freed}
-use Rattle.page_bytes.proofs.WrittenFields.{bytes_apart, field_apart}
+use Rattle.page_bytes.proofs.SeenPages.{page-written, page-beside, seen-written, seen-beside, seen-first, seen-freed_beside, page-freed, page-freed_beside, page-other, page-other_freed, page-first}
+use Rattle.page_bytes.proofs.WrittenFields.{length-with_field, bytes_apart, field_apart, kind_kept}
 
 -- a number is another or the same
 pub same_or_other : (n m : ℕ) → (n ≡ m) ⊎ (n ≢ m)
@@ -25,10 +26,10 @@ same_or_other n m = at (nat_lt n m) refl (nat_lt m n) refl
     at false is true more = let past = ltb-true m n more in inr (λ same. omega (arith, past, same))
     at false is false more = let one = ltb-false n m is in let two = ltb-false m n more in inl (omega (arith, one, two))
 
--- all that a structure keeps lies beside the next page number too
-pub beside_next : (fields : List HeadField) (at n : ℕ) → AreBeside fields at n → (at + n ≤ 2) ⊎ (10 ≤ at)
-beside_next [] at n beside = beside
-beside_next (field ∷ fields) at n beside = beside_next fields at n beside.1
+-- a field of this page is beside what is beside it
+pub on_page : {P : Type 0} (n : ℕ) → (n ≢ n) ⊎ P → P
+on_page n (inl differ) = absurd (differ refl)
+on_page n (inr beside) = beside
 
 -- a page that is there and is one of the structure's if it is there is one
 has_own : (own : Own) (page : Option (List ℕ)) → IsOwnPage own page → is_some page ≡ true → HasOwnPage own page
@@ -38,6 +39,27 @@ has_own own (Some page) is there = is
 own_of : (own : Own) (page : Option (List ℕ)) → HasOwnPage own page → IsOwnPage own page
 own_of own None is = tt
 own_of own (Some page) is = is
+
+-- fields that are written leave the kind
+own_wrote : (own : Own) (n : ℕ) (old new : Option (List ℕ)) → HasFieldWrite own.fields n old new → IsOwnPage own old → IsOwnPage own new
+own_wrote own n None new wrote is = absurd wrote
+own_wrote own n (Some old) None wrote is = absurd wrote
+own_wrote own n (Some old) (Some new) wrote is = subst (λ kind. IsTrue (own.is_kind kind)) (sym wrote.kind) is
+
+own_was : (own : Own) (n : ℕ) (old new : Option (List ℕ)) → HasFieldWrite own.fields n old new → HasOwnPage own new → HasOwnPage own old
+own_was own n None new wrote is = absurd wrote
+own_was own n (Some old) None wrote is = absurd wrote
+own_was own n (Some old) (Some new) wrote is = subst (λ kind. IsTrue (own.is_kind kind)) wrote.kind is
+
+wrote_twice : (fields : List PageField) (n : ℕ) (a b c : Option (List ℕ)) → HasFieldWrite fields n a b → HasFieldWrite fields n b c → HasFieldWrite fields n a c
+wrote_twice fields n None b c one two = absurd one
+wrote_twice fields n (Some a) None c one two = absurd one
+wrote_twice fields n (Some a) (Some b) None one two = absurd two
+wrote_twice fields n (Some a) (Some b) (Some c) one two = record {
+  kind = two.kind ∙ one.kind;
+  long = two.long ∙ one.long;
+  beside = λ at m apart. two.beside at m apart ∙ one.beside at m apart;
+}
 
 there_of : (own : Own) (page : Option (List ℕ)) → HasOwnPage own page → is_some page ≡ true
 there_of own None is = absurd is
@@ -69,11 +91,14 @@ module _ (own : Own) (all : PageId → Option (List ℕ)) (space : Space) where
   pub own_none : (w : Work) → KeepsToOwn own 0 w w all space
   own_none w = record {
     pages = λ n positive. inl refl;
-    head = λ at n beside. refl;
+    head = λ at m beside apart. refl;
+    long = refl;
     raised = omega arith;
     most_made = omega arith;
+    last = λ last. last;
     made = λ n positive new. absurd (omega (arith, new.0, new.1));
     others = λ other n differ. refl;
+    known = λ id is. is;
     below = refl;
   }
 
@@ -82,10 +107,13 @@ module _ (own : Own) (all : PageId → Option (List ℕ)) (space : Space) where
   own_more w v few most less kept = record {
     pages = kept.pages;
     head = kept.head;
+    long = kept.long;
     raised = kept.raised;
     most_made = let made = kept.most_made in omega (arith, made, less);
+    last = kept.last;
     made = kept.made;
     others = kept.others;
+    known = kept.known;
     below = kept.below;
   }
 
@@ -108,12 +136,18 @@ module _ (own : Own) (all : PageId → Option (List ℕ)) (space : Space) where
 
     own_then : (n : ℕ) → KeepsPage own between behind n → IsOwnPage own (between n) → IsOwnPage own (behind n)
     own_then n (inl same) is = subst (IsOwnPage own) (sym same) is
-    own_then n (inr changed) is = changed.1
+    own_then n (inr (inl changed)) is = changed.1
+    own_then n (inr (inr wrote)) is = own_wrote own n (between n) (behind n) wrote is
 
     joined : (n : ℕ) → KeepsPage own before between n → KeepsPage own between behind n → KeepsPage own before behind n
     joined n (inl same) (inl too) = inl (too ∙ same)
-    joined n (inl same) (inr changed) = inr (⊎_elim (λ is. inl (subst (HasOwnPage own) same is)) (λ new. inr (later n new)) changed.0, changed.1)
-    joined n (inr changed) step = inr (⊎_elim (λ is. inl is) (λ new. inr (earlier n new)) changed.0, own_then n step changed.1)
+    joined n (inl same) (inr (inl changed)) = inr (inl (⊎_elim (λ is. inl (subst (HasOwnPage own) same is)) (λ new. inr (later n new)) changed.0, changed.1))
+    joined n (inl same) (inr (inr wrote)) = inr (inr (subst (λ o. HasFieldWrite own.fields n o (behind n)) same wrote))
+    joined n (inr (inl changed)) step = inr (inl (⊎_elim (λ is. inl is) (λ new. inr (earlier n new)) changed.0, own_then n step changed.1))
+    joined n (inr (inr wrote)) (inl same) = inr (inr (subst (HasFieldWrite own.fields n (before n)) (sym same) wrote))
+    joined n (inr (inr wrote)) (inr (inl changed)) =
+        inr (inl (⊎_elim (λ is. inl (own_was own n (before n) (between n) wrote is)) (λ new. inr (later n new)) changed.0, changed.1))
+    joined n (inr (inr wrote)) (inr (inr more)) = inr (inr (wrote_twice own.fields n (before n) (between n) (behind n) wrote more))
 
     new_before : (n : ℕ) → IsNewNumber before behind n → IsNewNumber before between n ⊎ IsNewNumber between behind n
     new_before n new = at (nat_lt n (next_of between)) refl
@@ -128,14 +162,17 @@ module _ (own : Own) (all : PageId → Option (List ℕ)) (space : Space) where
     both : ((n : ℕ) → IsNewNumber before between n → is_some (between n) ≡ true → is_some (behind n) ≡ true) → KeepsToOwn own (j + k) a c all space
     both stays = record {
       pages = λ n positive. joined n (one.pages n positive) (two.pages n positive);
-      head = λ at n beside. two.head at n beside ∙ one.head at n beside;
+      head = λ at m beside apart. two.head at m beside apart ∙ one.head at m beside apart;
+      long = two.long ∙ one.long;
       raised = let first = one.raised in let second = two.raised in omega (arith, first, second);
       most_made = let first = one.most_made in let second = two.most_made in omega (arith, first, second);
+      last = λ last. two.last (one.last last);
       made = λ n positive new. ⊎_elim
           (λ is. let made = one.made n positive is in still n positive made (stays n is (there_of own (between n) made)))
           (λ is. two.made n positive is)
           (new_before n new);
       others = λ other n differ. two.others other n differ ∙ one.others other n differ;
+      known = λ id is. one.known id (two.known id is);
       below = two.below ∙ one.below;
     }
 
@@ -156,14 +193,21 @@ module _ (own : Own) (all : PageId → Option (List ℕ)) (space : Space) where
     pub own_page : HasOwnPage own (seen w.now all space n) → IsTrue (own.is_kind (slice_index b 0)) → KeepsToOwn own 0 w (with_page w (page_in space n) b) all space
     own_page was is = record {
       pages = λ q past. ⊎_elim
-          (λ same. inr (inl (subst (λ m. HasOwnPage own (seen w.now all space m)) (sym same) was), subst (λ m. IsOwnPage own (seen (with_page w (page_in space n) b).now all space m)) (sym same) (subst (IsOwnPage own) (sym (page-written w all space n b)) is)))
+          (λ same. inr (inl (
+            inl (subst (λ m. HasOwnPage own (seen w.now all space m)) (sym same) was),
+            subst (λ m. IsOwnPage own (seen (with_page w (page_in space n) b).now all space m)) (sym same)
+                (subst (IsOwnPage own) (sym (page-written w all space n b)) is),
+          )))
           (λ differ. inl (page-beside w all space n q b differ))
           (same_or_other q n);
-      head = λ at m beside. ap (bytes_at at m) head_beside;
+      head = λ at m beside apart. ap (bytes_at at m) head_beside;
+      long = ap length head_beside;
       raised = let same = ap next_page head_beside in omega (arith, same);
       most_made = let same = ap next_page head_beside in omega (arith, same);
+      last = λ last. let same = ap next_page head_beside in omega (arith, same, last);
       made = λ q positive' new. let same = ap next_page head_beside in absurd (omega (arith, same, new.0, new.1));
       others = λ other m differ. page-other w all space n other m differ b;
+      known = grows_with w (page_in space n) b;
       below = refl;
     }
 
@@ -175,20 +219,27 @@ module _ (own : Own) (all : PageId → Option (List ℕ)) (space : Space) where
     pub own_freed : HasOwnPage own (seen w.now all space n) → KeepsToOwn own 0 w (without_page w (page_in space n)) all space
     own_freed was = record {
       pages = λ q past. ⊎_elim
-          (λ same. inr (inl (subst (λ m. HasOwnPage own (seen w.now all space m)) (sym same) was), subst (λ m. IsOwnPage own (seen (without_page w (page_in space n)).now all space m)) (sym same) (subst (IsOwnPage own) (sym (page-freed w all space n)) tt)))
+          (λ same. inr (inl (
+            inl (subst (λ m. HasOwnPage own (seen w.now all space m)) (sym same) was),
+            subst (λ m. IsOwnPage own (seen (without_page w (page_in space n)).now all space m)) (sym same)
+                (subst (IsOwnPage own) (sym (page-freed w all space n)) tt),
+          )))
           (λ differ. inl (page-freed_beside w all space n q differ))
           (same_or_other q n);
-      head = λ at m beside. ap (bytes_at at m) head_freed;
+      head = λ at m beside apart. ap (bytes_at at m) head_freed;
+      long = ap length head_freed;
       raised = let same = ap next_page head_freed in omega (arith, same);
       most_made = let same = ap next_page head_freed in omega (arith, same);
+      last = λ last. let same = ap next_page head_freed in omega (arith, same, last);
       made = λ q positive' new. let same = ap next_page head_freed in absurd (omega (arith, same, new.0, new.1));
       others = λ other m differ. page-other_freed w all space n other m differ;
+      known = grows_without w (page_in space n);
       below = refl;
     }
 
   -- a field of the head is written
   module _ (w : Work) (m to x : ℕ) (there : IsTrue (is_there w.now (head_of space))) (long : length (first_bytes w.now (head_of space)) ≡ 4096) (past : 10 ≤ to) (within : to + m ≤ 4096)
-      (mine : (at n : ℕ) → AreBeside own.fields at n → (at + n ≤ to) ⊎ (to + m ≤ at)) where
+      (mine : (at n : ℕ) → AreBeside own.fields 0 at n → (at + n ≤ to) ⊎ (to + m ≤ at)) where
     abbrev head_written : List ℕ
     head_written = with_field m (first_bytes w.now (head_of space)) to x
 
@@ -207,11 +258,17 @@ module _ (own : Own) (all : PageId → Option (List ℕ)) (space : Space) where
     pub own_field : KeepsToOwn own 0 w then_written all space
     own_field = record {
       pages = λ q positive. inl (page-beside w all space 0 q head_written (λ is. omega (arith, is, positive)));
-      head = λ at n beside. ap (bytes_at at n) now_is ∙ bytes_apart n at m (first_bytes w.now (head_of space)) to x (mine at n beside) (omega (arith, within, long)) ∙ sym (ap (bytes_at at n) first_is);
+      head = λ at n beside apart.
+          ap (bytes_at at n) now_is
+          ∙ bytes_apart n at m (first_bytes w.now (head_of space)) to x (mine at n beside) (omega (arith, within, long))
+          ∙ sym (ap (bytes_at at n) first_is);
+      long = ap length now_is ∙ length-with_field m (first_bytes w.now (head_of space)) to x (omega (arith, within, long)) ∙ sym (ap length first_is);
       raised = let same = next_is in omega (arith, same);
       most_made = let same = next_is in omega (arith, same);
+      last = λ last. let same = next_is in omega (arith, same, last);
       made = λ q positive' new. let same = next_is in absurd (omega (arith, same, new.0, new.1));
       others = λ other q differ. page-other w all space 0 other q differ head_written;
+      known = grows_with w (head_of space) head_written;
       below = refl;
     }
 
@@ -253,14 +310,75 @@ module _ (own : Own) (all : PageId → Option (List ℕ)) (space : Space) where
     pub own_fresh : IsTrue (own.is_kind (slice_index b 0)) → KeepsToOwn own 1 w made_page all space
     own_fresh is = record {
       pages = λ q positive. ⊎_elim
-          (λ same. inr (inr (is_new q same), subst (λ m. IsOwnPage own (seen made_page.now all space m)) (sym same) (subst (IsOwnPage own) (sym page_now) is)))
-          (λ differ. inl (page-beside (with_fresh w space) all space fresh q b differ ∙ page-beside cleared all space 0 q raised_to (λ zero_is. omega (arith, zero_is, positive)) ∙ page-beside w all space fresh q zeros differ))
+          (λ same. inr (inl (
+            inr (is_new q same),
+            subst (λ m. IsOwnPage own (seen made_page.now all space m)) (sym same) (subst (IsOwnPage own) (sym page_now) is),
+          )))
+          (λ differ. inl (
+          page-beside (with_fresh w space) all space fresh q b differ
+          ∙ page-beside cleared all space 0 q raised_to (λ zero_is. omega (arith, zero_is, positive))
+          ∙ page-beside w all space fresh q zeros differ
+          ))
           (same_or_other q fresh);
-      head = λ at n beside. ap (bytes_at at n) is_head_now ∙ bytes_apart n at 8 (first_bytes w.now (head_of space)) 2 (fresh + 1) (⊎_elim (λ before. inl before) (λ past. inr (omega (arith, past))) (beside_next own.fields at n beside)) (omega (arith, long)) ∙ sym (ap (bytes_at at n) was_head);
+      head = λ at n beside apart.
+          ap (bytes_at at n) is_head_now
+          ∙ bytes_apart n at 8 (first_bytes w.now (head_of space)) 2 (fresh + 1)
+          (⊎_elim (λ before. inl before) (λ past. inr (omega (arith, past))) apart) (omega (arith, long))
+          ∙ sym (ap (bytes_at at n) was_head);
+      long =
+          ap length is_head_now ∙ length-with_field 8 (first_bytes w.now (head_of space)) 2 (fresh + 1) (omega (arith, long))
+          ∙ sym (ap length was_head);
       raised = let was = next_was in let now = next_now in omega (arith, was, now);
       most_made = let was = next_was in let now = next_now in omega (arith, was, now);
+      last = λ last. let now = next_now in let small = next_small w space none fits in omega (arith, now, small);
       made = λ q positive' new. let was = next_was in let now = next_now in
-          let same : q ≡ fresh = omega (arith, was, now, new.0, new.1) in subst (λ m. HasOwnPage own (seen made_page.now all space m)) (sym same) (subst (HasOwnPage own) (sym page_now) is);
-      others = λ other q differ. page-other (with_fresh w space) all space fresh other q differ b ∙ page-other cleared all space 0 other q differ raised_to ∙ page-other w all space fresh other q differ zeros;
+          let same : q ≡ fresh = omega (arith, was, now, new.0, new.1) in
+          subst (λ m. HasOwnPage own (seen made_page.now all space m)) (sym same) (subst (HasOwnPage own) (sym page_now) is);
+      others = λ other q differ.
+          page-other (with_fresh w space) all space fresh other q differ b
+          ∙ page-other cleared all space 0 other q differ raised_to
+          ∙ page-other w all space fresh other q differ zeros;
+      known = λ id is. grows_with w (page_in space fresh) zeros id
+          (grows_with cleared (head_of space) raised_to id (grows_with (with_fresh w space) (page_in space fresh) b id is));
       below = refl;
     }
+
+  -- a field of a page that isn't the structure's is written
+  module _ (w : Work) (n m to x : ℕ) (positive : 0 < n) (there : IsTrue (is_there w.now (page_in space n)))
+      (long : length (first_bytes w.now (page_in space n)) ≡ 4096) (past : 1 ≤ to) (within : to + m ≤ 4096)
+      (mine : (at k : ℕ) → AreBeside own.fields n at k → (at + k ≤ to) ⊎ (to + m ≤ at)) where
+    abbrev page_then : List ℕ
+    page_then = with_field m (first_bytes w.now (page_in space n)) to x
+
+    abbrev after_write : Work
+    after_write = with_page w (page_in space n) page_then
+
+    wrote : IsFieldWrite own.fields n (first_bytes w.now (page_in space n)) page_then
+    wrote = record {
+      kind = kind_kept m (first_bytes w.now (page_in space n)) to x past (omega (arith, within, long));
+      long = length-with_field m (first_bytes w.now (page_in space n)) to x (omega (arith, within, long));
+      beside = λ at k apart. bytes_apart k at m (first_bytes w.now (page_in space n)) to x (mine at k apart) (omega (arith, within, long));
+    }
+
+    write_is : HasFieldWrite own.fields n (seen w.now all space n) (seen after_write.now all space n)
+    write_is =
+        subst (λ o. HasFieldWrite own.fields n o (seen after_write.now all space n)) (sym (page-first w.now all space n there))
+        (subst (HasFieldWrite own.fields n (Some (first_bytes w.now (page_in space n)))) (sym (page-written w all space n page_then)) wrote)
+
+    pub own_foreign_field : KeepsToOwn own 0 w after_write all space
+    own_foreign_field =
+        let head_is = seen-beside w all space n 0 page_then (λ is. omega (arith, is, positive)) in record {
+          pages = λ q more. ⊎_elim
+              (λ same. inr (inr (subst (λ q. HasFieldWrite own.fields q (seen w.now all space q) (seen after_write.now all space q)) (sym same) write_is)))
+              (λ differ. inl (page-beside w all space n q page_then differ))
+              (same_or_other q n);
+          head = λ at k beside apart. ap (bytes_at at k) head_is;
+          long = ap length head_is;
+          raised = let same = ap next_page head_is in omega (arith, same);
+          most_made = let same = ap next_page head_is in omega (arith, same);
+          last = λ last. let same = ap next_page head_is in omega (arith, same, last);
+          made = λ q more new. let same = ap next_page head_is in absurd (omega (arith, same, new.0, new.1));
+          others = λ other q differ. page-other w all space n other q differ page_then;
+          known = grows_with w (page_in space n) page_then;
+          below = refl;
+        }

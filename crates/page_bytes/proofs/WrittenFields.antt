@@ -1,6 +1,6 @@
 -- What a written field leaves of a page: its length, its kind and the fields beside it.
 use Rattle.std.proofs.Common.{◌≡◌, ℕ, ◌+◌, ◌≤◌, ◌⊎◌, ⊎_elim, inl, List, length, slice_index, sym, ap, ◌∙◌, arith}
-use Rattle.page_bytes.specs.Fields.{bytes_at, field, with_field}
+use Rattle.page_bytes.specs.Fields.{bytes_at, with_bytes, field, with_field}
 use Rattle.page_bytes.proofs.FieldLaws.{length-with_bytes, bytes_at-before, bytes_at-behind, field-bytes_at, with_field-bytes, length-big_bytes, slice_index-bytes_at}
 
 pub length-with_field : (m : ℕ) (page : List ℕ) (to x : ℕ) → to + m ≤ length page → length (with_field m page to x) ≡ length page
@@ -28,3 +28,25 @@ kind_kept m page to x past within =
   where
     first : 1 ≤ to → (0 + 1 ≤ to) ⊎ (to + m ≤ 0)
     first h = inl h
+
+-- a page of 4,096 bytes and a kind
+pub record IsOfKind (kind : ℕ) (page : List ℕ) : Type 0 where
+  pub long : length page ≡ 4096
+  pub kind_is : slice_index page 0 ≡ kind
+
+-- writes behind the kind keep it
+pub of_field : (kind m : ℕ) (page : List ℕ) (to x : ℕ) → IsOfKind kind page → 1 ≤ to → to + m ≤ 4096 → IsOfKind kind (with_field m page to x)
+of_field kind m page to x is past within =
+    let long = is.long in let fits : to + m ≤ length page = omega (arith, long, within) in
+    record { long = length-with_field m page to x fits ∙ is.long; kind_is = kind_kept m page to x past fits ∙ is.kind_is }
+
+pub of_bytes : (kind : ℕ) (page : List ℕ) (to : ℕ) (bytes : List ℕ) → IsOfKind kind page → 1 ≤ to → to + length bytes ≤ 4096 → IsOfKind kind (with_bytes page to bytes)
+of_bytes kind page to bytes is past within =
+    let long = is.long in record {
+      long = length-with_bytes page to bytes (omega (arith, long, within)) ∙ is.long;
+      kind_is =
+          sym (slice_index-bytes_at (with_bytes page to bytes) 0)
+          ∙ ap (λ l. slice_index l 0) (bytes_at-before page 0 1 to bytes (omega (arith, past)) (omega (arith, long, within)))
+          ∙ slice_index-bytes_at page 0
+          ∙ is.kind_is;
+    }

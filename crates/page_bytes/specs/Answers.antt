@@ -1,10 +1,14 @@
 -- What a call on a workspace answers: the value and the workspace that are asked for, or the refusal. Want of memory may
 -- stand in the place of either.
-use Rattle.std.specs.Prelude.{◌≡◌, ◌⊎◌, Option, Some, None, Result, Ok, Err, IsTrue}
+use Rattle.std.specs.Prelude.{◌≡◌, ℕ, ◌+◌, ◌<◌, ◌⊎◌, List, Option, Some, None, IsSome, Result, Ok, Err, IsTrue}
+use Rattle.page_bytes.specs.declared.ids.Space.{Space}
 use Rattle.page_bytes.specs.declared.ids.PageId.{PageId}
 use Rattle.page_bytes.specs.declared.end.PageEnd.{PageEnd}
-use Rattle.page_bytes.specs.declared.end.PageEnd.TheVariants.{Need, NoMemory}
+use Rattle.page_bytes.specs.declared.end.PageEnd.TheVariants.{Need, Spent, NoMemory}
 use Rattle.page_bytes.specs.Known.{Known, is_unknown}
+use Rattle.page_bytes.specs.Head.{LAST_PAGE}
+use Rattle.page_bytes.specs.Links.{page_in}
+use Rattle.page_bytes.specs.Seen.{PagesByNumber, next_of}
 use Rattle.page_bytes.specs.Work.{Work}
 
 abbrev pub Answers : {X : Type 0} → Result (X × Work) PageEnd → Result X PageEnd → Work → Type 0
@@ -18,10 +22,19 @@ abbrev pub unless : {X : Type 0} → Option PageEnd → X → Result X PageEnd
 unless (Some end) x = Err end
 unless None x = Ok x
 
--- why a call may stop that finds no fault: a need of a page of which nothing is known, or want of memory
-abbrev pub IsStop : Known → PageEnd → Type 0
-IsStop k end = (end ≡ NoMemory) ⊎ ((id : PageId) × (end ≡ Need id) × IsTrue (is_unknown k id))
+-- a need of a page of the space: the map `all`, of which a part is known, has it, and nothing is known of it
+abbrev pub IsNeed : Known → (PageId → Option (List ℕ)) → Space → PageEnd → Type 0
+IsNeed k all space end =
+    (n : ℕ) × ((end ≡ Need (page_in space n)) × IsTrue (is_unknown k (page_in space n)) × IsSome (all (page_in space n)))
 
--- a value, or a need of a page of which nothing is known
-abbrev pub GivesOrNeeds : {X : Type 0} → Known → Result X PageEnd → X → Type 0
-GivesOrNeeds k r x = (r ≡ Ok x) ⊎ ((id : PageId) × (r ≡ Err (Need id)) × IsTrue (is_unknown k id))
+-- why a call may stop that finds no fault: such a need, or want of memory
+abbrev pub IsStop : Known → (PageId → Option (List ℕ)) → Space → PageEnd → Type 0
+IsStop k all space end = (end ≡ NoMemory) ⊎ IsNeed k all space end
+
+-- the page numbers are spent: the head's next one is too near the last for the `most` new pages that the call may make
+abbrev pub IsSpent : PagesByNumber → ℕ → PageEnd → Type 0
+IsSpent pages most end = (end ≡ Spent LAST_PAGE) × (LAST_PAGE < next_of pages + most)
+
+-- a value, or such a need
+abbrev pub GivesOrNeeds : {X : Type 0} → Known → (PageId → Option (List ℕ)) → Space → Result X PageEnd → X → Type 0
+GivesOrNeeds k all space r x = (r ≡ Ok x) ⊎ ((end : PageEnd) × ((r ≡ Err end) × IsNeed k all space end))

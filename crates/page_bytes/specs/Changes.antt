@@ -1,5 +1,5 @@
 -- The list of what changed: each page whose bytes now aren't those below, once, in rising order.
-use Rattle.std.specs.Prelude.{◌≡◌, ◌≢◌, ℕ, List, [], ◌∷◌, Option, Some, None, map, if◌then◌else◌}
+use Rattle.std.specs.Prelude.{◌≡◌, ◌≢◌, ℕ, List, [], ◌∷◌, length, Option, Some, None, map, if◌then◌else◌}
 use Rattle.std.specs.Ordering.{eq_by_cmp}
 use Rattle.page_bytes.specs.declared.ids.PageId.{PageId}
 use Rattle.page_bytes.specs.declared.lists.PageChange.{PageChange}
@@ -17,6 +17,12 @@ listed es = map (λ e. record { id = e.0; page = e.1 }) es
 abbrev pub change_of : List PageChange → PageId → Option (Option (List ℕ))
 change_of [] id = None
 change_of (c ∷ cs) id = if eq_by_cmp page_cmp id c.id then Some c.page else change_of cs id
+
+-- a page that is listed has 4,096 bytes
+abbrev pub IsLongChange : Option (Option (List ℕ)) → Type 0
+IsLongChange None = Unit {0}
+IsLongChange (Some None) = Unit {0}
+IsLongChange (Some (Some page)) = length page ≡ 4096
 
 -- nothing is said where a page is now what it was below, and else what it is now
 abbrev pub IsChange : Option (List ℕ) → Option (List ℕ) → Option (Option (List ℕ)) → Type 0

@@ -6,7 +6,7 @@ use Rattle.std.specs.Option.{option_or}
 use Rattle.std.specs.FinMap as map
 use Rattle.page_bytes.specs.declared.ids.PageId.{PageId}
 use Rattle.page_bytes.specs.Order.{page_cmp}
-use Rattle.page_bytes.specs.Changes.{IsChange}
+use Rattle.page_bytes.specs.Changes.{IsChange, IsLongChange}
 use Rattle.page_bytes.specs.Known.{PageMap, PageIds, Spaces}
 use Rattle.page_bytes.specs.Overlay.{overlay}
 use Rattle.page_bytes.specs.Work.{Work}
@@ -32,6 +32,10 @@ now_of gone whole id draft page = option_or draft (if stays gone whole id then p
 -- the table of changes has the change of this page, and all else stays
 abbrev pub Notes : map.FinMap page_cmp (Option (List ℕ)) → PageId → Option (List ℕ) → Option (List ℕ) → map.FinMap page_cmp (Option (List ℕ)) → Type 0
 Notes old id below now new = (map.get old id ≡ None → IsChange below now (map.get new id)) × ((q : PageId) → eq_by_cmp page_cmp q id ≡ false → map.get new q ≡ map.get old q)
+
+-- all pages of the table have 4,096 bytes
+abbrev pub AreLong : map.FinMap page_cmp (Option (List ℕ)) → Type 0
+AreLong changes = (q : PageId) → IsLongChange (map.get changes q)
 
 -- how far a listing has come with a page: either its change is noted, or all of it is left to be looked at
 abbrev pub IsListedAt : PageMap → PageMap → PageIds → Spaces → PageId → Option (List ℕ) → Option (List ℕ) → Option (Option (List ℕ)) → Type 0

@@ -18,3 +18,5 @@ pub mod Own
 pub mod Texts
 pub mod Schema
 pub mod SchemaFound
+pub mod Frames
+pub mod Kept

@@ -4,3 +4,7 @@ use Rattle.page_bytes.specs.declared.ids.Addr.{Addr}
 
 abbrev pub page_number : Addr → ℕ
 page_number a = a.layer * 256 + a.page
+
+-- the last layer that page numbers reach
+abbrev pub LAST_LAYER : ℕ
+LAST_LAYER = 72057594037927935

@@ -9,7 +9,7 @@ use Rattle.page_bytes.specs.declared.end.PageEnd.TheVariants.{Damaged, NoMemory}
 use Rattle.page_bytes.specs.PageNumber.{page_number}
 use Rattle.page_bytes.specs.Known.{Known}
 use Rattle.page_bytes.specs.Fields.{field}
-use Rattle.page_bytes.specs.Head.{head_of, is_head}
+use Rattle.page_bytes.specs.Head.{head_in}
 use Rattle.page_bytes.specs.Links.{page_in, and_then, asked, tested}
 
 abbrev pub SCHEMA_KIND : ℕ
@@ -70,7 +70,7 @@ looked_on k space id (Next from number) = if number == 0 then Ok (Next from numb
 
 -- the head's first schema page
 abbrev pub first_in : Known → Space → Result ℕ PageEnd
-first_in k space = and_then (asked k (head_of space) (head_of space)) (λ bytes. and_then (tested (head_of space) (is_head bytes) bytes) (λ head. Ok (first_schema_page head)))
+first_in k space = and_then (head_in k space) (λ head. Ok (first_schema_page head))
 
 -- so many pages, from the first on
 abbrev pub looked : Known → Space → ℕ → ℕ → Result Looked PageEnd

@@ -1,9 +1,10 @@
 -- What is there of a space's pages, by their numbers.
-use Rattle.std.specs.Prelude.{ℕ, List, [], Option, unwrap_or, if◌then◌else◌}
+use Rattle.std.specs.Prelude.{ℕ, ◌==◌, ◌||◌, Bool, List, [], Option, None, unwrap_or, if◌then◌else◌}
 use Rattle.std.specs.FinMap as map
 use Rattle.page_bytes.specs.declared.ids.Space.{Space}
 use Rattle.page_bytes.specs.declared.ids.PageId.{PageId}
 use Rattle.page_bytes.specs.Known.{Known, is_unknown}
+use Rattle.page_bytes.specs.Head.{next_page}
 use Rattle.page_bytes.specs.Links.{page_in}
 
 -- the pages of a space by their numbers
@@ -17,3 +18,15 @@ seen k all space n = if is_unknown k (page_in space n) then all (page_in space n
 -- the bytes of a page, which has none where it isn't there
 unfoldable pub bytes : PagesByNumber → ℕ → List ℕ
 bytes pages n = unwrap_or (pages n) []
+
+-- the head's next page number
+abbrev pub next_of : PagesByNumber → ℕ
+next_of pages = next_page (bytes pages 0)
+
+-- the pages of a set, and no others
+abbrev pub only : (ℕ → Bool) → PagesByNumber → PagesByNumber
+only set pages n = if set n then pages n else None
+
+-- the set with one page more
+abbrev pub also : (ℕ → Bool) → ℕ → ℕ → Bool
+also set n q = q == n || set q

@@ -27,9 +27,10 @@ piece_at slot page = field 2 (slot_at slot) page
 abbrev pub piece_length : ℕ → List ℕ → ℕ
 piece_length slot page = field 2 (slot_at slot + 2) page
 
--- whether a page passes the test of a text page: its kind, and that its slots lie inside it
-abbrev pub is_text_page : List ℕ → Bool
-is_text_page page = slice_index page 0 == TEXT_KIND && nat_le (slot_at (slot_count page)) 4096
+-- whether a page passes the test of a text page that is read: its kind, and that its slots lie inside it. Where its lowest piece
+-- begins isn't asked: that is asked of a page that is written to
+abbrev pub is_readable : List ℕ → Bool
+is_readable page = slice_index page 0 == TEXT_KIND && nat_le (slot_at (slot_count page)) 4096
 
 -- whether it has a piece in a slot
 abbrev pub has_piece : ℕ → List ℕ → Bool
@@ -50,7 +51,7 @@ piece_text slot page = bytes_at (piece_at slot page + 10) (piece_length slot pag
 abbrev pub piece_page : Known → Space → ℕ → TextRef → Result (List ℕ) PageEnd
 piece_page k space from at =
     and_then (asked k (page_in space from) (page_in space at.page)) (λ bytes.
-    and_then (tested (page_in space at.page) (is_text_page bytes) bytes) (λ page.
+    and_then (tested (page_in space at.page) (is_readable bytes) bytes) (λ page.
     and_then (tested (page_in space from) (has_piece at.slot page) page) (λ page.
     tested (page_in space at.page) (is_piece at.slot page) page)))
 

@@ -2,7 +2,7 @@
 ghost use Rattle.std.specs.Prelude.{◌≡◌, OnOk, IfOk, Some, None};
 ghost use Rattle.std.specs.FinMap as map;
 ghost use Rattle.page_bytes.specs.Changes.{IsChange};
-ghost use Rattle.page_bytes.specs.Inside.{now_of, Notes, IsListed, KeepsListed};
+ghost use Rattle.page_bytes.specs.Inside.{now_of, Notes, IsListed, KeepsListed, AreLong};
 ghost use Rattle.page_bytes.specs.declared.ids.PageId.{PageId};
 
 use crate::end::NoMemory;
@@ -22,7 +22,8 @@ pub struct Left {
 
 /// The change of each page that changed.
 pub fn changes(alloc: Global, left: Left) -> Result<PageTable<Option<Page>>, NoMemory>
-    ensures { IfOk result (λ changes. (q : PageId) → IsChange (map.get left.below q) (now_of left.gone left.whole q (map.get left.drafts q) (map.get left.below q)) (map.get changes q)) }
+    ensures changes { IfOk result (λ changes. (q : PageId) → IsChange (map.get left.below q) (now_of left.gone left.whole q (map.get left.drafts q) (map.get left.below q)) (map.get changes q)) }
+    ensures long { IfOk result (λ changes. AreLong changes) }
 {
     let mut left = left;
     let mut changes = PageTable::new(alloc);
@@ -39,6 +40,7 @@ fn note_below(
     requires { changes.old ≡ map.empty }
     ensures same { OnOk result ((left.new.gone ≡ left.old.gone) × (left.new.whole ≡ left.old.whole)) }
     ensures all { OnOk result (left.new.below ≡ map.empty) }
+    ensures long { OnOk result (AreLong changes.new) }
     ensures noted { OnOk result (IsListed left.old.below left.old.drafts left.old.gone left.old.whole left.new.below left.new.drafts changes.new) }
 {
     while let Some((id, page)) = left.below.take_first() {
@@ -53,9 +55,11 @@ fn note_new(
     changes: &mut PageTable<Option<Page>>,
     left: &mut Left,
 ) -> Result<(), NoMemory>
-    requires { left.old.below ≡ map.empty }
+    requires below { left.old.below ≡ map.empty }
+    requires long { AreLong changes.old }
     ensures same { OnOk result (left.new.below ≡ map.empty) }
     ensures all { OnOk result (left.new.drafts ≡ map.empty) }
+    ensures long { OnOk result (AreLong changes.new) }
     ensures noted { OnOk result (KeepsListed left.old.drafts changes.old left.new.drafts changes.new) }
 {
     while let Some((id, draft)) = left.drafts.take_first() {
@@ -73,7 +77,8 @@ fn note(
     page: Page,
     draft: Option<Draft>,
 ) -> Result<(), NoMemory>
-    ensures { OnOk result (Notes changes.old id (Some page) (now_of left.now.gone left.now.whole id draft (Some page)) changes.new) }
+    ensures long { AreLong changes.old → OnOk result (AreLong changes.new) }
+    ensures notes { OnOk result (Notes changes.old id (Some page) (now_of left.now.gone left.now.whole id draft (Some page)) changes.new) }
 {
     if let Some(draft) = draft {
         if draft.bytes() == page.bytes() {

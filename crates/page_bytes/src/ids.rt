@@ -24,6 +24,9 @@ pub struct PageId {
     pub number: u64,
 }
 
+/// The last layer of 256 pages that page numbers reach: that of page 2^64 - 1.
+pub const LAST_LAYER: u64 = 72_057_594_037_927_935;
+
 /// A place in a document: byte `at` of the page with the number `layer * 256 + page`.
 #[derive(Clone, Copy, Debug, PartialEq, Eq, PartialOrd, Ord)]
 pub struct Addr {

@@ -14,7 +14,9 @@
 mod changes;
 mod end;
 mod fields;
+mod head;
 mod ids;
+mod laws;
 mod links;
 mod lists;
 mod page;
@@ -26,7 +28,9 @@ mod workspace;
 
 pub use end::{NoMemory, PageEnd};
 pub use fields::{field_laws, read_bytes, read_u8, read_u16, read_u32, read_u64};
-pub use ids::{Addr, DocEntry, NodeNo, PageId, SchemaId, Space};
+pub use head::{NEXT_PAGE_AT, read_head, tests_head};
+pub use ids::{Addr, DocEntry, LAST_LAYER, NodeNo, PageId, SchemaId, Space};
+pub use laws::frame_laws;
 pub use links::ask;
 pub use lists::{ChangeList, PageChange, PageIdList};
 pub use page::{Draft, PAGE_BYTES, Page};

@@ -17,17 +17,32 @@ fn id(number: u64) -> PageId {
     }
 }
 
-// A text page with one slot, whose piece at 4,000 has 3 bytes of text and is this long.
-fn text_page(alloc: Global, kind: u8, length: u16, next: TextRef) -> Result<Page, NoMemory> {
+// A page of zeros with these bytes at these places.
+fn page_with(alloc: Global, bytes: &[(usize, u8)]) -> Result<Page, NoMemory> {
     let mut draft = Draft::zero(alloc)?;
-    draft.write_u8(0, kind);
-    draft.write_u16(2, 1);
-    draft.write_u16(8, 4000);
-    draft.write_u16(10, length);
-    draft.write_u64(4000, next.page);
-    draft.write_u16(4008, next.slot);
-    draft.write_bytes(4010, &[7, 8, 9]);
+    for (at, byte) in bytes {
+        if *at < 4096 {
+            draft.write_u8(*at, *byte);
+        }
+    }
     Page::of(alloc, draft)
+}
+
+// A text page with one slot, whose piece at 4,000 has 3 bytes of text and is this long.
+fn text_page(alloc: Global, kind: u8, length: u8, next: TextRef) -> Result<Page, NoMemory> {
+    let bytes = [
+        (0, kind),
+        (3, 1),
+        (8, 15),
+        (9, 160),
+        (11, length),
+        (4007, (next.page % 256) as u8),
+        (4009, (next.slot % 256) as u8),
+        (4010, 7),
+        (4011, 8),
+        (4012, 9),
+    ];
+    page_with(alloc, &bytes)
 }
 
 fn to(page: u64, slot: u16) -> TextRef {
@@ -35,7 +50,7 @@ fn to(page: u64, slot: u16) -> TextRef {
 }
 
 // Pages 3 and 4, of which the first leads to the second, and the second where it is told.
-fn two_pages(alloc: Global, kind: u8, length: u16, next: TextRef) -> Result<PageSet, NoMemory> {
+fn two_pages(alloc: Global, kind: u8, length: u8, next: TextRef) -> Result<PageSet, NoMemory> {
     let mut set = PageSet::new(alloc);
     set.put(id(3), text_page(alloc, 5, 13, to(4, 0))?)?;
     set.put(id(4), text_page(alloc, kind, length, next)?)?;
@@ -77,27 +92,14 @@ fn pieces_that_lead_back_or_outside_are_damaged(rt: HostRuntime) -> Result<(), F
 }
 
 // A head with a schema page 1, whose two entries have names of 2 bytes and lead on to page 2, with one entry.
-fn schema_pages(alloc: Global, next: u64) -> Result<PageSet, NoMemory> {
+fn schema_pages(alloc: Global, next: u8) -> Result<PageSet, NoMemory> {
+    let head = [(0, 2), (9, 9), (17, 1)];
+    let first = [(0, 3), (3, 2), (15, 2), (19, 5), (41, 2), (47, 6)];
+    let second = [(0, 3), (3, 1), (15, next), (19, 7)];
     let mut set = PageSet::new(alloc);
-    let mut head = Draft::zero(alloc)?;
-    head.write_u8(0, 2);
-    head.write_u64(2, 9);
-    head.write_u64(10, 1);
-    set.put(id(0), Page::of(alloc, head)?)?;
-    let mut first = Draft::zero(alloc)?;
-    first.write_u8(0, 3);
-    first.write_u16(2, 2);
-    first.write_u64(8, 2);
-    first.write_u32(16, 5);
-    first.write_u8(41, 2);
-    first.write_u32(44, 6);
-    set.put(id(1), Page::of(alloc, first)?)?;
-    let mut second = Draft::zero(alloc)?;
-    second.write_u8(0, 3);
-    second.write_u16(2, 1);
-    second.write_u64(8, next);
-    second.write_u32(16, 7);
-    set.put(id(2), Page::of(alloc, second)?)?;
+    set.put(id(0), page_with(alloc, &head)?)?;
+    set.put(id(1), page_with(alloc, &first)?)?;
+    set.put(id(2), page_with(alloc, &second)?)?;
     Ok(set)
 }
 

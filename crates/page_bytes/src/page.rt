@@ -2,7 +2,7 @@
 ghost use Rattle.std.specs.Prelude.{◌≡◌, IfOk, replicate, length};
 
 use crate::end::NoMemory;
-use std::alloc::Global;
+use std::alloc::{AllocError, Global};
 use std::marker::Model;
 use std::sync::Arc;
 
@@ -42,9 +42,17 @@ impl Model for Draft {
 impl Page {
     /// The page with the draft's bytes.
     pub fn of(alloc: Global, draft: Draft) -> Result<Page, NoMemory>
-        ensures { IfOk result (λ p. p ≡ draft) }
+        ensures bytes { IfOk result (λ p. p ≡ draft) }
+        ensures long { IfOk result (λ p. length p ≡ 4096) }
     {
-        match Arc::new(alloc, *draft.bytes) {
+        Page::with_bytes(alloc, draft.bytes())
+    }
+
+    fn with_bytes(alloc: Global, bytes: &[u8; 4096]) -> Result<Page, NoMemory>
+        ensures bytes { IfOk result (λ p. p ≡ bytes.now) }
+        ensures long { IfOk result (λ p. length p ≡ 4096) }
+    {
+        match Arc::new(alloc, *bytes) {
             Ok(bytes) => Ok(Page { bytes }),
             Err(_) => Err(NoMemory),
         }
@@ -65,6 +73,26 @@ impl Page {
             Ok(bytes) => Ok(Page { bytes }),
             Err(_) => Err(NoMemory),
         }
+    }
+}
+
+impl Clone for Page {
+    ghost is_clone = { λ page copy. copy ≡ page };
+
+    // The bytes are shared.
+    fn clone(&self) -> Result<Page, AllocError> {
+        let bytes = Arc::try_clone(&self.bytes)?;
+        Ok(Page { bytes })
+    }
+}
+
+impl Clone for Draft {
+    ghost is_clone = { λ draft copy. copy ≡ draft };
+
+    // The bytes are copied.
+    fn clone(&self) -> Result<Draft, AllocError> {
+        let bytes = self.bytes.clone()?;
+        Ok(Draft { bytes })
     }
 }
 

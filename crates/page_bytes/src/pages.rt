@@ -1,5 +1,5 @@
 //! What page calls read from: a set of pages, and what is known as absent.
-ghost use Rattle.std.specs.Prelude.{◌≡◌, OnOk, OnErr};
+ghost use Rattle.std.specs.Prelude.{◌≡◌, IfOk, OnOk, OnErr};
 ghost use Rattle.std.specs.FinMap as map;
 
 use crate::end::NoMemory;
@@ -59,6 +59,14 @@ impl PageSet {
         ensures err { OnErr result (self.new ≡ self.old) }
     {
         self.pages.insert(id, page)
+    }
+
+    /// The same set. Its pages are shared, and none is copied.
+    pub fn copy(&self) -> Result<PageSet, NoMemory>
+        ensures { IfOk result (λ copy. copy ≡ self.now) }
+    {
+        let pages = self.pages.copy()?;
+        Ok(PageSet { pages })
     }
 
     pub(crate) fn into_table(self) -> PageTable<Page>

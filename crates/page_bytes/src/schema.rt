@@ -7,20 +7,16 @@ ghost use Rattle.page_bytes.specs.SchemaFound.{looked_as};
 
 use crate::end::{NoMemory, PageEnd};
 use crate::fields::{read_u8, read_u16, read_u32, read_u64};
+use crate::head::read_head;
 use crate::ids::{Addr, PageId, SchemaId, Space};
 use crate::links::ask;
 use crate::pages::Pages;
 use std::alloc::Global;
 
-/// The kind of a head.
-const HEAD_KIND: u8 = 2;
-
 /// The kind of a schema page.
 const SCHEMA_KIND: u8 = 3;
 
-/// Where a head has its next page number, and the first schema page.
-const NEXT_PAGE_AT: usize = 2;
-
+/// Where a head has the number of the first schema page.
 const FIRST_SCHEMA_PAGE_AT: usize = 10;
 
 /// Where a schema page has the number of its entries, the next schema page, and its entries.
@@ -112,11 +108,7 @@ fn look_on<P: Pages>(
 fn first_page<P: Pages>(pages: &P, space: Space) -> Result<u64, PageEnd>
     ensures { result ≡ first_in (P.known pages.now) space }
 {
-    let id = PageId { space, number: 0 };
-    let head = ask(pages, id, id)?;
-    if read_u8(head, 0) != HEAD_KIND || read_u64(head, NEXT_PAGE_AT) == 0 {
-        return Err(PageEnd::Damaged { page: id });
-    }
+    let head = read_head(pages, space)?;
     Ok(read_u64(head, FIRST_SCHEMA_PAGE_AT))
 }
 

@@ -7,7 +7,7 @@ ghost use Rattle.page_bytes.specs.Changes.{listed};
 use crate::end::NoMemory;
 use crate::ids::{PageId, Space};
 use crate::lists::PageChange;
-use crate::page::Page;
+use crate::page::{Draft, Page};
 use std::alloc::{AllocError, Global};
 use std::collections::BTreeMap;
 use std::marker::Model;
@@ -100,9 +100,43 @@ impl<V: Drop> PageTable<V> {
     }
 }
 
+impl PageTable<Draft> {
+    /// The same table. The drafts' bytes are copied.
+    pub fn copy(&self) -> Result<PageTable<Draft>, NoMemory>
+        ensures { IfOk result (λ copy. copy ≡ self.now) }
+    {
+        match self.entries.clone() {
+            Ok(entries) => Ok(PageTable { entries }),
+            Err(_) => Err(NoMemory),
+        }
+    }
+}
+
+impl PageTable<()> {
+    /// The same table.
+    pub fn copy(&self) -> Result<PageTable<()>, NoMemory>
+        ensures { IfOk result (λ copy. copy ≡ self.now) }
+    {
+        match self.entries.clone() {
+            Ok(entries) => Ok(PageTable { entries }),
+            Err(_) => Err(NoMemory),
+        }
+    }
+}
+
 impl PageTable<Page> {
     ghost use Rattle.page_bytes.specs.Overlay.{overlay};
     ghost use Rattle.page_bytes.specs.declared.ids.PageId.{PageId};
+
+    /// The same table. Its pages are shared.
+    pub fn copy(&self) -> Result<PageTable<Page>, NoMemory>
+        ensures { IfOk result (λ copy. copy ≡ self.now) }
+    {
+        match self.entries.clone() {
+            Ok(entries) => Ok(PageTable { entries }),
+            Err(_) => Err(NoMemory),
+        }
+    }
 
     /// Puts in each page that isn't there yet.
     pub fn add(&mut self, more: PageTable<Page>) -> Result<(), NoMemory>
@@ -208,6 +242,16 @@ impl SpaceSet {
     {
         match self.spaces.insert(space, ()) {
             Ok(_) => Ok(()),
+            Err(_) => Err(NoMemory),
+        }
+    }
+
+    /// The same set.
+    pub fn copy(&self) -> Result<SpaceSet, NoMemory>
+        ensures { IfOk result (λ copy. copy ≡ self.now) }
+    {
+        match self.spaces.clone() {
+            Ok(spaces) => Ok(SpaceSet { spaces }),
             Err(_) => Err(NoMemory),
         }
     }

@@ -1,7 +1,7 @@
 //! Texts, which stand in pieces on text pages.
 ghost use Rattle.std.specs.Prelude.{◌≡◌, ◌<◌, ◌⊎◌, ◌++◌, IfOk, OnOk, IsTrue, vec_len};
 ghost use Rattle.std.specs.Result.{result_map_both};
-ghost use Rattle.page_bytes.specs.Texts.{piece_page, piece_text, next_piece, is_text_page, has_piece, is_piece, IsTextAt};
+ghost use Rattle.page_bytes.specs.Texts.{piece_page, piece_text, next_piece, is_readable, has_piece, is_piece, IsTextAt};
 
 use crate::end::{NoMemory, PageEnd};
 use crate::fields::{read_bytes, read_u8, read_u16, read_u64};
@@ -63,9 +63,9 @@ const TEXT_KIND: u8 = 5;
 /// Where a text page has the number of its slots.
 const SLOTS_AT: usize = 2;
 
-/// Whether a page passes the test of a text page.
-fn tests_text_page(page: &[u8; 4096]) -> bool
-    ensures { result ≡ is_text_page page.now }
+/// Whether a page passes the test of a text page that is read.
+fn tests_readable(page: &[u8; 4096]) -> bool
+    ensures { result ≡ is_readable page.now }
 {
     let slots = read_u16(page, SLOTS_AT) as usize;
     read_u8(page, 0) == TEXT_KIND && 8 + slots * 4 <= 4096
@@ -73,7 +73,7 @@ fn tests_text_page(page: &[u8; 4096]) -> bool
 
 /// Whether a text page has a piece in a slot.
 fn tests_slot(page: &[u8; 4096], slot: u16) -> bool
-    requires { IsTrue (is_text_page page.now) }
+    requires { IsTrue (is_readable page.now) }
     ensures { result ≡ has_piece slot page.now }
 {
     if slot >= read_u16(page, SLOTS_AT) {
@@ -84,7 +84,7 @@ fn tests_slot(page: &[u8; 4096], slot: u16) -> bool
 
 /// Whether the piece in a slot lies where pieces may.
 fn tests_piece(page: &[u8; 4096], slot: u16) -> bool
-    requires text_page { IsTrue (is_text_page page.now) }
+    requires text_page { IsTrue (is_readable page.now) }
     requires slot { IsTrue (has_piece slot page.now) }
     ensures { result ≡ is_piece slot page.now }
 {
@@ -102,7 +102,7 @@ fn page_of_piece<P: Pages>(
     at: TextRef,
 ) -> Result<&[u8; 4096], PageEnd>
     ensures page { result_map_both (λ page. page.now) (λ end. end) result ≡ piece_page (P.known pages.now) space from at }
-    ensures text_page { IfOk result (λ page. IsTrue (is_text_page page.now)) }
+    ensures text_page { IfOk result (λ page. IsTrue (is_readable page.now)) }
     ensures slot { IfOk result (λ page. IsTrue (has_piece at.slot page.now)) }
     ensures piece { IfOk result (λ page. IsTrue (is_piece at.slot page.now)) }
 {
@@ -115,7 +115,7 @@ fn page_of_piece<P: Pages>(
         number: at.page,
     };
     let page = ask(pages, from, id)?;
-    if !tests_text_page(page) {
+    if !tests_readable(page) {
         return Err(PageEnd::Damaged { page: id });
     }
     if !tests_slot(page, at.slot) {
@@ -129,7 +129,7 @@ fn page_of_piece<P: Pages>(
 
 /// The reference to the piece behind a piece.
 fn reference_behind(page: &[u8; 4096], slot: u16) -> TextRef
-    requires text_page { IsTrue (is_text_page page.now) }
+    requires text_page { IsTrue (is_readable page.now) }
     requires slot { IsTrue (has_piece slot page.now) }
     requires piece { IsTrue (is_piece slot page.now) }
     ensures { result ≡ next_piece slot page.now }
@@ -143,7 +143,7 @@ fn reference_behind(page: &[u8; 4096], slot: u16) -> TextRef
 
 /// Adds a piece's bytes to a text.
 fn add_piece(page: &[u8; 4096], slot: u16, text: &mut Vec<u8>) -> Result<(), NoMemory>
-    requires text_page { IsTrue (is_text_page page.now) }
+    requires text_page { IsTrue (is_readable page.now) }
     requires slot { IsTrue (has_piece slot page.now) }
     requires piece { IsTrue (is_piece slot page.now) }
     ensures ok { OnOk result (text.new.items ≡ text.old.items ++ piece_text slot page.now) }

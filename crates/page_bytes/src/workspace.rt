@@ -6,7 +6,7 @@ ghost use Rattle.std.specs.List.Sorted.{IsStrictlySortedBy};
 ghost use Rattle.page_bytes.specs.declared.ids.PageId.{PageId};
 ghost use Rattle.page_bytes.specs.Order.{page_cmp};
 ghost use Rattle.page_bytes.specs.Known.{is_unknown};
-ghost use Rattle.page_bytes.specs.Changes.{ids_of, change_of, IsChange};
+ghost use Rattle.page_bytes.specs.Changes.{ids_of, change_of, IsChange, IsLongChange};
 ghost use Rattle.page_bytes.specs.Head.{head_of, next_page, LAST_PAGE};
 ghost use Rattle.page_bytes.specs.Work.{work_over, without_page, with_space, without_space, first_bytes, fresh_page, with_fresh, with_pages};
 ghost use Rattle.page_bytes.specs.Refusal.{RefusedBy, edit_refusal, free_refusal, fresh_refusal};
@@ -15,7 +15,8 @@ ghost use Rattle.std.specs.Option.{option_or};
 
 use crate::changes::{Left, changes};
 use crate::end::{NoMemory, PageEnd};
-use crate::fields::{read_u8, read_u64};
+use crate::fields::read_u64;
+use crate::head::{NEXT_PAGE_AT, tests_head};
 use crate::ids::{PageId, Space};
 use crate::lists::ChangeList;
 use crate::page::{Draft, Page};
@@ -23,12 +24,6 @@ use crate::pages::{PageSet, Pages};
 use crate::table::{PageTable, SpaceSet};
 use std::alloc::Global;
 use std::marker::Model;
-
-/// The kind of a head, its byte 0.
-const HEAD_KIND: u8 = 2;
-
-/// Where a head has its next page number, of eight bytes.
-const NEXT_PAGE_AT: usize = 2;
 
 /// Pages below, and over them what has changed since: drafts of pages, pages that are gone, and spaces of which only
 /// the drafts are there.
@@ -210,17 +205,27 @@ impl Workspace {
             Ok(bytes) => bytes,
             Err(end) => return Err(end),
         };
+        if !tests_head(bytes) {
+            return Err(PageEnd::Damaged { page: head });
+        }
         let number = read_u64(bytes, NEXT_PAGE_AT);
-        if read_u8(bytes, 0) != HEAD_KIND {
-            return Err(PageEnd::Damaged { page: head });
-        }
-        if number == 0 {
-            return Err(PageEnd::Damaged { page: head });
-        }
         if number == u64::MAX {
             return Err(PageEnd::Spent { number });
         }
         Ok(number)
+    }
+
+    /// The same workspace. Its pages are shared; of each page that has changed the draft's bytes are copied.
+    pub fn copy(&self) -> Result<Workspace, NoMemory>
+        ensures { IfOk result (λ copy. copy ≡ self.now) }
+    {
+        Ok(Workspace {
+            alloc: self.alloc,
+            below: self.below.copy()?,
+            drafts: self.drafts.copy()?,
+            gone: self.gone.copy()?,
+            whole: self.whole.copy()?,
+        })
     }
 
     /// The pages that aren't what they were below, each with what it is now, in rising order. Of a dropped space none
@@ -229,6 +234,7 @@ impl Workspace {
         ensures rising { IfOk result (λ list. IsStrictlySortedBy page_cmp (ids_of list)) }
         ensures listed { IfOk result (λ list. (id : PageId) → IsChange (map.get self.below id) (map.get self.now.pages id) (change_of list id)) }
         ensures unknown { IfOk result (λ list. (id : PageId) → IsTrue (is_unknown self.now id) → change_of list id ≡ None) }
+        ensures long { IfOk result (λ list. (id : PageId) → IsLongChange (change_of list id)) }
     {
         let Workspace {
             alloc,

@@ -3,9 +3,9 @@ use Rattle.std.proofs.Common.{◌≡◌, ◌≢◌, ℕ, ◌<◌, ◌==◌, ◌&
 use Rattle.std.proofs.lemmas.Bool.{eqb-true}
 use Rattle.std.specs.FinMap as map
 use Rattle.page_bytes.specs.declared.texts.TextRef.{TextRef}
-use Rattle.text_pages.specs.Meaning.{IsForm, IsPiece, next_at, bytes_of, IsChain, joined_bytes, is_listed, IsOnceEach, TextMap, MeansTexts}
+use Rattle.text_pages.specs.Meaning.{IsForm, IsPiece, next_at, bytes_of, IsChain, joined_bytes, is_listed, IsOnceEach, TextMap, AreTexts}
 use Rattle.text_pages.specs.Keeping.{IsSame}
-use Rattle.text_pages.proofs.Passing.{first_true, second_true}
+use Rattle.page_bytes.proofs.Askings.{first_true, second_true}
 
 abbrev pub Pages : Type 0
 Pages = ℕ → Option (List ℕ)
@@ -26,7 +26,7 @@ pub record Takes (pages new : Pages) (r : TextRef) : Type 0 where
 
 -- some texts, and beside them the pieces of another one from a reference on
 pub record Loose (pages : Pages) (texts : TextMap) (at : TextRef) (text : List ℕ) : Type 0 where
-  pub means : MeansTexts pages texts
+  pub means : AreTexts pages texts
   pub pieces : List TextRef
   pub leads : IsChain pages at pieces
   pub joins : text ≡ joined_bytes pages pieces
@@ -81,7 +81,7 @@ module _ (pages : Pages) where
         let here = same r (listed_first r rs) in let rest = joined_stays rs (λ q is. same q (listed_later r rs q is)) in λ i. here.2 i ++ rest i
 
     -- texts whose pieces are as they were are there
-    pub texts_stay : (texts : TextMap) (m : MeansTexts pages texts) → IsForm new → ((at q : TextRef) → IsSome (map.get texts at) → is_listed (m.chain at) q ≡ true → IsSame pages new q) → MeansTexts new texts
+    pub texts_stay : (texts : TextMap) (m : AreTexts pages texts) → IsForm new → ((at q : TextRef) → IsSome (map.get texts at) → is_listed (m.chain at) q ≡ true → IsSame pages new q) → AreTexts new texts
     texts_stay texts m form same = record {
       form = form;
       chain = m.chain;

@@ -1,48 +1,24 @@
 -- What the calls read where the pages are in the form of texts: the head, a text page, a piece, or a page is needed.
-use Rattle.std.proofs.Common.{◌≡◌, ◌≢◌, ℕ, ◌+◌, ◌<◌, ◌≤◌, ◌==◌, ◌||◌, ◌&&◌, ◌⊎◌, inl, inr, Bool, true, false, not, nat_le, nat_lt, List, [], length, slice_index, Option, Some, None, Result, Ok, Err, refl, sym, ap, ◌∙◌, is_some, unwrap_or, subst, arith, IsTrue, if◌then◌else◌}
+use Rattle.std.proofs.Common.{◌≡◌, ◌≢◌, ℕ, ◌+◌, ◌<◌, ◌≤◌, ◌==◌, ◌&&◌, inl, Bool, true, false, not, nat_le, nat_lt, List, slice_index, Option, Some, None, Ok, refl, sym, ap, ◌∙◌, subst, arith, IsTrue, if◌then◌else◌}
 use Rattle.std.proofs.lemmas.Bool.Decides.{nat_tests}
-use Rattle.std.specs.FinMap as map
 use Rattle.page_bytes.specs.declared.ids.Space.{Space}
 use Rattle.page_bytes.specs.declared.ids.PageId.{PageId}
 use Rattle.page_bytes.specs.declared.texts.TextRef.{TextRef}
-use Rattle.page_bytes.specs.declared.end.PageEnd.{PageEnd}
-use Rattle.page_bytes.specs.declared.end.PageEnd.TheVariants.{Need, Damaged}
-use Rattle.page_bytes.specs.Head.{head_of, is_head}
-use Rattle.page_bytes.specs.Known.{Known, is_there, is_unknown}
-use Rattle.page_bytes.specs.Links.{page_in, and_then, or_damaged, asked, tested}
+use Rattle.page_bytes.specs.Head.{head_of, is_head, head_in}
+use Rattle.page_bytes.specs.Known.{Known, is_there}
+use Rattle.page_bytes.specs.Links.{page_in, and_then, asked, tested}
 use Rattle.page_bytes.specs.Texts.{TEXT_KIND, slot_count, piece_at, piece_length, has_piece}
 use Rattle.text_pages.specs.declared.forms.Tried.TheVariants.{Absent}
-use Rattle.text_pages.specs.Slots.{lowest, slots_end, is_slotted, room, place_for, may_go}
+use Rattle.text_pages.specs.Slots.{lowest, slots_end, is_writable, room, place_for, may_go}
 use Rattle.text_pages.specs.Finding.{tried_first, first_in, text_page, offered, tried_in, room_in, piece_in}
-use Rattle.page_bytes.specs.Seen.{seen, bytes}
+use Rattle.page_bytes.specs.Seen.{bytes}
 use Rattle.text_pages.specs.Meaning.{IsTextPage, HasPiece, IsSound, IsForm, IsPiece}
+use Rattle.page_bytes.proofs.Askings.{Gives, gives_then}
 use Rattle.text_pages.proofs.PageSteps.{head_is_none}
-use Rattle.text_pages.proofs.Ranges.{split}
-
--- a page is needed of which nothing is known
-abbrev pub Needs : {X : Type 0} → Known → Result X PageEnd → Type 0
-Needs k r = (id : PageId) × (r ≡ Err (Need id)) × IsTrue (is_unknown k id)
-
--- a value is given of which P holds, or a page is needed
-abbrev pub Gives : {X : Type 0} → Known → Result X PageEnd → X → Type 0 → Type 0
-Gives k r x P = ((r ≡ Ok x) × P) ⊎ Needs k r
-
-pub gives_then : {X Y : Type 0} {P Q : Type 0} (k : Known) (r : Result X PageEnd) (f : X → Result Y PageEnd) (x : X) (y : Y)
-    → Gives k r x P → (P → Gives k (f x) y Q) → Gives k (and_then r f) y Q
-gives_then {P = P} {Q = Q} k r f x y given more = split given
-    (λ is. subst (λ r. Gives k (and_then r f) y Q) (sym is.0) (more is.1))
-    (λ need. inr (need.0, ap (λ r. and_then r f) need.1, need.2))
-
--- a page's bytes, by what is known of it
-page_found : (id from : PageId) (k : Known) (page : Option (List ℕ)) (out : Bool) (all : Option (List ℕ))
-    → (not (is_some page) && out) ≡ is_unknown k id → 0 < length (unwrap_or (if not (is_some page) && out then all else page) [])
-    → Gives k (if not (is_some page) && out then Err (Need id) else or_damaged from page) (unwrap_or (if not (is_some page) && out then all else page) []) (is_some page ≡ true)
-page_found id from k (Some b) out all unknown some = inl (refl, refl)
-page_found id from k None true all unknown some = inr (id, refl, sym unknown)
-page_found id from k None false all unknown some = absurd (omega (arith, some))
+use Rattle.text_pages.proofs.Reached.{among, asked-among}
 
 -- a sound page passes the tests
-pub slotted : (page : List ℕ) → slice_index page 0 ≡ TEXT_KIND → IsSound page → is_slotted page ≡ true
+pub slotted : (page : List ℕ) → slice_index page 0 ≡ TEXT_KIND → IsSound page → is_writable page ≡ true
 slotted page kind sound = passes (slice_index page 0) (slots_end page) (lowest page) kind sound.slots sound.low
   where
     passes : (k e l : ℕ) → k ≡ 5 → e ≤ l → l ≤ 4096 → (k == 5 && nat_le e l && nat_le l 4096) ≡ true
@@ -62,52 +38,50 @@ may_go_true page slot sound has =
     passes : (e a n l : ℕ) → e ≤ a → 11 ≤ n → a + n ≤ 4096 → l ≤ a → (nat_le e a && nat_le 11 n && nat_le (a + n) 4096 && nat_le l a) ≡ true
     passes e a n l behind long within low = grind (arith, nat_tests)
 
-module _ (k : Known) (all : PageId → Option (List ℕ)) (space : Space) where
-  pub asked-is : (from : PageId) (n : ℕ) → 0 < length (bytes (seen k all space) n) → Gives k (asked k from (page_in space n)) (bytes (seen k all space) n) (IsTrue (is_there k (page_in space n)))
-  unfolding bytes
-  asked-is from n some =
-      let id = page_in space n in page_found id from k (map.get k.pages id) (not (map.contains_key k.whole space || map.contains_key k.freed id)) (all id) refl some
-
-  module _ (form : IsForm (seen k all space)) where
+module _ (set : ℕ → Bool) (k : Known) (all : PageId → Option (List ℕ)) (space : Space) where
+  module _ (form : IsForm (among set k all space)) where
     -- the page that is tried first
-    pub first-is : Gives k (first_in k space) (tried_first (bytes (seen k all space) 0)) (IsTrue (is_there k (head_of space)))
+    pub first-is : Gives k all space (first_in k space) (tried_first (bytes (among set k all space) 0)) (IsTrue (is_there k (head_of space)))
     first-is =
-        let head = bytes (seen k all space) 0 in let long = form.long in
-        gives_then k (asked k (head_of space) (head_of space)) (λ head. and_then (tested (head_of space) (is_head head) head) (λ head. Ok (tried_first head))) head _ (asked-is (head_of space) 0 (omega (arith, long)))
-        (λ there. inl (ap (λ b. and_then (if b then Ok head else Err (Damaged (head_of space))) (λ head. Ok (tried_first head))) form.head, there))
+        let head = bytes (among set k all space) 0 in let long = form.long in
+        gives_then k all space (head_in k space) (λ head. Ok (tried_first head)) head _
+        (gives_then k all space (asked k (head_of space) (head_of space)) (λ head. tested (head_of space) (is_head head) head) head head
+        (asked-among set k all space (head_of space) 0 (omega (arith, long)))
+        (λ there. inl (ap (λ b. tested (head_of space) b head) form.head, there)))
+        (λ there. inl (refl, there))
 
     -- a text page
-    pub text_page-is : (from n : ℕ) → IsTextPage (seen k all space) n → Gives k (text_page k space from n) (bytes (seen k all space) n) (IsTrue (is_there k (page_in space n)))
+    pub text_page-is : (from n : ℕ) → IsTextPage (among set k all space) n → Gives k all space (text_page k space from n) (bytes (among set k all space) n) (IsTrue (is_there k (page_in space n)))
     text_page-is from n is =
-        let page = bytes (seen k all space) n in let long = (form.sound n is).long in
-        gives_then k (asked k (page_in space from) (page_in space n)) (λ page. tested (page_in space n) (is_slotted page) page) page _ (asked-is (page_in space from) n (omega (arith, long)))
+        let page = bytes (among set k all space) n in let long = (form.sound n is).long in
+        gives_then k all space (asked k (page_in space from) (page_in space n)) (λ page. tested (page_in space n) (is_writable page) page) page _ (asked-among set k all space (page_in space from) n (omega (arith, long)))
         (λ there. inl (ap (λ b. tested (page_in space n) b page) (slotted page is (form.sound n is)), there))
 
-    text_past : (n : ℕ) → IsTextPage (seen k all space) n → (n == 0) ≡ false
-    text_past n is = past n (λ zero_is. head_is_none (bytes (seen k all space) 0) form.head (subst (IsTextPage (seen k all space)) zero_is is))
+    text_past : (n : ℕ) → IsTextPage (among set k all space) n → (n == 0) ≡ false
+    text_past n is = past n (λ zero_is. head_is_none (bytes (among set k all space) 0) form.head (subst (IsTextPage (among set k all space)) zero_is is))
       where
         past : (n : ℕ) → n ≢ 0 → (n == 0) ≡ false
         past n differ = grind (arith, nat_tests)
 
     -- what it has for a piece, and its room
-    pub tried-is : (n size : ℕ) → IsTextPage (seen k all space) n
-        → Gives k (tried_in k space n size) (offered n (place_for size (bytes (seen k all space) n)) (bytes (seen k all space) n)) (IsTrue (is_there k (page_in space n)))
+    pub tried-is : (n size : ℕ) → IsTextPage (among set k all space) n
+        → Gives k all space (tried_in k space n size) (offered n (place_for size (bytes (among set k all space) n)) (bytes (among set k all space) n)) (IsTrue (is_there k (page_in space n)))
     tried-is n size is =
-        let page = bytes (seen k all space) n in
-        subst (λ b. Gives k (if b then Ok Absent else and_then (text_page k space 0 n) (λ page. Ok (offered n (place_for size page) page))) (offered n (place_for size page) page) (IsTrue (is_there k (page_in space n)))) (sym (text_past n is))
-        (gives_then k (text_page k space 0 n) (λ page. Ok (offered n (place_for size page) page)) page _ (text_page-is 0 n is) (λ there. inl (refl, there)))
+        let page = bytes (among set k all space) n in
+        subst (λ b. Gives k all space (if b then Ok Absent else and_then (text_page k space 0 n) (λ page. Ok (offered n (place_for size page) page))) (offered n (place_for size page) page) (IsTrue (is_there k (page_in space n)))) (sym (text_past n is))
+        (gives_then k all space (text_page k space 0 n) (λ page. Ok (offered n (place_for size page) page)) page _ (text_page-is 0 n is) (λ there. inl (refl, there)))
 
-    pub room-is : (n : ℕ) → IsTextPage (seen k all space) n → Gives k (room_in k space n) (Some (room (bytes (seen k all space) n))) (Unit {0})
+    pub room-is : (n : ℕ) → IsTextPage (among set k all space) n → Gives k all space (room_in k space n) (Some (room (bytes (among set k all space) n))) (Unit {0})
     room-is n is =
-        let page = bytes (seen k all space) n in
-        subst (λ b. Gives k (if b then Ok None else and_then (text_page k space 0 n) (λ page. Ok (Some (room page)))) (Some (room page)) (Unit {0})) (sym (text_past n is))
-        (gives_then k (text_page k space 0 n) (λ page. Ok (Some (room page))) page _ (text_page-is 0 n is) (λ there. inl (refl, tt)))
+        let page = bytes (among set k all space) n in
+        subst (λ b. Gives k all space (if b then Ok None else and_then (text_page k space 0 n) (λ page. Ok (Some (room page)))) (Some (room page)) (Unit {0})) (sym (text_past n is))
+        (gives_then k all space (text_page k space 0 n) (λ page. Ok (Some (room page))) page _ (text_page-is 0 n is) (λ there. inl (refl, tt)))
 
     -- a piece
-    pub piece-is : (from : ℕ) (at : TextRef) → IsPiece (seen k all space) at → Gives k (piece_in k space from at) (bytes (seen k all space) at.page) (IsTrue (is_there k (page_in space at.page)))
+    pub piece-is : (from : ℕ) (at : TextRef) → IsPiece (among set k all space) at → Gives k all space (piece_in k space from at) (bytes (among set k all space) at.page) (IsTrue (is_there k (page_in space at.page)))
     piece-is from at is =
-        let page = bytes (seen k all space) at.page in
-        gives_then k (text_page k space from at.page) (λ page. and_then (tested (page_in space from) (has_piece at.slot page) page) (λ page. tested (page_in space at.page) (may_go at.slot page) page)) page _ (text_page-is from at.page is.0)
+        let page = bytes (among set k all space) at.page in
+        gives_then k all space (text_page k space from at.page) (λ page. and_then (tested (page_in space from) (has_piece at.slot page) page) (λ page. tested (page_in space at.page) (may_go at.slot page) page)) page _ (text_page-is from at.page is.0)
         (λ there. inl (
           ap (λ b. and_then (tested (page_in space from) b page) (λ page. tested (page_in space at.page) (may_go at.slot page) page)) (has_piece_true page at.slot is.1)
               ∙ ap (λ b. tested (page_in space at.page) b page) (may_go_true page at.slot (form.sound at.page is.0) is.1),

@@ -1,7 +1,6 @@
 pub mod NewPages
 pub mod SlotWalks
 pub mod Weights
-pub mod Steps
 pub mod PutWalks
 pub mod TakeWalks
 pub mod Passing
@@ -11,6 +10,7 @@ pub mod Lighter
 pub mod Ranges
 pub mod PageWithPiece
 pub mod PageWithoutPiece
+pub mod Reached
 pub mod Chains
 pub mod Sounds
 pub mod Places
@@ -26,3 +26,4 @@ pub mod GetTexts
 pub mod Keepings
 pub mod TextKinds
 pub mod Ownings
+pub mod Frames

@@ -7,7 +7,7 @@ use Rattle.std.specs.Cmp.{IsTotalOrder, nat_cmp_total, on_total, then_total, uns
 use Rattle.std.specs.FinMap as map
 use Rattle.page_bytes.specs.declared.texts.TextRef.{TextRef}
 use Rattle.page_bytes.specs.Seen.{bytes}
-use Rattle.text_pages.specs.Meaning.{IsTextPage, IsForm, IsPiece, IsChain, joined_bytes, is_listed, IsOnceEach, ref_cmp, TextMap, MeansTexts, IsPut}
+use Rattle.text_pages.specs.Meaning.{IsTextPage, IsForm, IsPiece, IsChain, joined_bytes, is_listed, IsOnceEach, ref_cmp, TextMap, AreTexts, with_text, IsNew}
 use Rattle.text_pages.proofs.Chains.{Pages, Loose, same_ref, same_as_itself, listed_first}
 use Rattle.text_pages.proofs.PageSteps.{head_is_none}
 
@@ -48,7 +48,7 @@ pub is_some_of : {X : Type 0} (o : Option X) (x : X) → o ≡ Some x → IsSome
 is_some_of o x is = ap is_some is
 
 -- without a text the pages mean the others
-pub means_without : (pages : Pages) (texts : TextMap) (at : TextRef) → MeansTexts pages texts → MeansTexts pages (map.remove texts at)
+pub means_without : (pages : Pages) (texts : TextMap) (at : TextRef) → AreTexts pages texts → AreTexts pages (map.remove texts at)
 means_without pages texts at m = record {
   form = m.form;
   chain = m.chain;
@@ -66,11 +66,11 @@ pub piece_past : (pages : Pages) (r : TextRef) → IsForm pages → IsPiece page
 piece_past pages r form is zero_is = head_is_none (bytes pages 0) form.head (subst (IsTextPage pages) zero_is is.0)
 
 -- the empty text stands beside all texts
-pub loose_empty : (pages : Pages) (texts : TextMap) (at : TextRef) → at.page ≡ 0 → MeansTexts pages texts → Loose pages texts at []
+pub loose_empty : (pages : Pages) (texts : TextMap) (at : TextRef) → at.page ≡ 0 → AreTexts pages texts → Loose pages texts at []
 loose_empty pages texts at none m = record { means = m; pieces = []; leads = none; joins = refl; once = tt; apart = λ other r is listed nothing. true≢false (sym nothing) }
 
 -- and a text of the map beside the others
-pub loose_text : (pages : Pages) (texts : TextMap) (at : TextRef) (text : List ℕ) → map.get texts at ≡ Some text → MeansTexts pages texts → Loose pages (map.remove texts at) at text
+pub loose_text : (pages : Pages) (texts : TextMap) (at : TextRef) (text : List ℕ) → map.get texts at ≡ Some text → AreTexts pages texts → Loose pages (map.remove texts at) at text
 unfolding means_without
 loose_text pages texts at text is m = record {
   means = means_without pages texts at m;
@@ -97,6 +97,10 @@ some_page pages texts at b bs l = from l.pieces l.leads l.joins
     from : (rs : List TextRef) → IsChain pages at rs → (b ∷ bs) ≡ joined_bytes pages rs → at.page ≢ 0
     from [] chain joins = let none : 0 < 0 = subst (λ n. 0 < n) (ap length joins) (omega arith) in absurd (omega (arith, none))
     from (r ∷ rs) chain joins = subst (λ (x : TextRef). x.page ≢ 0) (sym chain.0) (piece_past pages r l.means.form chain.1)
+
+-- a text is put, and these pages alone mean the texts with it
+abbrev pub PutAlone : Pages → TextMap → List ℕ → TextRef → Type 0
+PutAlone pages texts text at = IsNew texts text at × AreTexts pages (with_text texts at text)
 
 -- a text beside the others comes into the map
 module _ (pages : Pages) (texts : TextMap) (at : TextRef) (b : ℕ) (bs : List ℕ) (l : Loose pages texts at (b ∷ bs)) where
@@ -163,8 +167,8 @@ module _ (pages : Pages) (texts : TextMap) (at : TextRef) (b : ℕ) (bs : List �
       new_or_old : (q : TextRef) (c : Bool) → is_same q at ≡ c → is_listed (if is_same q at then l.pieces else l.means.chain q) r ≡ true → is_listed (if c then l.pieces else l.means.chain q) r ≡ true
       new_or_old q c same listed = subst (λ c. is_listed (if c then l.pieces else l.means.chain q) r ≡ true) same listed
 
-  pub means_more : MeansTexts pages (map.insert texts at (b ∷ bs))
+  pub means_more : AreTexts pages (map.insert texts at (b ∷ bs))
   means_more = record { form = l.means.form; chain = chains; leads = leads_more; joins = joins_more; once = once_more; apart = apart_more }
 
-  pub text_put : IsPut pages texts (b ∷ bs) at
+  pub text_put : PutAlone pages texts (b ∷ bs) at
   text_put = let past = some_page pages texts at b bs l in ((omega (arith, past), is_new), means_more)

@@ -5,7 +5,6 @@ use Rattle.page_bytes.specs.declared.ids.Space.{Space}
 use Rattle.page_bytes.specs.declared.ids.PageId.{PageId}
 use Rattle.page_bytes.specs.declared.texts.TextRef.{TextRef}
 use Rattle.page_bytes.specs.declared.end.PageEnd.{PageEnd}
-use Rattle.page_bytes.specs.Answers.{unless}
 use Rattle.page_bytes.specs.Fields.{with_field}
 use Rattle.page_bytes.specs.Head.{head_of, with_next_page}
 use Rattle.page_bytes.specs.Links.{page_in, and_then}
@@ -14,13 +13,13 @@ use Rattle.page_bytes.specs.Refusal.{fresh_refusal}
 use Rattle.page_bytes.specs.Seen.{seen}
 use Rattle.page_bytes.specs.Texts.{TEXT_KIND}
 use Rattle.page_bytes.specs.Work.{Work, with_page, without_page, with_fresh, first_bytes, next_in, zeros}
-use Rattle.page_bytes.proofs.Owning.{own_more, own_twice, own_behind, own_page, own_freed, own_field, own_fresh, Stays, stays_page, stays_twice, stays_fresh}
+use Rattle.page_bytes.proofs.Owning.{own_more, own_twice, own_behind, own_page, own_freed, own_field, own_fresh, on_page as in_head, Stays, stays_page, stays_twice, stays_fresh}
 use Rattle.page_bytes.proofs.PageWrites.{next_positive, get_with_page, get_head_without, get_head_beside}
 use Rattle.page_bytes.proofs.SeenPages.{page-first}
 use Rattle.text_pages.specs.declared.forms.Place.{Place}
 use Rattle.text_pages.specs.declared.forms.Tried.{Tried}
 use Rattle.text_pages.specs.declared.forms.Tried.TheVariants.{Absent, Full, Fits}
-use Rattle.text_pages.specs.Slots.{is_slotted, place_for, with_piece, page_with_piece, hole_of, closed}
+use Rattle.text_pages.specs.Slots.{is_writable, place_for, with_piece, page_with_piece, hole_of, closed}
 use Rattle.text_pages.specs.Finding.{first_in, text_page, offered, tried_in, is_roomier}
 use Rattle.text_pages.specs.Putting.{with_first, with_piece_on, with_new_page, room_left, new_piece_in, put_on, piece_put_in}
 use Rattle.text_pages.specs.Taking.{with_hole, piece_taken_in}
@@ -28,9 +27,9 @@ use Rattle.text_pages.specs.Inside.{IsLong, IsFirstLong}
 use Rattle.text_pages.specs.Keeping.{texts_own}
 use Rattle.text_pages.proofs.Heads.{raised_long}
 use Rattle.text_pages.proofs.TextKinds.{IsOfText, of_piece, of_new_page, of_closed}
-use Rattle.text_pages.proofs.Passing.{not_none, slotted_is}
+use Rattle.page_bytes.proofs.Askings.{not_none, both_gave, one_value, unless_gave}
+use Rattle.text_pages.proofs.Passing.{slotted_is}
 use Rattle.text_pages.proofs.Places.{place_within}
-use Rattle.text_pages.proofs.Steps.{both_gave, one_value}
 use Rattle.text_pages.proofs.TakeCases.{slotted_there, IsTested, hole_inside, long_bytes, EachCase, taken_case}
 
 -- a page that is placed on was tested, and has the place
@@ -38,7 +37,7 @@ record IsOffered (w : Work) (space : Space) (n size : ℕ) (place : Place) : Typ
   positive : 0 < n
   page : List ℕ
   there : map.get w.now.pages (page_in space n) ≡ Some page
-  slotted : is_slotted page ≡ true
+  slotted : is_writable page ≡ true
   fits : place_for size page ≡ Some place
 
 offered_is : (w : Work) (space : Space) (n size : ℕ) (place : Place) → tried_in w.now space n size ≡ Ok (Fits place) → IsOffered w space n size place
@@ -55,11 +54,6 @@ offered_is w space n size place is = at (n == 0) refl is
         let tested = slotted_there w.now space 0 n found.0 found.1.0 in
         record { positive = not_none n (ap not some); page = found.0; there = tested.0; slotted = tested.1; fits = placed (place_for size found.0) found.0 found.1.1 }
 
--- what was given where nothing was refused
-unless_gave : {X : Type 0} (refusal : Option PageEnd) (x y : X) → unless refusal x ≡ Ok y → (refusal ≡ None) × (x ≡ y)
-unless_gave (Some end) x y is = cc
-unless_gave None x y is = (refl, (cc))
-
 module _ (all : PageId → Option (List ℕ)) (space : Space) where
   abbrev Owned : ℕ → Work → Work → Type 0
   Owned most w new = KeepsToOwn texts_own most w new all space
@@ -72,22 +66,22 @@ module _ (all : PageId → Option (List ℕ)) (space : Space) where
   first_stays w x = stays_page all space w 0 (with_field 8 (first_bytes w.now (head_of space)) 26 x)
 
   -- a page that was tested is one of the texts'
-  was_own : (w : Work) (n : ℕ) (page : List ℕ) → map.get w.now.pages (page_in space n) ≡ Some page → is_slotted page ≡ true → HasOwnPage texts_own (seen w.now all space n)
+  was_own : (w : Work) (n : ℕ) (page : List ℕ) → map.get w.now.pages (page_in space n) ≡ Some page → is_writable page ≡ true → HasOwnPage texts_own (seen w.now all space n)
   was_own w n page is slotted =
       let first : first_bytes w.now (page_in space n) ≡ page = ap (λ o. unwrap_or o zeros) is in
       let known : seen w.now all space n ≡ Some page = page-first w.now all space n (ap is_some is) ∙ (λ i. Some (first i)) in
       subst (HasOwnPage texts_own) (sym known) (eq-eqb (slice_index page 0) TEXT_KIND (slotted_is page slotted).0)
 
   -- so are its bytes, which an edit begins with
-  first_of_text : (w : Work) (n : ℕ) (page : List ℕ) → map.get w.now.pages (page_in space n) ≡ Some page → is_slotted page ≡ true → IsLong w.now (page_in space n) → IsOfText (first_bytes w.now (page_in space n))
+  first_of_text : (w : Work) (n : ℕ) (page : List ℕ) → map.get w.now.pages (page_in space n) ≡ Some page → is_writable page ≡ true → IsLong w.now (page_in space n) → IsOfText (first_bytes w.now (page_in space n))
   first_of_text w n page is slotted long = record {
     long = long;
-    kind = ap (λ (o : Option (List ℕ)). slice_index (unwrap_or o zeros) 0) is ∙ (slotted_is page slotted).0;
+    kind_is = ap (λ (o : Option (List ℕ)). slice_index (unwrap_or o zeros) 0) is ∙ (slotted_is page slotted).0;
   }
 
   -- another page is tried first
   first_own : (w : Work) (x : ℕ) (head : List ℕ) → map.get w.now.pages (head_of space) ≡ Some head → length head ≡ 4096 → Owned 0 w (with_first w space x)
-  first_own w x head is long = own_field texts_own all space w 8 26 x (ap is_some is) (ap (λ (o : Option (List ℕ)). length (unwrap_or o zeros)) is ∙ long) (lit≤ tt) (lit≤ tt) (λ at n beside. beside.0)
+  first_own w x head is long = own_field texts_own all space w 8 26 x (ap is_some is) (ap (λ (o : Option (List ℕ)). length (unwrap_or o zeros)) is ∙ long) (lit≤ tt) (lit≤ tt) (λ at n beside. in_head 0 beside.0)
 
   -- a piece is taken away
   module _ (w : Work) (at : TextRef) (past : 0 < at.page) (long_head : IsLong w.now (head_of space)) (long_page : IsLong w.now (page_in space at.page)) where
@@ -98,7 +92,7 @@ module _ (all : PageId → Option (List ℕ)) (space : Space) where
         let slotted = slotted_is page t.slotted in let was = was_own w at.page page t.there t.slotted in
         let is = of_closed hole (hole_inside w.now space at page t) (omega (arith, slotted)) (first_bytes w.now id) (first_of_text w at.page page t.there t.slotted long_page) in
         let gone : Owned 0 w freed = own_freed texts_own all space w at.page past was in
-        let less : Owned 0 w holed = own_page texts_own all space w at.page (closed hole (first_bytes w.now id)) past was (eq-eqb (slice_index (closed hole (first_bytes w.now id)) 0) TEXT_KIND is.kind) in
+        let less : Owned 0 w holed = own_page texts_own all space w at.page (closed hole (first_bytes w.now id)) past was (eq-eqb (slice_index (closed hole (first_bytes w.now id)) 0) TEXT_KIND is.kind_is) in
         let forgotten = first_own freed 0 head (get_head_without w space at.page past ∙ there) long in
         let renamed = first_own holed at.page head (get_head_beside w space at.page (closed hole (first_bytes w.now id)) past ∙ there) long in
         record {
@@ -118,7 +112,7 @@ module _ (all : PageId → Option (List ℕ)) (space : Space) where
         let within = place_within o.page (10 + length text) place slotted.2 (omega arith) o.fits in
         let is = of_piece place next text (first_bytes w.now id) (first_of_text w n o.page o.there o.slotted long) within.0 within.1 within.2 in (
           own_more texts_own all space w (with_piece_on w space n place next text) 0 1 (lit≤ tt)
-              (own_page texts_own all space w n (with_piece place next text (first_bytes w.now id)) o.positive (was_own w n o.page o.there o.slotted) (eq-eqb (slice_index (with_piece place next text (first_bytes w.now id)) 0) TEXT_KIND is.kind)),
+              (own_page texts_own all space w n (with_piece place next text (first_bytes w.now id)) o.positive (was_own w n o.page o.there o.slotted) (eq-eqb (slice_index (with_piece place next text (first_bytes w.now id)) 0) TEXT_KIND is.kind_is)),
           stays_page all space w n (with_piece place next text (first_bytes w.now id)),
         )
 
@@ -131,7 +125,7 @@ module _ (all : PageId → Option (List ℕ)) (space : Space) where
         let n = next_in w space in let fresh = with_fresh w space in let is = of_new_page next text short in
         let head = with_next_page (first_bytes w.now (head_of space)) (n + 1) in
         let here : map.get made.now.pages (head_of space) ≡ Some head = get_head_beside fresh space n (page_with_piece next text) (next_positive w space none) ∙ get_with_page (with_page w (page_in space n) zeros) (head_of space) head in
-        let more : Owned 1 w made = own_fresh texts_own all space w (page_with_piece next text) none fits long_head (eq-eqb (slice_index (page_with_piece next text) 0) TEXT_KIND is.kind) in
+        let more : Owned 1 w made = own_fresh texts_own all space w (page_with_piece next text) none fits long_head (eq-eqb (slice_index (page_with_piece next text) 0) TEXT_KIND is.kind_is) in
         let named = first_own made n head here (raised_long (first_bytes w.now (head_of space)) long_head (n + 1)) in
         let stays = stays_fresh all space w (page_with_piece next text) in
         elim b as (λ b. Puts w (if b then with_first made space (next_in w space) else made)) [

@@ -13,7 +13,7 @@ use Rattle.text_pages.proofs.Chains.{Pages, Puts, Takes}
 use Rattle.text_pages.specs.Keeping.{IsSame}
 use Rattle.text_pages.proofs.PageWithPiece as into
 use Rattle.text_pages.proofs.PageWithoutPiece as out
-use Rattle.text_pages.proofs.Passing.{first_true, second_true}
+use Rattle.page_bytes.proofs.Askings.{first_true, second_true}
 use Rattle.text_pages.proofs.Ranges.{split}
 use Rattle.text_pages.proofs.Sounds.{same_or_not, IsOpen, sound_with, has_new, sound_without}
 

@@ -1,23 +1,12 @@
 -- What the tests of a text page say, as facts.
-use Rattle.std.proofs.Common.{◌≡◌, ℕ, zero, suc, ◌+◌, ◌<◌, ◌≤◌, ◌==◌, ◌&&◌, Bool, true, false, not, nat_le, nat_lt, List, slice_index, refl, sym, true≢false, arith}
+use Rattle.std.proofs.Common.{◌≡◌, ℕ, ◌+◌, ◌<◌, ◌≤◌, ◌==◌, ◌&&◌, true, not, nat_le, nat_lt, List, slice_index}
 use Rattle.std.proofs.lemmas.Bool.{ltb-true, leb-true, eqb-true}
+use Rattle.page_bytes.proofs.Askings.{first_true, second_true, not_none}
 use Rattle.page_bytes.specs.Texts.{slot_count, piece_at, piece_length, has_piece}
-use Rattle.text_pages.specs.Slots.{lowest, slots_end, is_slotted, may_go}
-
-pub first_true : (a b : Bool) → (a && b) ≡ true → a ≡ true
-first_true true b is = refl
-first_true false b is = is
-
-pub second_true : (a b : Bool) → (a && b) ≡ true → b ≡ true
-second_true true b is = is
-second_true false b is = absurd (true≢false (sym is))
-
-pub not_none : (n : ℕ) → not (n == 0) ≡ true → 0 < n
-not_none zero is = absurd (true≢false (sym is))
-not_none (suc n) is = omega arith
+use Rattle.text_pages.specs.Slots.{lowest, slots_end, is_writable, may_go}
 
 module _ (page : List ℕ) where
-  pub slotted_is : is_slotted page ≡ true → (slice_index page 0 ≡ 5) × (slots_end page ≤ lowest page) × (lowest page ≤ 4096)
+  pub slotted_is : is_writable page ≡ true → (slice_index page 0 ≡ 5) × (slots_end page ≤ lowest page) × (lowest page ≤ 4096)
   slotted_is is =
       let five = slice_index page 0 == 5 in let slots = nat_le (slots_end page) (lowest page) in let low = nat_le (lowest page) 4096 in
       (eqb-true (slice_index page 0) 5 (first_true five slots (first_true (five && slots) low is)), leb-true (slots_end page) (lowest page) (second_true five slots (first_true (five && slots) low is)), leb-true (lowest page) 4096 (second_true (five && slots) low is))

@@ -4,39 +4,45 @@ use Rattle.std.specs.FinMap as map
 use Rattle.page_bytes.specs.declared.ids.Space.{Space}
 use Rattle.page_bytes.specs.declared.ids.PageId.{PageId}
 use Rattle.page_bytes.specs.declared.texts.TextRef.{TextRef}
-use Rattle.page_bytes.specs.Head.{head_of, is_head}
+use Rattle.page_bytes.specs.Head.{head_of, is_head, head_in}
 use Rattle.page_bytes.specs.Known.{Known}
 use Rattle.page_bytes.specs.Links.{page_in, and_then, asked, tested}
 use Rattle.page_bytes.specs.Texts.{has_piece}
 use Rattle.page_bytes.specs.Work.{Work, without_page, zeros}
-use Rattle.text_pages.specs.Slots.{is_slotted, hole_of, may_go}
+use Rattle.text_pages.specs.Slots.{is_writable, hole_of, may_go}
 use Rattle.text_pages.specs.Finding.{tried_first, first_in, room_in, is_roomier, text_page, piece_in}
 use Rattle.text_pages.specs.Putting.{with_first}
 use Rattle.text_pages.specs.Taking.{leaving_of, leaving_in, page_freed_in, roomier_in, with_hole, hole_made_in, piece_gone_in, piece_taken_in}
 use Rattle.text_pages.specs.Inside.{IsLong, IsHole}
-use Rattle.text_pages.proofs.Steps.{both_gave, test_passed, asked_there, one_value}
+use Rattle.page_bytes.proofs.Askings.{both_gave, test_passed, asked_there, one_value}
 use Rattle.text_pages.proofs.Passing.{slotted_is, has_piece_is, may_go_is}
 
 -- a head that was tested is there
 pub first_there : (k : Known) (space : Space) (n : ℕ) → first_in k space ≡ Ok n → (head : List ℕ) × ((map.get k.pages (head_of space) ≡ Some head) × (n ≡ tried_first head) × (is_head head ≡ true))
 first_there k space n is =
-    let asked_is = both_gave (asked k (head_of space) (head_of space)) (λ head. and_then (tested (head_of space) (is_head head) head) (λ head. Ok (tried_first head))) n is in
-    let tested_is = both_gave (tested (head_of space) (is_head asked_is.0) asked_is.0) (λ head. Ok (tried_first head)) n asked_is.1.1 in
-    let passed = test_passed (head_of space) (is_head asked_is.0) asked_is.0 tested_is.0 tested_is.1.0 in
-    (asked_is.0, (asked_there k (head_of space) (head_of space) asked_is.0 asked_is.1.0, sym (one_value (tried_first tested_is.0) n tested_is.1.1) ∙ ap tried_first (sym passed.1), passed.0))
+    let whole = both_gave (head_in k space) (λ head. Ok (tried_first head)) n is in
+    let asked_is = both_gave (asked k (head_of space) (head_of space)) (λ head. tested (head_of space) (is_head head) head) whole.0 whole.1.0 in
+    let passed = test_passed (head_of space) (is_head asked_is.0) asked_is.0 whole.0 asked_is.1.1 in (
+      asked_is.0,
+      (
+        asked_there k (head_of space) (head_of space) asked_is.0 asked_is.1.0,
+        sym (one_value (tried_first whole.0) n whole.1.1) ∙ ap tried_first (sym passed.1),
+        passed.0,
+      ),
+    )
 
 -- a text page that was tested is there
-pub slotted_there : (k : Known) (space : Space) (from number : ℕ) (page : List ℕ) → text_page k space from number ≡ Ok page → (map.get k.pages (page_in space number) ≡ Some page) × (is_slotted page ≡ true)
+pub slotted_there : (k : Known) (space : Space) (from number : ℕ) (page : List ℕ) → text_page k space from number ≡ Ok page → (map.get k.pages (page_in space number) ≡ Some page) × (is_writable page ≡ true)
 slotted_there k space from number page is =
     let id = page_in space number in
-    let found = both_gave (asked k (page_in space from) id) (λ page. tested id (is_slotted page) page) page is in
-    let slotted = test_passed id (is_slotted found.0) found.0 page found.1.1 in
-    (asked_there k (page_in space from) id found.0 found.1.0 ∙ (λ i. Some (slotted.1 i)), ap is_slotted (sym slotted.1) ∙ slotted.0)
+    let found = both_gave (asked k (page_in space from) id) (λ page. tested id (is_writable page) page) page is in
+    let slotted = test_passed id (is_writable found.0) found.0 page found.1.1 in
+    (asked_there k (page_in space from) id found.0 found.1.0 ∙ (λ i. Some (slotted.1 i)), ap is_writable (sym slotted.1) ∙ slotted.0)
 
 -- a page that was tested for a piece is there, with what its tests say
 pub record IsTested (k : Known) (space : Space) (at : TextRef) (page : List ℕ) : Type 0 where
   pub there : map.get k.pages (page_in space at.page) ≡ Some page
-  pub slotted : is_slotted page ≡ true
+  pub slotted : is_writable page ≡ true
   pub has : has_piece at.slot page ≡ true
   pub may : may_go at.slot page ≡ true
 
@@ -51,7 +57,7 @@ piece_there k space from at page is =
     let same = has.1 ∙ may.1 in
     record {
       there = first.0 ∙ (λ i. Some (same i));
-      slotted = ap is_slotted (sym same) ∙ first.1;
+      slotted = ap is_writable (sym same) ∙ first.1;
       has = ap (has_piece at.slot) (sym same) ∙ has.0;
       may = ap (may_go at.slot) (sym may.1) ∙ may.0;
     }

@@ -5,13 +5,13 @@ use Rattle.page_bytes.specs.declared.texts.TextRef.{TextRef}
 use Rattle.page_bytes.specs.declared.end.PageEnd.{PageEnd}
 use Rattle.page_bytes.specs.Fields.{field}
 use Rattle.page_bytes.specs.Known.{Known}
-use Rattle.page_bytes.specs.Head.{head_of, is_head}
+use Rattle.page_bytes.specs.Head.{head_in}
 use Rattle.page_bytes.specs.Links.{page_in, and_then, asked, tested}
 use Rattle.page_bytes.specs.Texts.{has_piece}
 use Rattle.text_pages.specs.declared.forms.Place.{Place}
 use Rattle.text_pages.specs.declared.forms.Tried.{Tried}
 use Rattle.text_pages.specs.declared.forms.Tried.TheVariants.{Absent, Full, Fits}
-use Rattle.text_pages.specs.Slots.{is_slotted, room, place_for, may_go}
+use Rattle.text_pages.specs.Slots.{is_writable, room, place_for, may_go}
 
 -- the text page that is tried first, as the head has it: its number, or 0
 abbrev pub tried_first : List ℕ → ℕ
@@ -19,14 +19,12 @@ tried_first head = field 8 26 head
 
 -- the head's one, once the head has passed its test
 abbrev pub first_in : Known → Space → Result ℕ PageEnd
-first_in k space =
-    and_then (asked k (head_of space) (head_of space)) (λ head.
-    and_then (tested (head_of space) (is_head head) head) (λ head. Ok (tried_first head)))
+first_in k space = and_then (head_in k space) (λ head. Ok (tried_first head))
 
 -- a text page to which the page `from` leads, once it has passed its test
 abbrev pub text_page : Known → Space → ℕ → ℕ → Result (List ℕ) PageEnd
 text_page k space from number =
-    and_then (asked k (page_in space from) (page_in space number)) (λ page. tested (page_in space number) (is_slotted page) page)
+    and_then (asked k (page_in space from) (page_in space number)) (λ page. tested (page_in space number) (is_writable page) page)
 
 -- what the page with this number has for a piece of k bytes
 abbrev pub offered : ℕ → Option Place → List ℕ → Tried

@@ -8,7 +8,7 @@ use Rattle.text_pages.specs.Meaning.{IsPiece, next_at, bytes_of, is_listed}
 
 -- what is the texts' own: the text pages, and of the head the page that is tried first
 abbrev pub texts_own : Own
-texts_own = record { is_kind = λ kind. kind == TEXT_KIND; fields = record { at = 26; width = 8 } ∷ [] }
+texts_own = record { is_kind = λ kind. kind == TEXT_KIND; fields = record { page = 0; at = 26; width = 8 } ∷ [] }
 
 -- a piece is as it was: its reference to the next one and its bytes
 abbrev pub IsSame : PagesByNumber → PagesByNumber → TextRef → Type 0

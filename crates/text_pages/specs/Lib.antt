@@ -6,3 +6,4 @@ pub mod Taking
 pub mod Reading
 pub mod Meaning
 pub mod Keeping
+pub mod Sparing

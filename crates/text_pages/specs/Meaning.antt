@@ -6,18 +6,19 @@ use Rattle.std.specs.Ordering.{nat_cmp, ordering_then}
 use Rattle.std.specs.FinMap as map
 use Rattle.std.specs.Str.{IsUtf8}
 use Rattle.page_bytes.specs.declared.ids.Space.{Space}
+use Rattle.page_bytes.specs.declared.ids.PageId.{PageId}
 use Rattle.page_bytes.specs.declared.texts.TextRef.{TextRef}
 use Rattle.page_bytes.specs.declared.end.PageEnd.{PageEnd}
-use Rattle.page_bytes.specs.declared.end.PageEnd.TheVariants.{Damaged, Spent}
+use Rattle.page_bytes.specs.declared.end.PageEnd.TheVariants.{Damaged}
 use Rattle.page_bytes.specs.Head.{is_head, next_page, LAST_PAGE}
 use Rattle.page_bytes.specs.Known.{Known}
 use Rattle.page_bytes.specs.Links.{page_in}
 use Rattle.page_bytes.specs.Texts.{TEXT_KIND, slot_count, piece_at, piece_length, next_piece, piece_text}
 use Rattle.text_pages.specs.Slots.{lowest, slots_end}
 use Rattle.text_pages.specs.Finding.{tried_first}
-use Rattle.text_pages.specs.Putting.{nowhere}
-use Rattle.page_bytes.specs.Answers.{IsStop}
-use Rattle.page_bytes.specs.Seen.{bytes}
+use Rattle.text_pages.specs.Putting.{nowhere, piece_count}
+use Rattle.page_bytes.specs.Answers.{IsStop, IsSpent}
+use Rattle.page_bytes.specs.Seen.{seen, bytes, only}
 
 abbrev pub IsTextPage : (ℕ → Option (List ℕ)) → ℕ → Type 0
 IsTextPage pages n = slice_index (bytes pages n) 0 ≡ TEXT_KIND
@@ -41,7 +42,7 @@ pub record IsSound (page : List ℕ) : Type 0 where
   pub some : (s : ℕ) × HasPiece page s
 
 -- the head passes its test, and its next page number is past each text page; all text pages are sound; and the one that is tried
--- first is there
+-- first is there. It is said of some of a space's pages, where the others aren't looked at
 pub record IsForm (pages : ℕ → Option (List ℕ)) : Type 0 where
   pub head : IsTrue (is_head (bytes pages 0))
   pub long : length (bytes pages 0) ≡ 4096
@@ -86,14 +87,20 @@ ref_cmp a b = ordering_then (nat_cmp a.page b.page) (nat_cmp a.slot b.slot)
 abbrev pub TextMap : Type 0
 TextMap = map.FinMap ref_cmp (List ℕ)
 
--- the pages mean these texts, each by the chain of its pieces
-pub record MeansTexts (pages : ℕ → Option (List ℕ)) (texts : TextMap) : Type 0 where
+-- these pages alone mean these texts, each by the chain of its pieces
+pub record AreTexts (pages : ℕ → Option (List ℕ)) (texts : TextMap) : Type 0 where
   pub form : IsForm pages
   pub chain : TextRef → List TextRef
   pub leads : (at : TextRef) → IsSome (map.get texts at) → IsChain pages at (chain at)
   pub joins : (at : TextRef) (text : List ℕ) → map.get texts at ≡ Some text → (text ≡ joined_bytes pages (chain at)) × (0 < length text)
   pub once : (at : TextRef) → IsSome (map.get texts at) → IsOnceEach (chain at)
   pub apart : (at other r : TextRef) → IsSome (map.get texts at) → IsSome (map.get texts other) → is_listed (chain at) r ≡ true → is_listed (chain other) r ≡ true → at ≡ other
+
+-- The pages mean these texts: those of some set do, alone. These are the head, the page that it tries first, and the pages of the
+-- chains; a page that nothing leads to may have anything.
+pub record MeansTexts (pages : ℕ → Option (List ℕ)) (texts : TextMap) : Type 0 where
+  pub reached : ℕ → Bool
+  pub alone : AreTexts (only reached pages) texts
 
 -- the text of a reference, if there is one. That of page 0 is empty
 abbrev pub text_in : TextMap → TextRef → Option (List ℕ)
@@ -111,10 +118,10 @@ with_text texts at (b ∷ bs) = map.insert texts at (b ∷ bs)
 abbrev pub IsPut : (ℕ → Option (List ℕ)) → TextMap → List ℕ → TextRef → Type 0
 IsPut pages texts text at = IsNew texts text at × MeansTexts pages (with_text texts at text)
 
--- why a text isn't put that could be: a stop, or the end of the page numbers
-abbrev pub IsNotPut : Known → PageEnd → Type 0
-IsNotPut k end = IsStop k end ⊎ (end ≡ Spent LAST_PAGE)
+-- why a text isn't put that could be: a stop, or that the page numbers are spent for its pieces
+abbrev pub IsNotPut : Known → (PageId → Option (List ℕ)) → Space → List ℕ → PageEnd → Type 0
+IsNotPut k all space text end = IsStop k all space end ⊎ IsSpent (seen k all space) (piece_count text) end
 
 -- why a text that is there isn't given: a stop, or that it is no UTF-8
-abbrev pub IsNotGiven : Known → Space → TextRef → List ℕ → PageEnd → Type 0
-IsNotGiven k space at text end = IsStop k end ⊎ ((IsUtf8 text → ⊥) × (end ≡ Damaged (page_in space at.page)))
+abbrev pub IsNotGiven : Known → (PageId → Option (List ℕ)) → Space → TextRef → List ℕ → PageEnd → Type 0
+IsNotGiven k all space at text end = IsStop k all space end ⊎ ((IsUtf8 text → ⊥) × (end ≡ Damaged (page_in space at.page)))

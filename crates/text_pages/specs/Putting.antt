@@ -19,6 +19,10 @@ use Rattle.page_bytes.specs.Answers.{unless}
 abbrev pub PIECE_MOST : ℕ
 PIECE_MOST = 4074
 
+-- and how many bytes it has then with its reference to the next one
+abbrev pub MOST_SIZE : ℕ
+MOST_SIZE = 4084
+
 -- the reference to no piece, which is that of the empty text
 abbrev pub nowhere : TextRef
 nowhere = record { page = 0; slot = 0 }
@@ -44,7 +48,7 @@ with_new_page w space next text = with_page (with_fresh w space) (page_in space 
 
 -- how much room a new page with this text has left
 abbrev pub room_left : List ℕ → ℕ
-room_left text = 4074 - length text
+room_left text = PIECE_MOST - length text
 
 -- a piece is put on a new page, which is tried first from then on if it has more room than the page that was tried
 abbrev pub new_piece_in : Work → Space → Option ℕ → TextRef → List ℕ → Result (TextRef × Work) PageEnd

@@ -15,9 +15,10 @@ lowest page = field 2 4 page
 abbrev pub slots_end : List ℕ → ℕ
 slots_end page = slot_at (slot_count page)
 
--- whether a page passes the test of a text page: its kind, and that its lowest piece is behind its slots and inside it
-abbrev pub is_slotted : List ℕ → Bool
-is_slotted page = slice_index page 0 == TEXT_KIND && nat_le (slots_end page) (lowest page) && nat_le (lowest page) 4096
+-- whether a page passes the test of a text page that is written to: its kind, and that its lowest piece is behind its slots and
+-- inside it, so that a piece may be put between them or taken out. For reading it is enough that the slots lie inside the page
+abbrev pub is_writable : List ℕ → Bool
+is_writable page = slice_index page 0 == TEXT_KIND && nat_le (slots_end page) (lowest page) && nat_le (lowest page) 4096
 
 -- the room between the slots and the lowest piece
 abbrev pub room : List ℕ → ℕ

@@ -1,25 +1,18 @@
 //! How the head and text pages are asked for.
+ghost use Rattle.text_pages.specs.Putting as form;
 ghost use Rattle.std.specs.Prelude.{◌≡◌, ◌<◌, ◌≤◌, length, IfOk, OnOk, IsTrue};
 ghost use Rattle.std.specs.Result.{result_map_both};
-ghost use Rattle.page_bytes.specs.Head.{head_of, is_head};
+ghost use Rattle.page_bytes.specs.Head.{head_of};
 ghost use Rattle.page_bytes.specs.Known.{is_there};
 ghost use Rattle.page_bytes.specs.Links.{page_in};
 ghost use Rattle.page_bytes.specs.Texts.{has_piece};
-ghost use Rattle.text_pages.specs.Slots.{is_slotted, may_go};
+ghost use Rattle.text_pages.specs.Slots.{is_writable, may_go};
 ghost use Rattle.text_pages.specs.Finding as find;
 ghost use Rattle.text_pages.specs.Inside.{IsInside, IsOn, IsLong};
 
-use crate::forms::{FIRST_AT, HEAD_KIND, NEXT_PAGE_AT, Tried};
+use crate::forms::{FIRST_AT, Tried};
 use crate::slots::{place_on, room_of, tests_piece, tests_slot, tests_slots};
-use page_bytes::{PageEnd, PageId, Pages, Space, TextRef, ask, read_u8, read_u64};
-
-/// Whether a page passes the test of a head.
-fn tests_head(page: &[u8; 4096]) -> bool
-    ensures test { result ≡ is_head page.now }
-    ensures long { length page.now ≡ 4096 }
-{
-    read_u8(page, 0) == HEAD_KIND && read_u64(page, NEXT_PAGE_AT) != 0
-}
+use page_bytes::{PageEnd, PageId, Pages, Space, TextRef, ask, read_head, read_u64};
 
 /// The number of the text page that is tried first, by the head; 0 where there is none.
 pub fn first_number<P: Pages>(pages: &P, space: Space) -> Result<u64, PageEnd>
@@ -27,11 +20,7 @@ pub fn first_number<P: Pages>(pages: &P, space: Space) -> Result<u64, PageEnd>
     ensures there { OnOk result (IsTrue (is_there (P.known pages.now) (head_of space))) }
     ensures long { OnOk result (IsLong (P.known pages.now) (head_of space)) }
 {
-    let id = PageId { space, number: 0 };
-    let head = ask(pages, id, id)?;
-    if !tests_head(head) {
-        return Err(PageEnd::Damaged { page: id });
-    }
+    let head = read_head(pages, space)?;
     Ok(read_u64(head, FIRST_AT))
 }
 
@@ -44,7 +33,7 @@ pub fn text_page<P: Pages>(
 ) -> Result<&[u8; 4096], PageEnd>
     ensures page { result_map_both (λ page. page.now) (λ end. end) result ≡ find.text_page (P.known pages.now) space from number }
     ensures long { OnOk result (IsLong (P.known pages.now) (page_in space number)) }
-    ensures slotted { IfOk result (λ page. IsTrue (is_slotted page.now)) }
+    ensures slotted { IfOk result (λ page. IsTrue (is_writable page.now)) }
 {
     let from = PageId {
         space,
@@ -65,7 +54,7 @@ pub fn try_first<P: Pages>(
     number: u64,
     size: usize,
 ) -> Result<Tried, PageEnd>
-    requires { size ≤ 4084 }
+    requires { size ≤ form.MOST_SIZE }
     ensures tried { result ≡ find.tried_in (P.known pages.now) space number size }
     ensures slot { IfOk result (λ tried. IsInside size tried) }
     ensures there { IfOk result (λ tried. IsOn (P.known pages.now) (page_in space number) tried) }
@@ -111,7 +100,7 @@ pub fn page_of_piece<P: Pages>(
 ) -> Result<&[u8; 4096], PageEnd>
     ensures page { result_map_both (λ page. page.now) (λ end. end) result ≡ find.piece_in (P.known pages.now) space from at }
     ensures long { OnOk result (IsLong (P.known pages.now) (page_in space at.page)) }
-    ensures slotted { IfOk result (λ page. IsTrue (is_slotted page.now)) }
+    ensures slotted { IfOk result (λ page. IsTrue (is_writable page.now)) }
     ensures slot { IfOk result (λ page. IsTrue (has_piece at.slot page.now)) }
     ensures piece { IfOk result (λ page. IsTrue (may_go at.slot page.now)) }
 {

@@ -2,14 +2,8 @@
 
 use page_bytes::TextRef;
 
-/// The kind of a head.
-pub const HEAD_KIND: u8 = 2;
-
 /// The kind of a text page.
 pub const TEXT_KIND: u8 = 5;
-
-/// Where a head has its next page number, of eight bytes.
-pub const NEXT_PAGE_AT: usize = 2;
 
 /// Where a head has the number of the text page that is tried first.
 pub const FIRST_AT: usize = 26;

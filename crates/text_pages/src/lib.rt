@@ -22,10 +22,8 @@ mod taking;
 mod texts;
 mod writing;
 
-pub use laws::keeping_laws;
+pub use laws::{frame_law, keeping_laws};
 pub use texts::{get, put, remove, replace};
 
-#[cfg(test)]
-mod map_tests;
 #[cfg(test)]
 mod tests;

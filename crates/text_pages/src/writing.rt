@@ -1,4 +1,5 @@
 //! Writes to text pages and to the head.
+ghost use Rattle.text_pages.specs.Putting as limits;
 ghost use Rattle.std.specs.Prelude.{◌<◌, ◌≤◌, ◌+◌, ◌^◌, length, Ok, IsTrue, IfOk, OnOk, [], ◌∷◌};
 ghost use Rattle.page_bytes.specs.Fields.{with_bytes};
 ghost use Rattle.page_bytes.specs.Head.{head_of};
@@ -53,7 +54,7 @@ fn write_only_piece(
     text: &[u8],
 ) -> Result<(), PageEnd>
     requires there { IsTrue (is_there work.old.now id) }
-    requires size { length text.now ≤ 4074 }
+    requires size { length text.now ≤ limits.PIECE_MOST }
     ensures { Answers (Ok (tt, with_page work.old id (form.with_piece (form.only_place text.now) next text.now (with_bytes (first_bytes work.old.now id) 0 (5 ∷ []))))) result work.new }
 {
     let at = (4096 - (10 + text.len())) as u16;
@@ -75,7 +76,7 @@ pub fn new_text_page(
     next: TextRef,
     text: &[u8],
 ) -> Result<u64, PageEnd>
-    requires { length text.now ≤ 4074 }
+    requires { length text.now ≤ limits.PIECE_MOST }
     ensures answer { Answers (unless (fresh_refusal work.old.now space) (next_in work.old space, with_new_page work.old space next text.now)) result work.new }
     ensures head { OnOk result (IsTrue (is_there work.new.now (head_of space))) }
     ensures number { IfOk result (λ number. number < 2 ^ 64) }

@@ -2,7 +2,8 @@ use Rattle.std.proofs.Common.{ℕ}
 use Rattle.page_bytes.specs.Work.{Work}
 use Rattle.indirection.specs.Adding.{directory_for, leaf_for}
 use Rattle.page_bytes.proofs.Answering.{went_on}
-use Rattle.indirection.proofs.OwnPages.{then_kept}
+use Rattle.page_bytes.proofs.Keeping.{then_kept}
+use Rattle.indirection.specs.Owned.{number_pages}
 use Rattle.indirection.proofs.growing.grow_directory.Goals as goal
 
 pub returns-clause-answer : goal.returns-clause-answer
@@ -13,4 +14,4 @@ returns-clause-answer c =
 
 pub returns-clause-kept : goal.returns-clause-kept
 returns-clause-kept c =
-    then_kept c.args.work.now c.directory_for_leaf.new.work c.new_leaf.new.work c.args.space 1 1 c.new_leaf.result c.in_ok-directory.ensures.kept c.new_leaf.ensures.kept
+    then_kept number_pages c.args.work.now c.directory_for_leaf.new.work c.new_leaf.new.work c.args.space 1 1 c.new_leaf.result c.in_ok-directory.ensures.kept c.new_leaf.ensures.kept

@@ -1,6 +1,4 @@
-use Rattle.std.proofs.Common.{sym}
-use Rattle.text_pages.proofs.Steps.{asked_long}
 use Rattle.text_pages.proofs.finding.first_number.Goals as goal
 
 pub returns-clause-long : goal.returns-clause-long
-returns-clause-long g c = asked_long (g.P.Pages.known c.args.pages.now) _ _ _ (sym c.in_ok-head.ensures) c.tests_head.ensures.long
+returns-clause-long g c = c.in_ok-head.ensures.whole.long

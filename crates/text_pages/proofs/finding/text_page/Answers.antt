@@ -1,5 +1,5 @@
 use Rattle.std.proofs.Common.{sym}
-use Rattle.text_pages.proofs.Steps.{asked_long}
+use Rattle.page_bytes.proofs.Askings.{asked_long}
 use Rattle.text_pages.proofs.finding.text_page.Goals as goal
 
 pub returns-clause-long : goal.returns-clause-long

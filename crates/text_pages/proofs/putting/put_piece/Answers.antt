@@ -2,7 +2,7 @@ use Rattle.std.proofs.Common.{ℕ, ◌<◌, Result, IfOk, subst}
 use Rattle.page_bytes.specs.declared.end.PageEnd.{PageEnd}
 use Rattle.page_bytes.specs.Links.{page_in}
 use Rattle.text_pages.specs.Inside.{IsLong}
-use Rattle.text_pages.proofs.Steps.{on_any}
+use Rattle.page_bytes.proofs.Askings.{on_any}
 use Rattle.text_pages.proofs.putting.put_piece.Goals as goal
 
 pub returns-clause-long_first : goal.returns-clause-long_first

@@ -1,8 +1,8 @@
-use Rattle.std.proofs.Common.{◌+◌, length, Option, List, ℕ, arith}
+use Rattle.std.proofs.Common.{length, Option, List, ℕ}
 use Rattle.page_bytes.specs.declared.ids.PageId.{PageId}
 use Rattle.text_pages.specs.Keeping.{texts_own}
 use Rattle.page_bytes.proofs.Owning.{own_behind}
-use Rattle.text_pages.proofs.Steps.{on_ok}
+use Rattle.page_bytes.proofs.Askings.{on_ok}
 use Rattle.text_pages.proofs.TakeWalks.{replaced}
 use Rattle.text_pages.proofs.replacing.replace_text.Goals as goal
 
