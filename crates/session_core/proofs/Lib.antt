@@ -11,7 +11,6 @@ pub mod Cores
 pub mod Answering
 pub mod Beside
 pub mod Making
-pub mod Runs
 mod WorkedCalls
 mod WorkedStatements
 mod ReaderBesideLoader

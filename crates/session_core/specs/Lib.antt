@@ -15,4 +15,3 @@ pub mod Ties
 pub mod Unsettled
 pub mod Answering
 pub mod CoreCalls
-pub mod Runs
