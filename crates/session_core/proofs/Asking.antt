@@ -2,6 +2,7 @@
 use Rattle.std.proofs.Common.{◌≡◌, ℕ, zero, suc, ◌≤◌, ◌<◌, ◌==◌, Bool, true, false, not, ◌&&◌, true≢false, List, [], ◌∷◌, ◌++◌, length, take, slice_get, All, Option, None, Some, IsSomeAnd, IfSome, refl, sym, ap, subst, ◌∙◌, arith}
 use Rattle.std.proofs.lemmas.Bool.{eq-eqb, ne_eqb}
 use Rattle.xq_ast.specs.declared.call.Call.{Call}
+use Rattle.xq_ast.specs.declared.call.Call.TheVariants.{Create, Drop, Load, Export}
 use Rattle.xq_ast.specs.declared.need.LockMode.{LockMode}
 use Rattle.xq_ast.specs.declared.need.LockMode.TheVariants.{S, X}
 use Rattle.xq_ast.specs.declared.need.Need.{Need}
@@ -14,6 +15,7 @@ use Rattle.doc_locks.specs.declared.end.AskEnd.TheVariants.{Held}
 use Rattle.session_core.specs.declared.event.State.TheVariants.{Updating}
 use Rattle.session_core.specs.declared.event.Event.{Event}
 use Rattle.session_core.specs.States.{state, conflicts, blocks}
+use Rattle.session_core.specs.Refusals.{refused_in, work_of}
 use Rattle.session_core.specs.Locks.{IsFree, AllFree, IsGranted, IsRefused}
 use Rattle.session_core.proofs.Holding.{and_parts}
 use Rattle.session_core.proofs.Tying.{LocksAre}
@@ -38,6 +40,18 @@ parted P Q [] (suc place) p q = absurd p
 parted P Q (n ∷ more) zero p q = record { there = n; behind = more; are = refl; first = p; second = q }
 parted P Q (n ∷ more) (suc place) p q =
     let rest = parted P Q more place p q in record { there = rest.there; behind = rest.behind; are = ap (λ l. n ∷ l) rest.are; first = rest.first; second = rest.second }
+
+-- a call that needs locks passes the test of an updating transaction
+some_passes : (call : Call) (asked : List Need) → needs_of call ≡ asked → (asked ≡ [] → ⊥) → refused_in Updating (work_of call) ≡ None
+some_passes (Create name) asked are some = refl
+some_passes (Drop name) asked are some = refl
+some_passes (Load name pyx_lines) asked are some = refl
+some_passes (Export name) asked are some = refl
+some_passes call asked are some = absurd (some (sym are))
+
+not_empty : (front : List Need) (n : Need) (behind asked : List Need) → asked ≡ front ++ n ∷ behind → asked ≡ [] → ⊥
+not_empty [] n behind asked are none = let e : n ∷ behind ≡ [] = sym are ∙ none in cc
+not_empty (m ∷ front) n behind asked are none = let e : m ∷ front ++ n ∷ behind ≡ [] = sym are ∙ none in cc
 
 module _ (past : List Event) (locks : Locks) (are : LocksAre locks past) (s : ℕ) where
   -- who is another blocks in the table what it blocks in the journal
@@ -72,6 +86,7 @@ module _ (past : List Event) (locks : Locks) (are : LocksAre locks past) (s : �
         updating = updating;
         call = call;
         needs_are = needs_are;
+        passes = some_passes call asked needs_are (not_empty (take place asked) parts.there parts.behind asked parts.are);
         before = take place asked;
         blocked = parts.there;
         behind = parts.behind;

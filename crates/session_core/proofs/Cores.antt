@@ -16,15 +16,15 @@ use Rattle.session_core.specs.declared.event.Reply.{Reply}
 use Rattle.session_core.specs.declared.event.Event.{Event}
 use Rattle.session_core.specs.declared.event.Event.TheVariants.{Began, Granted, Refused, Answered, Committed, Ended, RolledBack, Doubt, Settled, Left}
 use Rattle.session_core.specs.History.{AtEach, past_of}
-use Rattle.session_core.specs.Transactions.{Base, commit_count}
+use Rattle.session_core.specs.Transactions.{Base, commit_count, newest_number, next_number}
 use Rattle.session_core.specs.States.{state, state_with, is_open, is_reading, in_doubt}
 use Rattle.session_core.specs.Locks.{IsGranted, IsRefused}
 use Rattle.session_core.specs.Refusals.{RefusalsAt}
-use Rattle.session_core.specs.Settling.{MaySettle}
+use Rattle.session_core.specs.Settling.{MaySettle, HasCommitLeft}
 use Rattle.session_core.specs.Marks.{IsNextMark}
 use Rattle.session_core.specs.Legal.{SoFar}
 use Rattle.session_core.specs.Table.{States, entry_of}
-use Rattle.session_core.specs.Kept.{Follows, HasCommitLeft, forest_behind, newest_number, next_number}
+use Rattle.session_core.specs.Kept.{Follows, forest_behind}
 use Rattle.session_core.specs.Ties.{IsDoubt, DoubtIs, Ties, IsCore}
 use Rattle.session_core.proofs.Growing.{past-more, grows, begins}
 use Rattle.session_core.proofs.Tying.{opened as opened_by}
@@ -35,8 +35,8 @@ module _ (B : Base) (journal : List Event) (capacity : ℕ) (states : States) (o
   abbrev past : List Event
   past = past_of journal
 
-  same_count : (e : Event) → commit_count (e ∷ past) ≡ commit_count past → number ≡ B.commit + commit_count (e ∷ past)
-  same_count e same = core.number_is ∙ ap (λ n. B.commit + n) (sym same)
+  same_count : (e : Event) → commit_count (e ∷ past) ≡ commit_count past → number ≡ B.numbers.commit + commit_count (e ∷ past)
+  same_count e same = core.number_is ∙ ap (λ n. B.numbers.commit + n) (sym same)
 
   no_entry : (t : ℕ) → state t past ≡ Idle → fin.get states t ≡ None
   no_entry t idle = core.ties.states_are t ∙ ap entry_of idle
@@ -74,7 +74,7 @@ module _ (B : Base) (journal : List Event) (capacity : ℕ) (states : States) (o
       (subst (λ m. Ties B (Began t kinds.Updating ∷ past) m locks forests doubt) (sym set) (ties_began B past states locks forests doubt core.ties t kinds.Updating idle))
       (begun_count t Updating states' idle set) room (same_count (Began t kinds.Updating) (count_same (Began t kinds.Updating) past refl))
 
-  pub core_began_read : (t : ℕ) → state t past ≡ Idle → Follows (Began t (kinds.Reading (newest_number B past))) past → (journal' : List Event) (capacity' : ℕ) (states' : States)
+  pub core_began_read : (t : ℕ) → state t past ≡ Idle → Follows (Began t (kinds.Reading (newest_number B.numbers past))) past → (journal' : List Event) (capacity' : ℕ) (states' : States)
       → journal' ≡ journal ++ Began t (kinds.Reading number) ∷ [] → states' ≡ fin.insert states t (Reading number) → length journal' + (opened + 1) ≤ capacity' → IsCore B journal' capacity' states' (opened + 1) number locks forests doubt
   core_began_read t idle follows journal' capacity' states' more set room =
       core_more B journal journal' (Began t (kinds.Reading number)) capacity' states' (opened + 1) number locks forests doubt more
@@ -139,13 +139,13 @@ module _ (B : Base) (journal : List Event) (capacity : ℕ) (states : States) (o
   none_in_doubt None is none = refl
   none_in_doubt (Some d) is none = let e : ◌≡◌ {A = Option ℕ} (Some d.0) None = sym is.in_doubt_is ∙ none in cc
 
-  next_is : number + 1 ≡ next_number B past
+  next_is : number + 1 ≡ next_number B.numbers past
   next_is = let is = core.number_is in omega arith
 
-  more_number : (e : Event) → commit_count (e ∷ past) ≡ commit_count past + 1 → number + 1 ≡ B.commit + commit_count (e ∷ past)
+  more_number : (e : Event) → commit_count (e ∷ past) ≡ commit_count past + 1 → number + 1 ≡ B.numbers.commit + commit_count (e ∷ past)
   more_number e more = let is = core.number_is in omega arith
 
-  pub core_committed : (t : ℕ) (F : Forest) → state t past ≡ Updating → in_doubt past ≡ None → HasCommitLeft B past → F ≡ forest_behind B t past → Follows (Committed t (next_number B past)) past
+  pub core_committed : (t : ℕ) (F : Forest) → state t past ≡ Updating → in_doubt past ≡ None → HasCommitLeft B.numbers past → F ≡ forest_behind B t past → Follows (Committed t (next_number B.numbers past)) past
       → (journal' : List Event) (capacity' : ℕ) (states' : States) (locks' : Locks) (forests' : List Forest)
       → journal' ≡ journal ++ Committed t (number + 1) ∷ [] → capacity' ≡ capacity → states' ≡ fin.remove states t → locks' ≡ fin.remove locks t → forests' ≡ forests ++ F ∷ []
       → IsCore B journal' capacity' states' (opened - 1) (number + 1) locks' forests' doubt
@@ -158,7 +158,7 @@ module _ (B : Base) (journal : List Event) (capacity : ℕ) (states : States) (o
       (gone_count t states' (entry t (updating_open t updating)) out) (gone_room e journal' capacity' more same (open_counted t (updating_open t updating)))
       (more_number e (count_one B past states locks forests doubt core.ties e t o.transaction refl o.is o.kind_is))
 
-  pub core_doubted : (t : ℕ) (F : Forest) (mark : Mark) → state t past ≡ Updating → in_doubt past ≡ None → HasCommitLeft B past → F ≡ forest_behind B t past → IsNextMark past mark → Follows (Doubt t (next_number B past) mark) past
+  pub core_doubted : (t : ℕ) (F : Forest) (mark : Mark) → state t past ≡ Updating → in_doubt past ≡ None → HasCommitLeft B.numbers past → F ≡ forest_behind B t past → IsNextMark past mark → Follows (Doubt t (next_number B.numbers past) mark) past
       → (journal' : List Event) (capacity' : ℕ) (states' : States)
       → journal' ≡ journal ++ Doubt t (number + 1) mark ∷ [] → states' ≡ fin.insert states t InDoubt → length journal' + opened ≤ capacity'
       → IsCore B journal' capacity' states' opened number locks forests (Some (t, F))
@@ -225,7 +225,7 @@ module _ (B : Base) (journal : List Event) (capacity : ℕ) (states : States) (o
       (settled_by by s stands F is may follows journal' capacity' states' number' locks' forests' more same out released kept count)
 
 -- a core without events
-pub core_new : (B : Base) (capacity : ℕ) (forests : List Forest) (journal : List Event) (states : States) (locks : Locks) → journal ≡ [] → states ≡ fin.empty → locks ≡ fin.empty → forests ≡ B.forest ∷ [] → IsCore B journal capacity states 0 B.commit locks forests None
+pub core_new : (B : Base) (capacity : ℕ) (forests : List Forest) (journal : List Event) (states : States) (locks : Locks) → journal ≡ [] → states ≡ fin.empty → locks ≡ fin.empty → forests ≡ B.forest ∷ [] → IsCore B journal capacity states 0 B.numbers.commit locks forests None
 core_new B capacity forests journal states locks none empty free is = record {
   legal = subst (SoFar B) (sym none) (begins B);
   ties = subst (λ l. Ties B (past_of l) states locks forests None) (sym none) (record {
@@ -236,5 +236,5 @@ core_new B capacity forests journal states locks none empty free is = record {
   });
   opened_is = sym (ap fin.len empty ∙ fin.len-empty nat_cmp State);
   room = subst (λ (l : List Event). length l + 0 ≤ capacity) (sym none) (omega arith);
-  number_is = subst (λ l. B.commit ≡ B.commit + commit_count (past_of l)) (sym none) (omega arith);
+  number_is = subst (λ l. B.numbers.commit ≡ B.numbers.commit + commit_count (past_of l)) (sym none) (omega arith);
 }

@@ -209,7 +209,7 @@ apart_code codes.NoMemory e = refl
 apart_code (codes.Failed mark) e = refl
 apart_code (codes.InDoubt mark) e = absurd (true≢false (sym e))
 apart_code (codes.Pyx why line) e = absurd (true≢false (sym e))
-apart_code (codes.Spent kind number) e = refl
+apart_code (codes.Spent kind number) e = absurd (true≢false (sym e))
 apart_code (codes.Damaged commit ordinal page) e = absurd (true≢false (sym e))
 
 pub apart_not_run : (answer : Says) → is_apart answer ≡ true → says_run answer ≡ false

@@ -1,4 +1,5 @@
 pub mod Sessions
+pub mod CallOrder
 pub mod Holding
 pub mod Covering
 pub mod Turning

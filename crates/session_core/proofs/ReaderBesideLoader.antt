@@ -12,6 +12,7 @@ use Rattle.session_core.specs.declared.event.Says.TheVariants as says
 use Rattle.session_core.specs.declared.event.Event.{Event}
 use Rattle.session_core.specs.declared.event.Event.TheVariants.{Began, Granted, Answered, Committed, Ended}
 use Rattle.session_core.specs.History.{past_of, AtEach}
+use Rattle.session_core.specs.CallOrder.{CallOrderAt}
 use Rattle.session_core.specs.Transactions.{Base, updating, open_of, newest}
 use Rattle.session_core.specs.States.{state, state_with, is_open}
 use Rattle.session_core.specs.Locks.{LocksAt}
@@ -26,7 +27,7 @@ use Rattle.session_core.proofs.WorkedCalls.{d, element, begin, begin_read, commi
 
 -- nothing is there, the commit number is 0
 abbrev pub B : Base
-B = record { commit = 0; generation = 1; forest = no_documents }
+B = record { numbers = record { commit = 0; generation = 1 }; forest = no_documents }
 
 abbrev pub P : Scripts
 P = (begin ∷ load ∷ commit ∷ []) ∷ (begin_read ∷ export ∷ commit ∷ begin_read ∷ export ∷ commit ∷ []) ∷ []
@@ -63,10 +64,13 @@ none_granted t apart = rw (apart) refl
 none_begun : (t : ℕ) → (1 == t) ≡ false → open_of t begun ≡ None
 none_begun t apart = rw (apart) refl
 
+in_order : AtEach CallOrderAt (past_of journal)
+in_order = refl ⊳ refl ⊳ refl ⊳ refl ⊳ refl ⊳ refl ⊳ refl ⊳ refl ⊳ refl ⊳ refl ⊳ tt
+
 locks : AtEach LocksAt (past_of journal)
 locks =
     (tt, tt) ⊳ (tt, tt) ⊳ (tt, tt) ⊳ (tt, tt) ⊳ (tt, tt) ⊳ (tt, tt) ⊳ (tt, tt)
-    ⊳ (((refl, tt), λ ran. (free_where_none 1 _ granted none_granted, tt)), refl)
+    ⊳ (((refl, tt), λ passes other. (free_where_none 1 _ granted none_granted, tt)), refl)
     ⊳ (record { updating = refl; call = Load d element; needs_are = refl; some = omega arith; free = (free_where_none 1 _ begun none_begun, tt) }, tt)
     ⊳ (tt, tt) ⊳ tt
 
@@ -92,7 +96,7 @@ refusals = record {
       ⊳ tt ⊳ tt ⊳ record { what = Ok (Load d element); parsed = load_is; answers = tt } ⊳ tt ⊳ tt ⊳ tt;
 }
 
-settling : AtEach (SettlingAt B) (past_of journal)
+settling : AtEach (SettlingAt B.numbers) (past_of journal)
 settling =
     (tt, tt) ⊳ (tt, tt) ⊳ (tt, tt) ⊳ (tt, tt) ⊳ (tt, tt)
     ⊳ ((refl, λ none. omega (arith, none)), tt)
@@ -121,6 +125,7 @@ closes = record {
       ⊳ (record { call = Load d element; parsed = load_is; needs_are = refl }, refl)
       ⊳ (record { what = Ok Begin; parsed = begin_is; closes = refl }, refl)
       ⊳ tt;
+  in_order = in_order;
   at_end = by_session (λ s. (closed_of s (past_of journal) ≡ length (calls_of P s)) × (is_open (state s (past_of journal)) ≡ false)) (refl, refl) (refl, refl) (λ s first second. (nothing_closed s first second, ap (λ o. is_open (state_with o)) (closed_at_end s first second)));
 }
 
@@ -152,6 +157,7 @@ none_read_again s first second = rw (first, second) refl
 
 pub so_far_loaded : SoFar B loaded
 so_far_loaded = record {
+  in_order = in_order.1.1.1.1.1.1.1;
   locks = locks.1.1.1.1.1.1.1;
   serial = serial.1.1.1.1.1.1.1;
   snapshots = snapshots.1.1.1.1.1.1.1;
@@ -163,6 +169,7 @@ so_far_loaded = record {
 
 pub so_far_read : SoFar B read
 so_far_read = record {
+  in_order = in_order.1.1.1.1;
   locks = locks.1.1.1.1;
   serial = serial.1.1.1.1;
   snapshots = snapshots.1.1.1.1;
@@ -174,6 +181,7 @@ so_far_read = record {
 
 pub so_far_read_again : SoFar B read_again
 so_far_read_again = record {
+  in_order = in_order.1;
   locks = locks.1;
   serial = serial.1;
   snapshots = snapshots.1;

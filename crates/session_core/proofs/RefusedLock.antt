@@ -14,6 +14,7 @@ use Rattle.session_core.specs.declared.event.Says.TheVariants as says
 use Rattle.session_core.specs.declared.event.Event.{Event}
 use Rattle.session_core.specs.declared.event.Event.TheVariants.{Began, Granted, Refused, Answered, Committed, Left}
 use Rattle.session_core.specs.History.{past_of, AtEach}
+use Rattle.session_core.specs.CallOrder.{CallOrderAt}
 use Rattle.session_core.specs.Transactions.{Base, updating, open_of, newest}
 use Rattle.session_core.specs.States.{state, state_with, is_open, blocks}
 use Rattle.session_core.specs.Locks.{LocksAt}
@@ -27,7 +28,7 @@ use Rattle.session_core.proofs.WorkedCalls.{d, begin, commit, create, export, be
 use Rattle.session_core.proofs.WorkedStatements.{export_before}
 
 abbrev B : Base
-B = record { commit = 0; generation = 1; forest = no_documents }
+B = record { numbers = record { commit = 0; generation = 1 }; forest = no_documents }
 
 abbrev answer : Call → Says → Reply
 answer call what = record { call = Some call; says = what }
@@ -65,12 +66,15 @@ first_is_least : (t : ℕ) → t < 1 → (t ≡ 2 → ⊥) → blocks t (record 
 first_is_least zero below other = refl
 first_is_least (suc t) below other = absurd (omega (arith, below))
 
+in_order : AtEach CallOrderAt (past_of journal)
+in_order = refl ⊳ refl ⊳ refl ⊳ refl ⊳ refl ⊳ refl ⊳ refl ⊳ tt
+
 locks : AtEach LocksAt (past_of journal)
 locks =
     (tt, tt) ⊳ (tt, tt)
-    ⊳ (record { updating = refl; call = Create d; needs_are = refl; before = []; blocked = record { name = d; mode = X }; behind = []; asked_are = refl; before_free = tt; name_is = refl; other = λ same. omega (arith, same); holds = refl; least = first_is_least }, tt)
+    ⊳ (record { updating = refl; call = Create d; needs_are = refl; passes = refl; before = []; blocked = record { name = d; mode = X }; behind = []; asked_are = refl; before_free = tt; name_is = refl; other = λ same. omega (arith, same); holds = refl; least = first_is_least }, tt)
     ⊳ (tt, tt)
-    ⊳ (((refl, tt), λ ran. (free_where_none 1 _ granted none_granted, tt)), refl)
+    ⊳ (((refl, tt), λ passes other. (free_where_none 1 _ granted none_granted, tt)), refl)
     ⊳ (record { updating = refl; call = Export d; needs_are = refl; some = omega arith; free = (free_where_none 1 _ begun none_begun, tt) }, tt)
     ⊳ (tt, tt) ⊳ tt
 
@@ -108,7 +112,7 @@ refusals = record {
   by_text = tt ⊳ tt ⊳ tt ⊳ tt ⊳ record { what = Ok (Export d); parsed = export_is; answers = tt } ⊳ tt ⊳ tt ⊳ tt;
 }
 
-settling : AtEach (SettlingAt B) (past_of journal)
+settling : AtEach (SettlingAt B.numbers) (past_of journal)
 settling = ((refl, λ none. omega (arith, none)), tt) ⊳ (tt, tt) ⊳ (tt, tt) ⊳ (tt, tt) ⊳ (tt, tt) ⊳ (tt, tt) ⊳ (tt, tt) ⊳ tt
 
 marks : AtEach MarksAt (past_of journal)
@@ -125,6 +129,7 @@ closes = record {
       ⊳ (record { call = Export d; parsed = export_is; needs_are = refl }, refl)
       ⊳ (record { what = Ok Begin; parsed = begin_is; closes = refl }, refl)
       ⊳ tt;
+  in_order = in_order;
   at_end = ends;
 }
 

@@ -13,6 +13,7 @@ use Rattle.session_core.specs.declared.event.Says.TheVariants as says
 use Rattle.session_core.specs.declared.event.Event.{Event}
 use Rattle.session_core.specs.declared.event.Event.TheVariants.{Began, Granted, Answered, Doubt, Settled}
 use Rattle.session_core.specs.History.{past_of, AtEach}
+use Rattle.session_core.specs.CallOrder.{CallOrderAt}
 use Rattle.session_core.specs.Transactions.{Base, updating, open_of, newest}
 use Rattle.session_core.specs.States.{state, state_with, is_open}
 use Rattle.session_core.specs.Locks.{LocksAt}
@@ -26,7 +27,7 @@ use Rattle.session_core.proofs.WorkedCalls.{d, begin, commit, create, begin_is, 
 use Rattle.session_core.proofs.WorkedStatements.{create_says}
 
 abbrev B : Base
-B = record { commit = 0; generation = 1; forest = no_documents }
+B = record { numbers = record { commit = 0; generation = 1 }; forest = no_documents }
 
 abbrev answer : Call → Says → Reply
 answer call what = record { call = Some call; says = what }
@@ -60,10 +61,13 @@ none_granted t apart = rw (apart) refl
 none_begun : (t : ℕ) → (1 == t) ≡ false → open_of t begun ≡ None
 none_begun t apart = rw (apart) refl
 
+in_order : AtEach CallOrderAt (past_of journal)
+in_order = refl ⊳ refl ⊳ refl ⊳ refl ⊳ refl ⊳ refl ⊳ tt
+
 locks : AtEach LocksAt (past_of journal)
 locks =
     (tt, tt) ⊳ (tt, tt) ⊳ (tt, tt)
-    ⊳ (((refl, tt), λ ran. (free_where_none 1 _ granted none_granted, tt)), refl)
+    ⊳ (((refl, tt), λ passes other. (free_where_none 1 _ granted none_granted, tt)), refl)
     ⊳ (record { updating = refl; call = Create d; needs_are = refl; some = omega arith; free = (free_where_none 1 _ begun none_begun, tt) }, tt)
     ⊳ (tt, tt) ⊳ tt
 
@@ -101,7 +105,7 @@ refusals = record {
   by_text = record { what = Ok Commit; parsed = commit_is; answers = tt } ⊳ tt ⊳ tt ⊳ record { what = Ok (Create d); parsed = create_is; answers = tt } ⊳ tt ⊳ tt ⊳ tt;
 }
 
-settling : AtEach (SettlingAt B) (past_of journal)
+settling : AtEach (SettlingAt B.numbers) (past_of journal)
 settling =
     (tt, tt)
     ⊳ ((refl, inl refl), tt)
@@ -121,6 +125,7 @@ closes = record {
       ⊳ (record { call = Create d; parsed = create_is; needs_are = refl }, refl)
       ⊳ (record { what = Ok Begin; parsed = begin_is; closes = refl }, refl)
       ⊳ tt;
+  in_order = in_order;
   at_end = ends;
 }
 
@@ -128,4 +133,4 @@ pub is_legal : Legal journal B P
 is_legal = record { closes = closes; locks = locks; serial = serial; snapshots = snapshots; unfinished = unfinished; refusals = refusals; settling = settling; marks = marks }
 
 pub so_far : SoFar B journal
-so_far = record { locks = locks; serial = serial; snapshots = snapshots; unfinished = unfinished; refusals = refusals.by_state; settling = settling; marks = marks }
+so_far = record { in_order = in_order; locks = locks; serial = serial; snapshots = snapshots; unfinished = unfinished; refusals = refusals.by_state; settling = settling; marks = marks }

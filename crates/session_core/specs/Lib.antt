@@ -1,4 +1,5 @@
 pub mod History
+pub mod CallOrder
 pub mod Transactions
 pub mod States
 pub mod Locks

@@ -26,7 +26,7 @@ pub record IsDoubt (B : Base) (past : List Event) (whose : ℕ) (forest : Forest
   pub kind_is : transaction.kind ≡ kinds.Updating
   pub marked : transaction.in_doubt ≡ true
   pub forest_is : forest ≡ run_calls (newest B past) (ran_all transaction.replies)
-  pub left : B.commit + commit_count past < last_number
+  pub left : B.numbers.commit + commit_count past < last_number
 
 abbrev pub DoubtIs : Base → List Event → Option (ℕ × Forest) → Type 0
 DoubtIs B past None = in_doubt past ≡ None
@@ -45,4 +45,4 @@ pub record IsCore (B : Base) (journal : List Event) (capacity : ℕ) (states : S
   pub ties : Ties B (past_of journal) states locks forests doubt
   pub opened_is : opened ≡ fin.len states
   pub room : length journal + opened ≤ capacity
-  pub number_is : number ≡ B.commit + commit_count (past_of journal)
+  pub number_is : number ≡ B.numbers.commit + commit_count (past_of journal)

@@ -6,7 +6,9 @@ ghost use Rattle.session_core.specs.States.{state as state_of, is_open, is_readi
 ghost use Rattle.session_core.specs.Locks.{AllFree};
 ghost use Rattle.session_core.specs.Marks.{IsNextMark};
 ghost use Rattle.session_core.specs.Legal.{SoFar};
-ghost use Rattle.session_core.specs.Kept.{kept_of, with_event, past, Follows, newest_number, next_number, HasCommitLeft, forest_behind, forest_in, AskEnds, CanSettle, IsSettled};
+ghost use Rattle.session_core.specs.Kept.{kept_of, with_event, past, Follows, forest_behind, forest_in, AskEnds, CanSettle, IsSettled};
+ghost use Rattle.session_core.specs.Settling.{HasCommitLeft};
+ghost use Rattle.session_core.specs.Transactions.{newest_number, next_number};
 
 use crate::event::{BeginKind, Event, Journal, Reply, State};
 use crate::states::StateTable;
@@ -101,7 +103,7 @@ impl Core {
 
     /// The newest commit number. Takes no memory.
     pub fn newest(&self) -> u64
-        ensures { result ≡ newest_number self.now.base (past self.now) }
+        ensures { result ≡ newest_number self.now.base.numbers (past self.now) }
     {
         self.newest
     }
@@ -124,8 +126,8 @@ impl Core {
     /// Begins a read-only transaction at the newest commit, and answers its number.
     pub fn begin_read(&mut self, session: u32) -> Result<u64, NoMemory>
         requires idle { state_of session (past self.old) ≡ State.Idle }
-        requires follows { Follows (Event.Began session (BeginKind.Reading (newest_number self.old.base (past self.old)))) (past self.old) }
-        ensures number { IfOk result (λ n. n ≡ newest_number self.old.base (past self.old)) }
+        requires follows { Follows (Event.Began session (BeginKind.Reading (newest_number self.old.base.numbers (past self.old)))) (past self.old) }
+        ensures number { IfOk result (λ n. n ≡ newest_number self.old.base.numbers (past self.old)) }
         ensures ok { IfOk result (λ n. self.new ≡ with_event (Event.Began session (BeginKind.Reading n)) self.old) }
         ensures err { OnErr result (self.new ≡ self.old) }
     {
@@ -223,10 +225,10 @@ impl Core {
     pub fn commit(&mut self, session: u32, forest: DocMap) -> Result<u64, NoMemory>
         requires updating { state_of session (past self.old) ≡ State.Updating }
         requires settled { in_doubt (past self.old) ≡ None }
-        requires left { HasCommitLeft self.old.base (past self.old) }
+        requires left { HasCommitLeft self.old.base.numbers (past self.old) }
         requires forest { forest ≡ forest_behind self.old.base session (past self.old) }
-        requires follows { Follows (Event.Committed session (next_number self.old.base (past self.old))) (past self.old) }
-        ensures number { IfOk result (λ n. n ≡ next_number self.old.base (past self.old)) }
+        requires follows { Follows (Event.Committed session (next_number self.old.base.numbers (past self.old))) (past self.old) }
+        ensures number { IfOk result (λ n. n ≡ next_number self.old.base.numbers (past self.old)) }
         ensures ok { IfOk result (λ n. self.new ≡ with_event (Event.Committed session n) self.old) }
         ensures err { OnErr result (self.new ≡ self.old) }
     {
@@ -247,11 +249,11 @@ impl Core {
     pub fn doubt(&mut self, session: u32, forest: DocMap, mark: Mark) -> Result<u64, NoMemory>
         requires updating { state_of session (past self.old) ≡ State.Updating }
         requires settled { in_doubt (past self.old) ≡ None }
-        requires left { HasCommitLeft self.old.base (past self.old) }
+        requires left { HasCommitLeft self.old.base.numbers (past self.old) }
         requires forest { forest ≡ forest_behind self.old.base session (past self.old) }
         requires mark { IsNextMark (past self.old) mark }
-        requires follows { Follows (Event.Doubt session (next_number self.old.base (past self.old)) mark) (past self.old) }
-        ensures number { IfOk result (λ n. n ≡ next_number self.old.base (past self.old)) }
+        requires follows { Follows (Event.Doubt session (next_number self.old.base.numbers (past self.old)) mark) (past self.old) }
+        ensures number { IfOk result (λ n. n ≡ next_number self.old.base.numbers (past self.old)) }
         ensures ok { IfOk result (λ n. self.new ≡ with_event (Event.Doubt session n mark) self.old) }
         ensures err { OnErr result (self.new ≡ self.old) }
     {

@@ -16,12 +16,11 @@ use Rattle.session_core.specs.declared.event.State.TheVariants.{Idle, Updating, 
 use Rattle.session_core.specs.declared.event.Event.{Event}
 use Rattle.session_core.specs.declared.event.Event.TheVariants.{Granted}
 use Rattle.session_core.specs.Answering as answers
-use Rattle.session_core.specs.Answering.{IsRightAnswer}
 use Rattle.session_core.specs.History.{last_of}
-use Rattle.session_core.specs.Transactions.{Base, Transaction, open_of, with_locks, updating, where_updating, ran_by, run_calls, serial, newest, says_of, says_run}
+use Rattle.session_core.specs.Transactions.{Base, Transaction, open_of, with_locks, updating, where_updating, ran_by, run_calls, serial, newest, says_of, says_run, newest_number}
 use Rattle.session_core.specs.States.{state, state_with, state_in, is_open, is_reading, in_doubt}
 use Rattle.session_core.specs.Refusals.{refused_in, work_of, begins, ends, checkpoints}
-use Rattle.session_core.specs.Kept.{Kept, with_event, past, newest_number, forest_behind, forest_in}
+use Rattle.session_core.specs.Kept.{Kept, with_event, past, forest_behind, forest_in}
 use Rattle.session_core.specs.Settling.{HasNoCommitLeft}
 use Rattle.session_core.proofs.Covering.{AreHeld, none_ran}
 use Rattle.session_core.proofs.Holding.{locks_by, locks_in}
@@ -29,9 +28,11 @@ use Rattle.session_core.proofs.Turning.{agree_needs}
 use Rattle.session_core.proofs.Growing.{past-more}
 use Rattle.session_core.proofs.Tying.{here, opened, updating_is, state-with_locks}
 use Rattle.session_core.proofs.Beside.{agree_of}
-use Rattle.session_core.proofs.Answering.{stmt_tells, told_runs, one_ran, state_unrun, refused_code, held_behind_grant, granted_as}
+use Rattle.session_core.proofs.Answering.{stmt_told, told_runs, one_ran, state_unrun, refused_code, held_behind_grant, granted_as}
 use Rattle.session_run.specs.declared.statement.Effect.{Effect}
 use Rattle.session_run.specs.Answers.{answered}
+use Rattle.session_run.specs.Calls.{IsAnswerInMemory}
+use Rattle.session_run.proofs.Memory.{ran_right}
 use Rattle.session_run.specs.Called.{behind_grant}
 use Rattle.xml_model.specs.Changes.{ChangeMap, no_changes, laid_over}
 use Rattle.session_run.specs.Effects.{with_change, IsEffect}
@@ -116,7 +117,7 @@ some_needs (Export name) statement passes = omega arith
 some_needs call statement passes = absurd (true≢false (sym statement))
 
 -- the newest number is the last one
-pub none_left : (B : Base) (before : List Event) (n : ℕ) → n ≡ newest_number B before → n ≡ 18446744073709551615 → HasNoCommitLeft B before
+pub none_left : (B : Base) (before : List Event) (n : ℕ) → n ≡ newest_number B.numbers before → n ≡ 18446744073709551615 → HasNoCommitLeft B.numbers before
 none_left B before n is full = omega arith
 
 -- ---- a reader
@@ -136,15 +137,11 @@ module _ (B : Base) (s : ℕ) (before : List Event) (changes : ChangeMap) (tied 
 
   -- what a reader is answered
   pub read_right : (call : Call) (effect : Effect) (F : Forest) → F ≡ forest_in B before (state s before) → IsTrue (is_reading (state s before)) → IsTrue (is_statement call)
-      → refused_in (state s before) (work_of call) ≡ None → IsEffect call changes F effect → IsRightAnswer B s before (Some call) effect.says
+      → refused_in (state s before) (work_of call) ≡ None → IsEffect call changes F effect → IsAnswerInMemory B s before (Some call) effect.says
   read_right call effect F is reading statement passes so = let at = reading_at (state s before) reading in
-      answers.IsRightAnswer.runs_reading (record {
-        statement = statement;
-        number = at.number;
-        reading = at.is;
-        passes = subst (λ x. refused_in x (work_of call) ≡ None) at.is passes;
-        says_so = so.says ∙ ap (λ G. says_of (stmt G call).says) (ap (λ c. laid_over c F) (none_reading reading) ∙ laid-none F ∙ is ∙ ap (forest_in B before) at.is);
-      })
+      ran_right B s before (Reading at.number) call effect.says at.is statement
+      (λ told. answers.AnswersInOrder.runs_reading (record { statement = statement; number = at.number; reading = at.is; passes = subst (λ x. refused_in x (work_of call) ≡ None) at.is passes; told = told }))
+      (so.says ∙ ap (λ G. says_of (stmt G call).says) (ap (λ c. laid_over c F) (none_reading reading) ∙ laid-none F ∙ is ∙ ap (forest_in B before) at.is))
 
   -- ---- an updating transaction
 
@@ -160,17 +157,13 @@ module _ (B : Base) (s : ℕ) (before : List Event) (changes : ChangeMap) (tied 
   module _ (call : Call) (effect : Effect) (is : state s before ≡ Updating) (granted : last_of s before ≡ Some (Granted s (needs call))) (statement : IsTrue (is_statement call))
       (so : IsEffect call changes (newest B before) effect) where
     -- what a statement is answered there
-    pub update_right : refused_in Updating (work_of call) ≡ None → IsRightAnswer B s before (Some call) effect.says
-    update_right passes = answers.IsRightAnswer.runs_updating (record {
-      statement = statement;
-      updating = is;
-      passes = passes;
-      granted = granted_as s (needs call) before granted;
-      says_so = so.says ∙ ap (λ G. says_of (stmt G call).says) (sym (behind_changes is));
-    })
+    pub update_right : refused_in Updating (work_of call) ≡ None → IsAnswerInMemory B s before (Some call) effect.says
+    update_right passes = ran_right B s before Updating call effect.says is statement
+        (λ told. answers.AnswersInOrder.runs_updating (record { statement = statement; updating = is; passes = passes; granted = granted_as s (needs call) before granted; told = told }))
+        (so.says ∙ ap (λ G. says_of (stmt G call).says) (sym (behind_changes is)))
 
     runs : says_run effect.says ≡ true
-    runs = ap says_run so.says ∙ told_runs (says_of (stmt (laid_over changes (newest B before)) call).says) (stmt_tells (laid_over changes (newest B before)) call)
+    runs = ap says_run so.says ∙ told_runs (says_of (stmt (laid_over changes (newest B before)) call).says) (stmt_told (laid_over changes (newest B before)) call)
 
     ran_alone : ran_by (Some call) effect.says ≡ record { call = call; says = effect.says } ∷ []
     ran_alone = one_ran call effect.says statement runs

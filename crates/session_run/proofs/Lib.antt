@@ -1,3 +1,4 @@
+pub mod Memory
 pub mod Statements
 pub mod Lines
 pub mod Tying

@@ -1,6 +1,8 @@
 //! Calls that begin and end a transaction.
 ghost use Rattle.std.specs.Prelude.{◌≡◌, None, IsTrue, OnOk, OnErr};
-ghost use Rattle.session_core.specs.Kept.{with_event, past, next_number, HasCommitLeft};
+ghost use Rattle.session_core.specs.Kept.{with_event, past};
+ghost use Rattle.session_core.specs.Settling.{HasCommitLeft};
+ghost use Rattle.session_core.specs.Transactions.{next_number};
 ghost use Rattle.session_core.specs.States.{state as state_of, in_doubt, is_open};
 ghost use Rattle.session_run.specs.Called.{AddsClosing};
 ghost use Rattle.xml_model.specs.Changes.{changes_of_entries};
@@ -46,8 +48,8 @@ pub(crate) fn begin_read(core: &mut Core, session: u32) -> Result<(), NoMemory>
 fn commit_changes(core: &mut Core, session: u32, changes: &Changes) -> Result<(), NoMemory>
     requires ready { IsReady session (changes_of_entries changes.now.docs.entries) core.old }
     requires updating { state_of session (past core.old) ≡ State.Updating }
-    requires left { HasCommitLeft core.old.base (past core.old) }
-    ensures ok { OnOk result (core.new ≡ with_event (events.Committed session (next_number core.old.base (past core.old))) core.old) }
+    requires left { HasCommitLeft core.old.base.numbers (past core.old) }
+    ensures ok { OnOk result (core.new ≡ with_event (events.Committed session (next_number core.old.base.numbers (past core.old))) core.old) }
     ensures err { OnErr result (core.new ≡ core.old) }
 {
     let docs = changes.laid_over(core.forest(session))?;

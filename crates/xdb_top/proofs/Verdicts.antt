@@ -42,7 +42,7 @@ answered s call answer = Answered s (record { call = Some call; says = answer })
 
 abbrev pub in_idle : Base → ℕ → List Event → Call → Verdict
 in_idle B s past Begin = only (Began s kinds.Updating)
-in_idle B s past BeginRead = only (Began s (kinds.Reading (B.commit + commit_count past)))
+in_idle B s past BeginRead = only (Began s (kinds.Reading (B.numbers.commit + commit_count past)))
 in_idle B s past call = only (answered s call says.Done)
 
 abbrev pub in_updating : ℕ → Call → Verdict
@@ -53,7 +53,7 @@ in_updating s call = runs
 abbrev pub in_reading : Base → ℕ → List Event → ℕ → Call → Verdict
 in_reading B s past n Commit = only (Ended s)
 in_reading B s past n Rollback = only (RolledBack s)
-in_reading B s past n call = only (answered s call (says_of (stmt (after B past (n - B.commit)) call).says))
+in_reading B s past n call = only (answered s call (says_of (stmt (after B past (n - B.numbers.commit)) call).says))
 
 -- of a call that the state lets pass; in doubt there is none
 abbrev pub passing : Base → ℕ → List Event → Call → State → Verdict
@@ -88,8 +88,8 @@ pub record Runs (B : Base) (s : ℕ) (call : Call) (e : Event) (past : List Even
 
 -- the transaction is committed, or no number is left for it
 abbrev pub Commits : Base → ℕ → Event → List Event → Type 0
-Commits B s e past = ((e ≡ Committed s (B.commit + (commit_count past + 1))) × (HasNoCommitLeft B past → ⊥))
-    ⊎ ((e ≡ answered s Commit (says.Error (codes.Spent spent.Commit last_number))) × HasNoCommitLeft B past)
+Commits B s e past = ((e ≡ Committed s (B.numbers.commit + (commit_count past + 1))) × (HasNoCommitLeft B.numbers past → ⊥))
+    ⊎ ((e ≡ answered s Commit (says.Error (codes.Spent spent.Commit last_number))) × HasNoCommitLeft B.numbers past)
 
 -- the event is one of these
 abbrev pub Is : Base → ℕ → List Event → Call → Verdict → Event → Type 0
@@ -148,7 +148,7 @@ module _ (B : Base) (s : ℕ) (past : List Event) where
   running (Load name pyx) e statement passes is = inr (inr is)
   running (Export name) e statement passes is = inr (inr is)
 
-  reading : (call : Call) (n : ℕ) (answer : Says) → IsTrue (is_statement call) → refused_in (Reading n) (work_of call) ≡ None → answer ≡ says_of (stmt (after B past (n - B.commit)) call).says
+  reading : (call : Call) (n : ℕ) (answer : Says) → IsTrue (is_statement call) → refused_in (Reading n) (work_of call) ≡ None → answer ≡ says_of (stmt (after B past (n - B.numbers.commit)) call).says
       → IsTold B s past call (Reading n) (answered s call answer)
   reading Begin n answer statement passes is = never statement
   reading BeginRead n answer statement passes is = never statement

@@ -37,7 +37,7 @@ pub record IsUpTo (B : Base) (P : Scripts) (s : ℕ) (past : List Event) : Type 
 
 -- scripts are played from a store without documents
 abbrev pub start : Base
-start = record { commit = 0; generation = 1; forest = no_documents }
+start = record { numbers = record { commit = 0; generation = 1 }; forest = no_documents }
 
 -- A script was played whole: the journal is one legal history of its sessions' calls, which are closed in the order of
 -- their turns. Each answer is a right one, as told by the session's state and by the documents that it sees. No other

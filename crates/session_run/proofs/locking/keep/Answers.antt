@@ -1,6 +1,5 @@
 use Rattle.std.proofs.Common.{◌≡◌, Some, OnOk, refl, sym, ap, subst, ◌∙◌}
 use Rattle.std.specs.FinMap as map
-use Rattle.session_core.specs.Answering as answers
 use Rattle.session_core.specs.Kept.{past}
 use Rattle.session_run.specs.Answers.{answered}
 use Rattle.xml_model.specs.Changes.{ChangeMap, unshared, changes_of_entries}
@@ -8,10 +7,11 @@ use Rattle.session_run.specs.Effects.{with_change}
 use Rattle.session_run.specs.Tied.{IsReady}
 use Rattle.session_run.proofs.Closing.{stays, ready_behind, answer_closes}
 use Rattle.session_run.proofs.Calling.{update_right, tied_effect}
+use Rattle.session_run.proofs.Memory.{lacking}
 use Rattle.session_run.proofs.locking.keep.Goals as goal
 
 pub answer_unchanged-requires-clause-right : goal.answer_unchanged-requires-clause-right
-answer_unchanged-requires-clause-right c = answers.IsRightAnswer.lacks_memory
+answer_unchanged-requires-clause-right c = lacking c.args.core.now.base c.args.session (past c.args.core.now) (Some _)
 
 pub returns-then-is_err-clause-ready : goal.returns-then-is_err-clause-ready
 returns-then-is_err-clause-ready c =

@@ -1,8 +1,8 @@
-use Rattle.session_core.specs.Answering as answers
 use Rattle.session_core.specs.Kept.{past}
 use Rattle.xml_model.specs.Changes.{changes_of_entries}
 use Rattle.session_run.proofs.Calling.{read_right}
 use Rattle.session_run.proofs.Closing.{on_ok, answer_closes}
+use Rattle.session_run.proofs.Memory.{lacking}
 use Rattle.session_run.proofs.locking.read.Goals as goal
 
 pub answer-requires-clause-right : goal.answer-requires-clause-right
@@ -11,7 +11,7 @@ answer-requires-clause-right c =
     c.args.call c.in-Ok.effect c.forest.result.now c.forest.ensures c.requires.reading c.requires.statement c.requires.passes c.in-Ok.ensures
 
 pub answer_unchanged-requires-clause-right : goal.answer_unchanged-requires-clause-right
-answer_unchanged-requires-clause-right c = answers.IsRightAnswer.lacks_memory
+answer_unchanged-requires-clause-right c = lacking c.args.core.now.base c.args.session (past c.args.core.now) (Some _)
 
 pub returns-in-Ok-clause-closed : goal.returns-in-Ok-clause-closed
 returns-in-Ok-clause-closed c =

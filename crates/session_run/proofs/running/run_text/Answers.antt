@@ -1,6 +1,6 @@
 use Rattle.std.proofs.Common.{None, refl, subst, sym, ap, ◌∙◌}
 use Rattle.session_core.specs.declared.event.Says.TheVariants as says
-use Rattle.session_core.specs.Answering.{IsRightAnswer}
+use Rattle.session_run.specs.Calls.{IsAnswerInMemory}
 use Rattle.session_core.specs.Kept.{past, with_event}
 use Rattle.session_core.proofs.Beside.{none_in_doubt}
 use Rattle.session_run.specs.Answers.{answered}
@@ -14,7 +14,7 @@ run_call-requires-clause-certain c = none_in_doubt c.args.core.now.base (past c.
 
 pub answer-requires-clause-right : goal.answer-requires-clause-right
 answer-requires-clause-right c =
-    subst (λ code. IsRightAnswer c.args.core.now.base c.args.session (past c.args.core.now) None (says.Error code)) (sym c.code.ensures)
+    subst (λ code. IsAnswerInMemory c.args.core.now.base c.args.session (past c.args.core.now) None (says.Error code)) (sym c.code.ensures)
     (right_end c.args.core.now.base c.args.session (past c.args.core.now) c.in-Err.end (none_in_doubt c.args.core.now.base (past c.args.core.now) c.legal.ensures.settling c.requires.ready.settled c.args.session))
 
 pub returns-in-Ok-clause-closed : goal.returns-in-Ok-clause-closed
