@@ -305,7 +305,8 @@ pub granted_as : (s : ℕ) (asked : List Need) (past : List Event) → last_of s
 granted_as s [] past is = tt
 granted_as s (n ∷ more) past is = is
 
-held_where_granted : (past : List Event) (s : ℕ) (asked : List Need) → state s past ≡ Updating → AreGranted s asked past → AreHeld asked (locks_of s past)
+-- what a call needs is held where its locks were granted
+pub held_where_granted : (past : List Event) (s : ℕ) (asked : List Need) → state s past ≡ Updating → AreGranted s asked past → AreHeld asked (locks_of s past)
 held_where_granted past s [] updating granted = tt
 held_where_granted past s (n ∷ more) updating granted = held_behind_grant past s (n ∷ more) updating granted
 

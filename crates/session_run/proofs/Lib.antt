@@ -3,6 +3,6 @@ pub mod Statements
 pub mod Lines
 pub mod Tying
 pub mod Closing
-pub mod Calling
 pub mod Texts
+pub mod Calling
 pub mod Untouched

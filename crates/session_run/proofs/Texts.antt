@@ -55,14 +55,14 @@ module _ (s : ℕ) (text : CallText) (call : Call) (is : Parsed text (Ok call)) 
   pub called_read : (old new : Kept) → ClosesRead s call old new → IsCalled s text old new
   called_read old new (inl a) = record { events = a.event ∷ []; grown = a.grown; of_call = calls.AreOfCall.at_once (closes_read old new a (past old) refl) }
   called_read old new (inr a) = record {
-    events = Granted s (needs call) ∷ a.event ∷ [];
-    grown = a.grown ∙ (λ i. record { base = old.base; journal = append_assoc old.journal (Granted s (needs call) ∷ []) (a.event ∷ []) i });
-    of_call = calls.AreOfCall.behind_grant a.some (record { call = call; parsed = is; needs_are = refl }) (closes_read (behind_grant s call old) new a (Granted s (needs call) ∷ past old) (past-more old.journal (Granted s (needs call))));
+    events = Granted s (needs call) ∷ a.closes.event ∷ [];
+    grown = a.closes.grown ∙ (λ i. record { base = old.base; journal = append_assoc old.journal (Granted s (needs call) ∷ []) (a.closes.event ∷ []) i });
+    of_call = calls.AreOfCall.behind_grant a.some (record { call = call; parsed = is; needs_are = refl }) (closes_read (behind_grant s call old) new a.closes (Granted s (needs call) ∷ past old) (past-more old.journal (Granted s (needs call))));
   }
 
   pub left_read : (old new : Kept) → LeavesRead s call old new → IsUnclosed s text old new
   left_read old new (inl same) = inl same
-  left_read old new (inr grown) = inr (record { asked = needs call; needed = record { call = call; parsed = is; needs_are = refl }; grown = grown })
+  left_read old new (inr left) = inr (record { asked = needs call; some = left.0; needed = record { call = call; parsed = is; needs_are = refl }; grown = left.1 })
 
 -- ---- a text that is none, or for which memory was wanting
 

@@ -2,8 +2,10 @@
 ghost use Rattle.std.specs.Prelude.{◌≡◌, Some, None, IsTrue, OnOk, OnErr};
 ghost use Rattle.xml_model.specs.Needs.{needs as needs_of};
 ghost use Rattle.xml_model.specs.Statement.{is_statement};
-ghost use Rattle.session_core.specs.History.{last_of};
-ghost use Rattle.session_core.specs.Kept.{past};
+ghost use Rattle.session_core.specs.Locks.{AreGranted};
+ghost use Rattle.session_core.specs.Kept.{past, Follows};
+ghost use Rattle.session_core.specs.declared.event.Says.{Says};
+ghost use Rattle.session_run.specs.Answers.{answered};
 ghost use Rattle.session_core.specs.Refusals.{refused_in, work_of};
 ghost use Rattle.session_core.specs.States.{state as state_of, in_doubt, is_open, is_reading};
 ghost use Rattle.session_core.specs.Transactions.{newest};
@@ -11,7 +13,6 @@ ghost use Rattle.session_run.specs.Called.{AddsClosing, ClosesRead, LeavesRead};
 ghost use Rattle.xml_model.specs.Changes.{changes_of_entries};
 ghost use Rattle.session_run.specs.Effects.{IsEffect};
 ghost use Rattle.session_run.specs.Tied.{IsTied, IsReady};
-ghost use Rattle.session_core.specs.declared.event.Event.TheVariants as events;
 
 use crate::answering::{answer, answer_unchanged};
 use crate::changes::Changes;
@@ -55,7 +56,8 @@ fn keep(
     requires tied { IsTied core.old.base session (changes_of_entries changes.old.docs.entries) (past core.old) }
     requires settled { in_doubt (past core.old) ≡ None }
     requires updating { state_of session (past core.old) ≡ State.Updating }
-    requires granted { last_of session (past core.old) ≡ Some (events.Granted session (needs_of call)) }
+    requires granted { AreGranted session (needs_of call) (past core.old) }
+    requires follows { (says : Says) → Follows (answered session (Some call) says) (past core.old) }
     requires statement { IsTrue (is_statement call) }
     requires passes { refused_in State.Updating (work_of call) ≡ None }
     ensures closed { OnOk result (AddsClosing session call core.old core.new) }
@@ -74,7 +76,7 @@ fn keep(
     Ok(())
 }
 
-// Runs a statement whose locks were granted.
+// Runs a statement whose locks were granted, or that needs none.
 fn run_granted(
     alloc: Global,
     core: &mut Core,
@@ -85,7 +87,8 @@ fn run_granted(
     requires tied { IsTied core.old.base session (changes_of_entries changes.old.docs.entries) (past core.old) }
     requires settled { in_doubt (past core.old) ≡ None }
     requires updating { state_of session (past core.old) ≡ State.Updating }
-    requires granted { last_of session (past core.old) ≡ Some (events.Granted session (needs_of call)) }
+    requires granted { AreGranted session (needs_of call) (past core.old) }
+    requires follows { (says : Says) → Follows (answered session (Some call) says) (past core.old) }
     requires statement { IsTrue (is_statement call) }
     requires passes { refused_in State.Updating (work_of call) ≡ None }
     ensures closed { OnOk result (AddsClosing session call core.old core.new) }
@@ -99,7 +102,7 @@ fn run_granted(
     }
 }
 
-// Asks for the locks of a statement, and runs it where they are granted.
+// Asks for the locks of a statement, if it needs some, and runs it where they are granted.
 fn update(
     alloc: Global,
     core: &mut Core,
@@ -119,6 +122,9 @@ fn update(
     let Ok(needed) = needs(alloc, &call) else {
         return answer_unchanged(core, session, call, Says::Error(Code::NoMemory));
     };
+    if needed.is_empty() {
+        return run_granted(alloc, core, session, changes, call);
+    }
     match core.ask(session, &needed) {
         Ok(()) => run_granted(alloc, core, session, changes, call),
         Err(AskEnd::Held { .. }) => Ok(()),

@@ -13,10 +13,6 @@ pub returns-in_default-clause-ready : goal.returns-in_default-clause-ready
 returns-in_default-clause-ready c =
     stays c.answer_unchanged.result c.args.session (changes_of_entries c.args.changes.now.docs.entries) c.args.core.now c.args.core.now c.answer_unchanged.new.core refl c.requires.ready.tied c.answer_unchanged.ensures.ready
 
-pub run_granted-requires-clause-tied : goal.run_granted-requires-clause-tied
-run_granted-requires-clause-tied c =
-    (granted_here c.args.session (changes_of_entries c.args.changes.now.docs.entries) c.args.call c.args.core.now c.requires.ready c.requires.updating c.ask.new.self c.in-Ok.needed c.in-Ok.ensures c.in-Ok-ask.ensures.granted).tied
-
 pub answer_unchanged-requires-in-Err-NoMemory-clause-right : goal.answer_unchanged-requires-in-Err-NoMemory-clause-right
 answer_unchanged-requires-in-Err-NoMemory-clause-right c = lacking c.ask.new.self.base c.args.session (past c.ask.new.self) (Some _)
 
