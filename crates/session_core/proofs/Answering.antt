@@ -15,7 +15,7 @@ use Rattle.xml_model.specs.declared.limits.TheConstants.{REPLY_BYTES_MAX}
 use Rattle.xml_model.specs.declared.node.Doc.{Doc}
 use Rattle.xml_model.specs.declared.node.RefusedLine.{RefusedLine}
 use Rattle.xml_model.specs.Forest.{Forest}
-use Rattle.xml_model.specs.Needs.{needs, is_exclusive, has_exclusive}
+use Rattle.xml_model.specs.Needs.{needs, has_exclusive}
 use Rattle.xml_model.specs.Pyx.{Line, read, pyx, text_of}
 use Rattle.xml_model.specs.Statement.{is_statement, stmt, error, lines, answer_of, added_where_free, dropped, exported}
 use Rattle.session_core.specs.declared.event.BeginKind.{BeginKind}
@@ -29,7 +29,8 @@ use Rattle.session_core.specs.declared.event.Event.{Event}
 use Rattle.session_core.specs.declared.event.Event.TheVariants.{Granted, Answered}
 use Rattle.session_core.specs.History.{AtEach, past_of, last_of}
 use Rattle.session_core.specs.Transactions.{Base, Transaction, Ran, open_of, updating, where_updating, ran, ran_by, ran_all, run_calls, serial, after, newest, says_of, says_run, is_without_run, AnsweredInTurn, AnsweredAt}
-use Rattle.session_core.specs.States.{state, state_with, state_in, blocks, conflicts}
+use Rattle.session_core.specs.States.{state, state_with, state_in, blocks}
+use Rattle.xq_ast.specs.Modes.{conflicts, is_exclusive}
 use Rattle.session_core.specs.Locks.{AllFree, AreGranted, RanGranted, MeetsNoConflict, IsAnsweredWithLocks, LocksAt}
 use Rattle.session_core.specs.Replies.{AnsweredFrom}
 use Rattle.session_core.specs.Refusals.{Work, begins, ends, checkpoints, reads, shows, changes, work_of, refused_in, passes_with, answers_statement, is_text_refusal, is_state_refusal, IsByTable, IsBehindSettling, RefusalsAt}

@@ -14,17 +14,12 @@ use Rattle.doc_locks.specs.Refusal.{IsRefusal}
 use Rattle.doc_locks.specs.declared.end.AskEnd.TheVariants.{Held}
 use Rattle.session_core.specs.declared.event.State.TheVariants.{Updating}
 use Rattle.session_core.specs.declared.event.Event.{Event}
-use Rattle.session_core.specs.States.{state, conflicts, blocks}
+use Rattle.session_core.specs.States.{state, blocks}
+use Rattle.xq_ast.specs.Modes.{conflicts}
 use Rattle.session_core.specs.Refusals.{refused_in, work_of}
 use Rattle.session_core.specs.Locks.{IsFree, AllFree, IsGranted, IsRefused}
 use Rattle.session_core.proofs.Holding.{and_parts}
 use Rattle.session_core.proofs.Tying.{LocksAre}
-
-same_conflicts : (mode : Option LockMode) (asked : LockMode) → table.conflicts mode asked ≡ conflicts mode asked
-same_conflicts None asked = refl
-same_conflicts (Some X) asked = refl
-same_conflicts (Some S) X = refl
-same_conflicts (Some S) S = refl
 
 -- the needs before a place, the one there, and those behind
 record Parted (asked : List Need) (place : ℕ) (P Q : Need → Type 0) : Type 0 where
@@ -56,7 +51,7 @@ not_empty (m ∷ front) n behind asked are none = let e : m ∷ front ++ n ∷ b
 module _ (past : List Event) (locks : Locks) (are : LocksAre locks past) (s : ℕ) where
   -- who is another blocks in the table what it blocks in the journal
   blocked_is : (t : ℕ) (n : Need) → (t ≡ s → ⊥) → is_blocked_by locks s n t ≡ blocks t n past
-  blocked_is t n other = ap (λ b. not b && table.conflicts (mode_held locks t n.name) n.mode) (ne_eqb t s other) ∙ same_conflicts (mode_held locks t n.name) n.mode ∙ ap (λ m. conflicts m n.mode) (are t n.name)
+  blocked_is t n other = ap (λ b. not b && conflicts (mode_held locks t n.name) n.mode) (ne_eqb t s other) ∙ ap (λ m. conflicts m n.mode) (are t n.name)
 
   free : (n : Need) → table.IsFree locks s n → IsFree s n past
   free n is t other = sym (blocked_is t n other) ∙ is t

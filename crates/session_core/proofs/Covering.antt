@@ -10,7 +10,8 @@ use Rattle.xq_ast.specs.declared.call.Call.TheVariants.{ShowDocuments}
 use Rattle.xq_ast.specs.declared.code.Code.{Code}
 use Rattle.xq_ast.specs.declared.code.Code.TheVariants as codes
 use Rattle.xq_ast.specs.declared.need.Need.{Need}
-use Rattle.xml_model.specs.Needs.{needs, is_exclusive, has_exclusive}
+use Rattle.xml_model.specs.Needs.{needs, has_exclusive}
+use Rattle.xq_ast.specs.Modes.{is_exclusive}
 use Rattle.xml_model.specs.Statement.{is_statement}
 use Rattle.session_core.specs.declared.event.BeginKind.{BeginKind}
 use Rattle.session_core.specs.declared.event.BeginKind.TheVariants as kinds

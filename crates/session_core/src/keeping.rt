@@ -17,7 +17,7 @@ use std::alloc::Global;
 use std::marker::Model;
 use std::snapshot::Snapshot;
 use xml_model::DocMap;
-use xq_ast::{Mark, NeedList, NoMemory, Sequence, copy_needs};
+use xq_ast::{Mark, NeedList, NoMemory, Sequence};
 
 /// A commit in doubt: whose it is, and the documents if it stands.
 #[derive(Drop)]
@@ -187,11 +187,10 @@ impl Core {
         ensures granted { OnOk result (self.new ≡ with_event (Event.Granted session needs.now) self.old) }
         ensures refused { IfErr result (AskEnds session needs.now self.old self.new) }
     {
-        let alloc = *self.journal.allocator();
         if self.journal.reserve(self.opened + 1).is_err() {
             return Err(AskEnd::NoMemory);
         }
-        let asked = copy_needs(alloc, needs)?;
+        let asked = needs.copy()?;
         match self.locks.ask(session, needs) {
             Ok(()) => {
                 self.journal.push_reserved(Event::Granted(session, asked));
