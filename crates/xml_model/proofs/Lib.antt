@@ -11,3 +11,4 @@ mod Rows
 pub mod TextAgain
 pub mod TextLines
 pub mod Sorting
+pub mod Validity

@@ -8,7 +8,7 @@ use Rattle.xml_model.specs.declared.limits.TheConstants.{DEPTH_MAX, NODES_MAX, T
 use Rattle.xml_model.specs.declared.node.Attr.{Attr}
 use Rattle.xml_model.specs.declared.node.Node.{Node, Element', Text, Pi}
 use Rattle.xml_model.specs.declared.node.Node.TheVariants.{Element, outs-Element', outs-Text, outs-Pi}
-use Rattle.xml_model.specs.Names.{is_name, begins_name, continues_name}
+use Rattle.xq_ast.specs.Names.{is_name, begins_name, continues_name}
 use Rattle.xml_model.specs.Trees.{has_attribute}
 use Rattle.xml_model.specs.Values.{escaped, unescaped}
 use Rattle.xml_model.specs.Pyx.{Line, Form, begins, ends, attribute, characters, instruction, form, before_space, behind_space, OpenElement, Reading, refusal, taken, next_line, after, texts_added, with_characters, ends_in_text, attribute_line, behind_target}

@@ -6,7 +6,7 @@ use Rattle.xml_model.specs.declared.node.Node.{Node, Element', Text, Pi, Row_of-
 use Rattle.xml_model.specs.declared.node.Node.TheBlock.{hidden-the_row-Node-0}
 use Rattle.xml_model.specs.declared.node.Node.TheOpen.{Node-F}
 use Rattle.xml_model.specs.declared.node.Node.TheVariants.{Element, outs-Element, outs-Element', outs-Text, outs-Pi, rolls-Element}
-use Rattle.xml_model.specs.Names.{is_name}
+use Rattle.xq_ast.specs.Names.{is_name}
 use Rattle.xml_model.specs.Trees.{count_node, count_of, bytes_node, bytes_of, depth_node, depth_of}
 use Rattle.xml_model.specs.Document.{IsFormed, AreFormed, AllFormed, IsApart, AreAttributes, is_text}
 use Rattle.xml_model.specs.Pyx.{is_text_layer}

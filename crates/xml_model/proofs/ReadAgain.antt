@@ -7,7 +7,7 @@ use Rattle.xml_model.specs.declared.node.Attr.{Attr}
 use Rattle.xml_model.specs.declared.node.Doc.{Doc}
 use Rattle.xml_model.specs.declared.node.Node.{Node, Element', Text, Pi, Row_of-Node, end_of-Node, more_of-Node, items-the_row-Node}
 use Rattle.xml_model.specs.declared.node.Node.TheVariants.{Element}
-use Rattle.xml_model.specs.Names.{is_name}
+use Rattle.xq_ast.specs.Names.{is_name}
 use Rattle.xml_model.specs.Trees.{count_of, count_node, count_step, bytes_of, bytes_node, bytes_step, depth_of, depth_step, has_attribute, value_bytes}
 use Rattle.xml_model.specs.Values.{escaped}
 use Rattle.xml_model.specs.Document.{IsValid, IsFormed, AreFormed, AllFormed, IsApart, AreAttributes, is_text}

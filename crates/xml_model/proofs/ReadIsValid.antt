@@ -10,7 +10,7 @@ use Rattle.xml_model.specs.declared.node.Doc.{Doc}
 use Rattle.xml_model.specs.declared.node.RefusedLine.{RefusedLine}
 use Rattle.xml_model.specs.declared.node.Node.{Node, Element', Text, Pi}
 use Rattle.xml_model.specs.declared.node.Node.TheVariants.{Element, outs-Element', outs-Text, outs-Pi}
-use Rattle.xml_model.specs.Names.{is_name}
+use Rattle.xq_ast.specs.Names.{is_name}
 use Rattle.xml_model.specs.Trees.{count_of, count_step, bytes_of, bytes_step, depth_of, depth_step, has_attribute, value_bytes}
 use Rattle.xml_model.specs.Counts.{open_nodes, open_bytes, IsCounted}
 use Rattle.xml_model.specs.Document.{IsValid, AllFormed, IsApart, AreAttributes, is_text}

@@ -5,7 +5,7 @@ use Rattle.std.proofs.lemmas.Bool.{eqb-true, false_from_ne_true, and_parts}
 use Rattle.xml_model.specs.declared.node.Attr.{Attr}
 use Rattle.xml_model.specs.declared.node.Doc.{Doc}
 use Rattle.xml_model.specs.declared.node.Node.{Node, Element', Text, Pi, Row_of-Node, end_of-Node, more_of-Node, items-the_row-Node}
-use Rattle.xml_model.specs.Names.{is_name, continues_name}
+use Rattle.xq_ast.specs.Names.{is_name, continues_name}
 use Rattle.xml_model.specs.Values.{escaped, escaped_byte}
 use Rattle.xml_model.specs.Document.{IsValid, IsFormed, AreFormed, AllFormed, AreAttributes}
 use Rattle.xml_model.specs.Pyx.{Line, attribute_line, behind_target, pyx_step, pyx_node, pyx_of, pyx, text_of, in_front, split_lines, IsPlain}

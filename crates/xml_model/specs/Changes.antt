@@ -1,6 +1,6 @@
 -- What is changed in a forest: names with the document that each has now, or none where it is dropped.
-use Rattle.std.specs.Prelude.{ℕ, List, [], ◌∷◌, map as list_map, fold, string_bytes, Option, None, Some}
-use Rattle.std.specs.Coded.{Coded, coded_ℕ, coded_list, coded_option}
+use Rattle.std.specs.Prelude.{ℕ, List, [], ◌∷◌, map as list_map, fold, string_bytes, Option, None, Some, IsTrue, IfSome, refl}
+use Rattle.std.specs.Coded.{Coded, code_by, coded×, coded_ℕ, coded_list, coded_option}
 use Rattle.std.specs.Arc.{arc_value}
 use Rattle.std.specs.declared.string.String.{String}
 use Rattle.std.specs.declared.sync.Arc.{Arc}
@@ -8,8 +8,10 @@ use Rattle.std.specs.FinMap as map
 use Rattle.std.specs.Ordering.{nat_cmp}
 use Rattle.std.specs.Cmp.Lexicographic.{slice_cmp}
 use Rattle.indexmap.specs.IndexMap.{IndexMap}
+use Rattle.xq_ast.specs.Parsed.{is_document_name}
 use Rattle.xml_model.specs.declared.node.Doc.{Doc}
 use Rattle.xml_model.specs.contracts.node.Doc as the_doc
+use Rattle.xml_model.specs.Document.{IsValid}
 use Rattle.xml_model.specs.Forest.{Forest, no_documents}
 
 abbrev pub ChangeMap : Type 0
@@ -17,6 +19,15 @@ ChangeMap = map.FinMap (slice_cmp nat_cmp) (Option Doc)
 
 abbrev pub no_changes : ChangeMap
 no_changes = map.empty
+
+-- each name is a name of a document, and each document is valid: so a forest stays one under the changes
+abbrev pub AreValidChanges : ChangeMap → Type 0
+AreValidChanges changes = (name : List ℕ) → IfSome (map.get changes name) (λ after. IsTrue (is_document_name name) × IfSome after IsValid)
+
+-- changes, and for how many names more there is room
+pub record Changing : Type 0 where
+  pub changes : ChangeMap
+  pub room : ℕ
 
 -- the forest in which a name has this document, or none
 abbrev pub with_document : List ℕ → Option Doc → Forest → Forest
@@ -35,6 +46,9 @@ laid_over changes F = with_documents (map.entries changes) F
 
 abbrev pub changes_code : Coded ChangeMap
 changes_code = map.code (coded_list coded_ℕ) (coded_option the_doc.the_row.coded)
+
+abbrev pub changing_code : Coded Changing
+changing_code = code_by (ChangeMap × ℕ) (coded× changes_code coded_ℕ) (λ c. (c.changes, c.room)) (λ p. record { changes = p.0; room = p.1 }) (λ _. refl)
 
 abbrev pub unshared : {Z : Type 0} → Option (Arc Doc Z) → Option Doc
 unshared None = None

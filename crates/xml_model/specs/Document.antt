@@ -7,7 +7,7 @@ use Rattle.xml_model.specs.declared.limits.TheConstants.{DEPTH_MAX, NODES_MAX, T
 use Rattle.xml_model.specs.declared.node.Attr.{Attr}
 use Rattle.xml_model.specs.declared.node.Doc.{Doc}
 use Rattle.xml_model.specs.declared.node.Node.{Node, Element', Text, Pi, Row_of-Node, end_of-Node, more_of-Node, items-the_row-Node}
-use Rattle.xml_model.specs.Names.{is_name}
+use Rattle.xq_ast.specs.Names.{is_name}
 use Rattle.xml_model.specs.Trees.{count_of, bytes_of, depth_of, has_attribute}
 
 abbrev pub is_text : Node → Bool

@@ -1,4 +1,3 @@
-pub mod Names
 pub mod Trees
 pub mod Document
 pub mod Place

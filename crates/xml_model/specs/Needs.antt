@@ -8,6 +8,7 @@ use Rattle.xq_ast.specs.declared.call.Call.TheVariants.{Begin, BeginRead, Commit
 use Rattle.xq_ast.specs.declared.need.LockMode.{LockMode}
 use Rattle.xq_ast.specs.declared.need.LockMode.TheVariants.{S, X}
 use Rattle.xq_ast.specs.declared.need.Need.{Need}
+use Rattle.xq_ast.specs.Modes.{is_exclusive}
 use Rattle.xml_model.specs.Forest.{Forest}
 use Rattle.xml_model.specs.Statement.{stmt}
 
@@ -25,10 +26,6 @@ needs (Create name) = need name X
 needs (Drop name) = need name X
 needs (Load name pyx_lines) = need name X
 needs (Export name) = need name S
-
-abbrev pub is_exclusive : LockMode → Bool
-is_exclusive S = false
-is_exclusive X = true
 
 -- the name stands in the list with the mode X
 abbrev pub has_exclusive : List ℕ → List Need → Bool

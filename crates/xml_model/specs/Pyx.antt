@@ -13,7 +13,7 @@ use Rattle.xml_model.specs.declared.node.Node.{Node, out-Node}
 use Rattle.xml_model.specs.declared.node.Node.TheOpen.{Node-F}
 use Rattle.xml_model.specs.declared.node.Node.TheVariants.{Element, Text, Pi}
 use Rattle.xml_model.specs.declared.node.Node.TheFolds.{fold-Node}
-use Rattle.xml_model.specs.Names.{is_name}
+use Rattle.xq_ast.specs.Names.{is_name}
 use Rattle.xml_model.specs.Trees.{joined, has_attribute}
 use Rattle.xml_model.specs.Values.{escaped, unescaped}
 

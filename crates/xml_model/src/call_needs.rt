@@ -1,3 +1,4 @@
+//! The locks that a call needs.
 ghost use Rattle.std.specs.Prelude.{◌≡◌, IfOk};
 ghost use Rattle.xml_model.specs.Needs.{need, needs as needs_of};
 

@@ -1,3 +1,4 @@
+//! Copies of documents.
 ghost use Rattle.std.specs.Prelude.{◌≡◌, IfOk};
 
 use crate::node::{Attr, AttrList, Doc, Node, NodeList};

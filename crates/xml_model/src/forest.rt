@@ -1,25 +1,29 @@
-ghost use Rattle.std.specs.Prelude.{◌≡◌, [], ◌∷◌, ◌++◌, is_some, if◌then◌else◌, IfOk, OnOk, OnErr};
+//! Maps of documents.
+ghost use Rattle.std.specs.Prelude.{◌≡◌, [], ◌∷◌, ◌++◌, is_some, if◌then◌else◌, IsTrue, IfSome, IfOk, OnOk, OnErr};
 ghost use Rattle.std.specs.FinMap as map;
 ghost use Rattle.std.specs.Option.{option_copied};
-ghost use Rattle.xml_model.specs.Forest.{no_documents};
-ghost use Rattle.xml_model.specs.Changes.{laid_over, changes_of_entries};
+ghost use Rattle.xq_ast.specs.Parsed.{is_document_name};
+ghost use Rattle.xml_model.specs.Document.{IsValid};
+ghost use Rattle.xml_model.specs.Forest.{no_documents, IsForest};
+ghost use Rattle.xml_model.specs.Changes.{laid_over};
 
-use crate::layers::{DocChanges, Layer, add, document, flat};
+use crate::changes::DocChanges;
+use crate::layers::{Layer, add_some, document, flat};
 use crate::node::Doc;
-use indexmap::IndexMap;
 use std::alloc::Global;
 use std::marker::Model;
 use std::sync::Arc;
 use xq_ast::{NoMemory, Sequence, Str, StrList};
 
-/// Documents by their names. Copies share the documents and their names.
+/// Documents by their names. Each is valid, and each name is a document's name. Copies share the
+/// documents and their names.
 #[derive(Drop)]
 pub struct DocMap {
     layers: Vec<Layer>,
 }
 
 impl Model for DocMap {
-    ghost use Rattle.xml_model.specs.Forest.{Forest, forest_code};
+    ghost use Rattle.xml_model.specs.Forest.{Forest, IsForest, forest_code};
     ghost use Rattle.xml_model.specs.Changes.{forest_of_layers};
 
     ghost Value = { Forest };
@@ -27,6 +31,8 @@ impl Model for DocMap {
     ghost coded = { forest_code };
 
     ghost view = { λ m. forest_of_layers m.layers.items };
+
+    ghost invariant = { λ m. IsForest (forest_of_layers m.layers.items) };
 }
 
 // Adds the name, where it has a document.
@@ -54,22 +60,25 @@ impl DocMap {
         }
     }
 
-    /// The document of the name, if there is one.
+    /// The document of the name, if there is one. It is valid.
     pub fn get(&self, name: &Str) -> Option<&Doc>
-        ensures { option_copied result ≡ map.get self.now name.now }
+        ensures document { option_copied result ≡ map.get self.now name.now }
+        ensures valid { IfSome (option_copied result) IsValid }
     {
         document(&self.layers, name.as_str())
     }
 
     /// Gives the name this document. After an error all is as before, and the document is gone.
     pub fn insert(&mut self, name: Str, doc: Doc) -> Result<(), NoMemory>
+        requires named { IsTrue (is_document_name name) }
+        requires valid { IsValid doc }
         ensures ok { OnOk result (self.new ≡ map.insert self.old name doc) }
         ensures err { OnErr result (self.new ≡ self.old) }
     {
         let alloc = *self.layers.allocator();
         let shared = Arc::new(alloc, doc)?;
-        let mut change = IndexMap::new(alloc);
-        let _ = change.insert(name.into_string(), Some(shared))?;
+        let mut change = DocChanges::new(alloc);
+        change.insert(name, Some(shared))?;
         *self = self.with_changes(&change)?;
         Ok(())
     }
@@ -78,13 +87,10 @@ impl DocMap {
     /// calls, each on what the one before gave, a change takes time and memory by the logarithm of
     /// the most names that the line has had.
     pub fn with_changes(&self, changes: &DocChanges) -> Result<DocMap, NoMemory>
-        ensures { IfOk result (λ docs. docs ≡ laid_over (changes_of_entries changes.now.entries) self.now) }
+        ensures { IfOk result (λ docs. docs ≡ laid_over changes.now.changes self.now) }
     {
         let mut layers = self.layers.clone()?;
-        if changes.is_empty() {
-            return Ok(DocMap { layers });
-        }
-        add(&mut layers, changes)?;
+        add_some(&mut layers, &changes.entries)?;
         Ok(DocMap { layers })
     }
 
@@ -110,5 +116,12 @@ impl DocMap {
         Ok(DocMap {
             layers: self.layers.clone()?,
         })
+    }
+
+    /// Does nothing. It tells what is true of every map.
+    pub fn is_forest(&self)
+        ensures { IsForest self.now }
+    {
+        let _ = &self.layers;
     }
 }

@@ -1,3 +1,4 @@
+//! Laws of documents, statements and needs.
 // These functions do nothing. The contract of each is a law, proved over the definitions alone.
 
 ghost use Rattle.std.specs.Prelude.{◌≡◌, List, ℕ, IsTrue};

@@ -13,10 +13,10 @@ use std::alloc::Global;
 use std::sync::Arc;
 use xq_ast::NoMemory;
 
-/// Names with the document that each has now, or none where it is dropped.
-pub type DocChanges = IndexMap<String, Option<Arc<Doc>>>;
+// Names with the document that each has now, or none where it is dropped.
+pub(crate) type Entries = IndexMap<String, Option<Arc<Doc>>>;
 
-pub(crate) type Layer = Arc<DocChanges>;
+pub(crate) type Layer = Arc<Entries>;
 
 // What lies below a layer. Over nothing a dropped name need not be kept.
 #[derive(Clone, Copy)]
@@ -25,7 +25,7 @@ pub(crate) enum Below {
     Layers,
 }
 
-fn shown(after: &Option<Arc<Doc>>) -> Option<&Doc>
+pub(crate) fn shown(after: &Option<Arc<Doc>>) -> Option<&Doc>
     ensures { option_copied result ≡ unshared after.now }
 {
     match after {
@@ -57,7 +57,7 @@ fn shared(after: &Option<Arc<Doc>>) -> Result<Option<Arc<Doc>>, NoMemory>
     }
 }
 
-fn put(all: &mut DocChanges, name: &str, after: &Option<Arc<Doc>>) -> Result<(), NoMemory>
+fn put(all: &mut Entries, name: &str, after: &Option<Arc<Doc>>) -> Result<(), NoMemory>
     ensures { OnOk result (changes_of_entries all.new.entries ≡ map.insert (changes_of_entries all.old.entries) name.now (unshared after.now)) }
 {
     let name = String::from_str(*all.allocator(), name)?;
@@ -68,7 +68,7 @@ fn put(all: &mut DocChanges, name: &str, after: &Option<Arc<Doc>>) -> Result<(),
 
 // Lays one change over a layer.
 fn change(
-    all: &mut DocChanges,
+    all: &mut Entries,
     below: Below,
     name: &str,
     after: &Option<Arc<Doc>>,
@@ -85,7 +85,7 @@ fn change(
 }
 
 // Lays changes over a layer.
-fn lay(all: &mut DocChanges, below: Below, changes: &DocChanges) -> Result<(), NoMemory>
+fn lay(all: &mut Entries, below: Below, changes: &Entries) -> Result<(), NoMemory>
     ensures { OnOk result ((F : Forest) → IsBelow below F → laid_over (changes_of_entries all.new.entries) F ≡ laid_over (changes_of_entries changes.now.entries) (laid_over (changes_of_entries all.old.entries) F)) }
 {
     let mut left = changes.len();
@@ -99,7 +99,7 @@ fn lay(all: &mut DocChanges, below: Below, changes: &DocChanges) -> Result<(), N
 }
 
 // All layers in one.
-pub(crate) fn flat(alloc: Global, layers: &[Layer]) -> Result<DocChanges, NoMemory>
+pub(crate) fn flat(alloc: Global, layers: &[Layer]) -> Result<Entries, NoMemory>
     ensures { IfOk result (λ all. laid_over (changes_of_entries all.entries) no_documents ≡ forest_of_layers layers.now) }
 {
     let mut all = IndexMap::new(alloc);
@@ -121,9 +121,9 @@ fn below_of(layers: &[Layer]) -> Below
 fn merged(
     alloc: Global,
     below: Below,
-    older: &DocChanges,
-    newer: &DocChanges,
-) -> Result<DocChanges, NoMemory>
+    older: &Entries,
+    newer: &Entries,
+) -> Result<Entries, NoMemory>
     ensures { IfOk result (λ all. (F : Forest) → IsBelow below F → laid_over (changes_of_entries all.entries) F ≡ laid_over (changes_of_entries newer.now.entries) (laid_over (changes_of_entries older.now.entries) F)) }
 {
     let mut all = IndexMap::with_capacity(alloc, older.len() + newer.len())?;
@@ -168,7 +168,7 @@ fn settle(layers: &mut Vec<Layer>) -> Result<(), NoMemory>
 }
 
 // Adds a layer with these changes.
-pub(crate) fn add(layers: &mut Vec<Layer>, changes: &DocChanges) -> Result<(), NoMemory>
+fn add(layers: &mut Vec<Layer>, changes: &Entries) -> Result<(), NoMemory>
     ensures { OnOk result (forest_of_layers layers.new.items ≡ laid_over (changes_of_entries changes.now.entries) (forest_of_layers layers.old.items)) }
 {
     let alloc = *layers.allocator();
@@ -176,4 +176,14 @@ pub(crate) fn add(layers: &mut Vec<Layer>, changes: &DocChanges) -> Result<(), N
     let layer = merged(alloc, below_of(layers), &none, changes)?;
     layers.push(Arc::new(alloc, layer)?)?;
     settle(layers)
+}
+
+// Adds a layer, where there are changes.
+pub(crate) fn add_some(layers: &mut Vec<Layer>, changes: &Entries) -> Result<(), NoMemory>
+    ensures { OnOk result (forest_of_layers layers.new.items ≡ laid_over (changes_of_entries changes.now.entries) (forest_of_layers layers.old.items)) }
+{
+    if changes.is_empty() {
+        return Ok(());
+    }
+    add(layers, changes)
 }

@@ -10,28 +10,26 @@
 #![tactic(auto)]
 
 mod call_needs;
+mod changes;
 mod copy;
 mod forest;
 mod laws;
 mod layers;
 mod limits;
 mod measure;
-mod names;
 mod node;
 mod place;
-#[cfg(test)]
-mod tests;
 mod text_lines;
 
 pub use call_needs::needs;
+pub use changes::DocChanges;
 pub use forest::DocMap;
 pub use laws::{
     calls_keep_to_their_needs, canonical_text_is_read_again, pyx_is_read_again,
     statements_keep_forests, what_is_counted, what_is_read_is_valid,
 };
-pub use layers::DocChanges;
-pub use limits::{DEPTH_MAX, NAME_BYTES_MAX, NODES_MAX, REPLY_BYTES_MAX, TEXT_BYTES_MAX};
-pub use names::is_name;
+pub use limits::{DEPTH_MAX, NODES_MAX, REPLY_BYTES_MAX, TEXT_BYTES_MAX};
 pub use node::{Attr, AttrList, Doc, Measure, Node, NodeList, RefusedLine};
 pub use place::{Place, PlaceStep, place_order};
 pub use text_lines::{FirstLine, first_line};
+pub use xq_ast::{NAME_BYTES_MAX, is_name};

@@ -1,6 +1,4 @@
-/// The most bytes of a name of an element, an attribute or an instruction.
-pub const NAME_BYTES_MAX: usize = 255;
-
+//! Limits of documents and of answers.
 /// The most elements that may be open at once.
 pub const DEPTH_MAX: usize = 512;
 

@@ -1,3 +1,4 @@
+//! How deep and how large a document is.
 ghost use Rattle.std.specs.Prelude.{◌≡◌, min, ◌-◌, ◌^◌};
 ghost use Rattle.xml_model.specs.Trees.{count_node, count_of, bytes_node, bytes_of, depth_node, depth_of, value_bytes};
 

@@ -1,3 +1,4 @@
+//! Documents as trees.
 use xq_ast::{Items, NoMemory, PyxRefusal, Sequence, Str};
 
 /// Child nodes, in document order.

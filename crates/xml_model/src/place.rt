@@ -1,3 +1,4 @@
+//! Places and document order.
 ghost use Rattle.std.specs.Prelude.{◌≡◌, []};
 ghost use Rattle.xml_model.specs.Place.{place_cmp, step_cmp};
 

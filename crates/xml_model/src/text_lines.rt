@@ -1,3 +1,4 @@
+//! Texts as lines.
 ghost use Rattle.std.specs.Prelude.{◌≡◌, [], MatchOption};
 ghost use Rattle.xml_model.specs.Pyx.{IsFirstLine, IsCutLine, IsPlain};
 

@@ -6,3 +6,6 @@ pub mod Tables
 pub mod Words
 pub mod Readings
 pub mod ParsedRows
+pub mod Names
+pub mod Modes
+pub mod TokensAlone

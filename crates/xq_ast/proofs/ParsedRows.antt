@@ -5,7 +5,7 @@ use Rattle.xq_ast.specs.declared.token.Token.TheVariants.{Name, Text, Int, Symbo
 use Rattle.xq_ast.specs.declared.call.Call.TheVariants as call
 use Rattle.xq_ast.specs.declared.call.CallText.{CallText}
 use Rattle.xq_ast.specs.declared.code.Code.TheVariants.{XPST0003, NestedTooDeep, BadName}
-use Rattle.xq_ast.specs.Tokens.{tokens}
+use Rattle.xq_ast.specs.Tokens.{tokens, token_lengths}
 use Rattle.xq_ast.specs.Parsed.{most_open}
 use Rattle.xq_ast.specs.Readings.{parsed}
 
@@ -62,6 +62,10 @@ unclosed_comment = refl
 -- a bracket and a colon always open a comment
 comment_of_three : tokens (codes "(:)") ≡ None
 comment_of_three = refl
+
+-- a token has the length of its own spelling, with quotes, references and leading zeros, without what parts it
+lengths : token_lengths (codes "fn:count ( 'a''&lt;' (: , :), 007 )") ≡ Some (8 ∷ 1 ∷ 9 ∷ 1 ∷ 3 ∷ 1 ∷ [])
+lengths = refl
 
 -- ---- calls
 

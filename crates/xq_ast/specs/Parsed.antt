@@ -7,7 +7,7 @@ use Rattle.xq_ast.specs.declared.token.Symbol.TheVariants.{OpenRound, CloseRound
 use Rattle.xq_ast.specs.declared.token.Token.{Token}
 use Rattle.xq_ast.specs.declared.token.Token.TheVariants as token
 use Rattle.xq_ast.specs.declared.call.Call.{Call}
-use Rattle.xq_ast.specs.declared.call.Call.TheVariants.{Create, Drop, Load, Export}
+use Rattle.xq_ast.specs.declared.call.Call.TheVariants.{Begin, BeginRead, Commit, Rollback, Checkpoint, ShowDocuments, Create, Drop, Load, Export}
 use Rattle.xq_ast.specs.declared.call.CallText.{CallText}
 use Rattle.xq_ast.specs.declared.code.Code.{Code}
 use Rattle.xq_ast.specs.declared.code.Code.TheVariants.{TooLong, XPST0003, NestedTooDeep, BadName}
@@ -46,13 +46,18 @@ is_nested_well ts = nat_le (most_open 0 ts) BRACKETS_MAX && nat_le (count_by is_
 abbrev pub is_document_name : List ℕ → Bool
 is_document_name name = nat_le 1 (length name) && nat_le (length name) DOCUMENT_NAME_BYTES_MAX && list_all (nat_le 32) name
 
--- the names in a call are names
+-- the names in a call are names; each row says its own, so that a new one cannot pass unseen
 abbrev pub has_good_names : Call → Bool
+has_good_names Begin = true
+has_good_names BeginRead = true
+has_good_names Commit = true
+has_good_names Rollback = true
+has_good_names Checkpoint = true
+has_good_names ShowDocuments = true
 has_good_names (Create name) = is_document_name name
 has_good_names (Drop name) = is_document_name name
 has_good_names (Load name pyx) = is_document_name name
 has_good_names (Export name) = is_document_name name
-has_good_names _ = true
 
 -- ---- the answer
 

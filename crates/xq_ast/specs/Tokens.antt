@@ -2,9 +2,10 @@
 -- beyond ASCII, so such characters need no case of their own.
 -- A reading gives what the bytes begin with and the bytes behind it, or None where they begin with nothing of the
 -- kind. Where a reading goes on and on, its first number bounds its turns, and the number of bytes is enough.
-use Rattle.std.specs.Prelude.{ℕ, zero, suc, ◌+◌, ◌*◌, ◌-◌, ◌==◌, nat_le, Bool, false, not, ◌&&◌, ◌||◌, if◌then◌else◌, List, [], ◌∷◌, ◌++◌, length, drop, take_while, fold, pos, codes, Option, None, Some}
+use Rattle.std.specs.Prelude.{ℕ, zero, suc, ◌+◌, ◌*◌, ◌-◌, ◌==◌, nat_le, Bool, false, not, ◌&&◌, ◌||◌, if◌then◌else◌, List, [], ◌∷◌, ◌++◌, length, map, drop, take_while, fold, pos, codes, Option, None, Some, option_map}
 use Rattle.std.specs.List.{prefix_len}
 use Rattle.xq_ast.specs.declared.limits.TheConstants.{INTEGER_MAX}
+use Rattle.xq_ast.specs.Names.{is_digit, begins_part, continues_part}
 use Rattle.xq_ast.specs.declared.token.Symbol.{Symbol}
 use Rattle.xq_ast.specs.declared.token.Symbol.TheVariants.{OpenRound, CloseRound, OpenSquare, CloseSquare, OpenCurly, CloseCurly, Comma, Slash, SlashSlash, At, Dot, DotDot, ColonColon, Assign, Equal, NotEqual, Less, LessOrEqual, Greater, GreaterOrEqual, Plus, Minus, Star, Bar, Dollar}
 use Rattle.xq_ast.specs.declared.token.Token.{Token}
@@ -23,20 +24,6 @@ Reading A = List ℕ → Option (A × List ℕ)
 -- space, tab, newline and carriage return
 abbrev pub is_space : ℕ → Bool
 is_space b = b == 32 || b == 9 || b == 10 || b == 13
-
-abbrev pub is_digit : ℕ → Bool
-is_digit b = nat_le 48 b && nat_le b 57
-
-abbrev pub is_letter : ℕ → Bool
-is_letter b = (nat_le 65 b && nat_le b 90) || (nat_le 97 b && nat_le b 122)
-
--- an ASCII letter, `_`, or a character beyond ASCII
-abbrev pub begins_part : ℕ → Bool
-begins_part b = is_letter b || b == 95 || nat_le 128 b
-
--- the same, a digit, `-` or `.`
-abbrev pub continues_part : ℕ → Bool
-continues_part b = begins_part b || is_digit b || b == 45 || b == 46
 
 -- the single and the double quote
 abbrev pub is_quote : ℕ → Bool
@@ -188,15 +175,30 @@ piece (b ∷ bytes) =
     else if begins_part b then a_token token.Name (name (b ∷ bytes))
     else comment_or_symbol (behind (codes "(:") (b ∷ bytes)) (b ∷ bytes)
 
-abbrev pub with_piece : Piece → List Token → List Token
-with_piece None more = more
-with_piece (Some t) more = t ∷ more
+-- a token of a text, and how many bytes it has there in its own spelling
+pub record Spelled : Type 0 where
+  pub token : Token
+  pub bytes : ℕ
 
-abbrev pub pieces : ℕ → List ℕ → Option (List Token)
+-- the tokens of a piece and of what follows it, of which the piece is spelled with so many bytes
+abbrev pub with_piece : Piece → ℕ → List Spelled → List Spelled
+with_piece None bytes more = more
+with_piece (Some t) bytes more = record { token = t; bytes = bytes } ∷ more
+
+-- the first number bounds the pieces; any number from the length on gives the same
+abbrev pub pieces : ℕ → List ℕ → Option (List Spelled)
 pieces n [] = Some []
 pieces zero (b ∷ bytes) = None
-pieces (suc n) (b ∷ bytes) = piece (b ∷ bytes) >>= (λ r. pieces n r.1 >>= (λ more. Some (with_piece r.0 more)))
+pieces (suc n) (b ∷ bytes) = piece (b ∷ bytes) >>= (λ r. pieces n r.1 >>= (λ more. Some (with_piece r.0 (length (b ∷ bytes) - length r.1) more)))
 
--- the tokens of a text, or None where it does not split into tokens
+-- the tokens of a text as they are spelled, or None where it does not split into tokens
+abbrev pub spelled : List ℕ → Option (List Spelled)
+spelled bytes = pieces (length bytes) bytes
+
+-- the tokens of a text
 abbrev pub tokens : List ℕ → Option (List Token)
-tokens bytes = pieces (length bytes) bytes
+tokens bytes = option_map (map (λ s. s.token)) (spelled bytes)
+
+-- how many bytes each of them has
+abbrev pub token_lengths : List ℕ → Option (List ℕ)
+token_lengths bytes = option_map (map (λ s. s.bytes)) (spelled bytes)

@@ -1,3 +1,4 @@
+//! Calls, as they stand in a script and as they are read.
 use crate::StrList;
 use crate::text::Str;
 

@@ -1,3 +1,4 @@
+//! Codes: why a call is answered with an error.
 use crate::refusal::PyxRefusal;
 
 /// The device's counts of faults at two moments between which a device call failed.
@@ -81,7 +82,7 @@ pub enum Code {
     Failed {
         mark: Mark,
     },
-    /// The device failed, and whether the commit before stands is not known.
+    /// The device failed in a checkpoint, and whether what it wrote stands is not known.
     InDoubt {
         mark: Mark,
     },

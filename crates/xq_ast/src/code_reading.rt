@@ -1,10 +1,11 @@
+//! The code that a text is.
 ghost use Rattle.std.specs.Prelude.{false, ◌≡◌, ◌≢◌, ℕ, List, ◌∷◌, ◌++◌, ◌<◌, ◌^◌, length, slice_index, IsTrue, ◌↔◌, IsNone, IfSome, MatchOption};
 ghost use Rattle.std.specs.Fmt.{decimal};
 ghost use Rattle.xq_ast.specs.CodeText.{code_text, refusal_name, kind_name, InRange, HasNoMark, without_mark};
 ghost use Rattle.xq_ast.specs.CodeWords.{IsWord, IsCut, AreWords, Misses, has_space};
 
 use crate::code::{Code, Mark, SpentKind};
-use crate::code_text::{first_word, name_of_kind, name_of_refusal};
+use crate::code_text::{first_word, name_of_kind};
 use crate::refusal::PyxRefusal;
 use crate::text::Str;
 

@@ -1,5 +1,6 @@
+//! The texts of codes.
 ghost use Rattle.std.specs.Prelude.{◌≡◌, IfOk};
-ghost use Rattle.xq_ast.specs.CodeText.{code_text, refusal_name, kind_name};
+ghost use Rattle.xq_ast.specs.CodeText.{code_text, kind_name};
 ghost use Rattle.xq_ast.specs.CodeWords.{IsWord};
 
 use crate::code::{Code, SpentKind};
@@ -7,23 +8,6 @@ use crate::memory::NoMemory;
 use crate::refusal::PyxRefusal;
 use crate::text::Str;
 use std::alloc::Global;
-
-/// The name of a refusal of a PYX line.
-pub fn name_of_refusal(why: PyxRefusal) -> &'static str
-    ensures { result.now ≡ refusal_name why }
-{
-    match why {
-        PyxRefusal::BadLine => "BadLine",
-        PyxRefusal::BadName => "BadName",
-        PyxRefusal::EndMismatch => "EndMismatch",
-        PyxRefusal::AttributeLate => "AttributeLate",
-        PyxRefusal::AttributeTwice => "AttributeTwice",
-        PyxRefusal::TooDeep => "TooDeep",
-        PyxRefusal::TooManyNodes => "TooManyNodes",
-        PyxRefusal::TooMuchText => "TooMuchText",
-        PyxRefusal::Unclosed => "Unclosed",
-    }
-}
 
 pub(crate) fn name_of_kind(kind: SpentKind) -> &'static str
     ensures { result.now ≡ kind_name kind }
@@ -81,7 +65,7 @@ pub(crate) fn first_word(code: &Code) -> &'static str
 fn pyx_text(alloc: Global, why: PyxRefusal, line: u64) -> Result<Str, NoMemory>
     ensures { IfOk result (λ s. s ≡ code_text (Code.Pyx why line)) }
 {
-    let name = name_of_refusal(why);
+    let name = why.name();
     Ok(Str::from_string(format!(in alloc; "Pyx {name} {line}")?))
 }
 

@@ -1,3 +1,4 @@
+//! Copies of lists, names, tokens and calls.
 ghost use Rattle.std.specs.Prelude.{◌≡◌, IfOk};
 
 use crate::StrList;
@@ -9,60 +10,65 @@ use crate::step::{PathStep, PathTest, Test};
 use crate::text::Str;
 use crate::token::{Token, TokenList};
 use crate::tree::{Sign, SignList};
-use std::alloc::Global;
 
-/// A copy of a list of texts.
-pub fn copy_texts(alloc: Global, texts: &StrList) -> Result<StrList, NoMemory>
-    ensures { IfOk result (λ all. all ≡ texts.now) }
-{
-    let mut all = Sequence::new(alloc);
-    for text in texts.as_slice() {
-        all.push(text.copy()?)?;
+impl StrList {
+    pub fn copy(&self) -> Result<StrList, NoMemory>
+        ensures { IfOk result (λ all. all ≡ self.now) }
+    {
+        let mut all = Sequence::new(self.allocator());
+        for text in self.as_slice() {
+            all.push(text.copy()?)?;
+        }
+        Ok(all)
     }
-    Ok(all)
 }
 
-/// A copy of a list of needs.
-pub fn copy_needs(alloc: Global, needs: &NeedList) -> Result<NeedList, NoMemory>
-    ensures { IfOk result (λ all. all ≡ needs.now) }
-{
-    let mut all = Sequence::new(alloc);
-    for need in needs.as_slice() {
-        all.push(need.copy()?)?;
+impl NeedList {
+    pub fn copy(&self) -> Result<NeedList, NoMemory>
+        ensures { IfOk result (λ all. all ≡ self.now) }
+    {
+        let mut all = Sequence::new(self.allocator());
+        for need in self.as_slice() {
+            all.push(need.copy()?)?;
+        }
+        Ok(all)
     }
-    Ok(all)
 }
 
-/// A copy of a list of tokens.
-pub fn copy_tokens(alloc: Global, tokens: &TokenList) -> Result<TokenList, NoMemory>
-    ensures { IfOk result (λ all. all ≡ tokens.now) }
-{
-    let mut all = Sequence::new(alloc);
-    for token in tokens.as_slice() {
-        all.push(token.copy()?)?;
+impl TokenList {
+    pub fn copy(&self) -> Result<TokenList, NoMemory>
+        ensures { IfOk result (λ all. all ≡ self.now) }
+    {
+        let mut all = Sequence::new(self.allocator());
+        for token in self.as_slice() {
+            all.push(token.copy()?)?;
+        }
+        Ok(all)
     }
-    Ok(all)
 }
 
-/// A copy of the steps of a structural path.
-pub fn copy_path(alloc: Global, steps: &PathTest) -> Result<PathTest, NoMemory>
-    ensures { IfOk result (λ all. all ≡ steps.now) }
-{
-    let mut all = Sequence::new(alloc);
-    for step in steps.as_slice() {
-        all.push(step.copy()?)?;
+impl PathTest {
+    pub fn copy(&self) -> Result<PathTest, NoMemory>
+        ensures { IfOk result (λ all. all ≡ self.now) }
+    {
+        let mut all = Sequence::new(self.allocator());
+        for step in self.as_slice() {
+            all.push(step.copy()?)?;
+        }
+        Ok(all)
     }
-    Ok(all)
 }
 
-pub(crate) fn copy_signs(alloc: Global, signs: &SignList) -> Result<SignList, NoMemory>
-    ensures { IfOk result (λ all. all ≡ signs.now) }
-{
-    let mut all = Sequence::new(alloc);
-    for sign in signs.as_slice() {
-        all.push(*sign)?;
+impl SignList {
+    pub fn copy(&self) -> Result<SignList, NoMemory>
+        ensures { IfOk result (λ all. all ≡ self.now) }
+    {
+        let mut all = Sequence::new(self.allocator());
+        for sign in self.as_slice() {
+            all.push(*sign)?;
+        }
+        Ok(all)
     }
-    Ok(all)
 }
 
 pub(crate) fn copy_name(name: &Option<Str>) -> Result<Option<Str>, NoMemory>
@@ -126,18 +132,18 @@ impl Token {
 }
 
 impl CallText {
-    pub fn copy(&self, alloc: Global) -> Result<CallText, NoMemory>
+    pub fn copy(&self) -> Result<CallText, NoMemory>
         ensures { IfOk result (λ c. c ≡ self.now) }
     {
         Ok(CallText {
             text: self.text.copy()?,
-            pyx: copy_texts(alloc, &self.pyx)?,
+            pyx: self.pyx.copy()?,
         })
     }
 }
 
 impl Call {
-    pub fn copy(&self, alloc: Global) -> Result<Call, NoMemory>
+    pub fn copy(&self) -> Result<Call, NoMemory>
         ensures { IfOk result (λ c. c ≡ self.now) }
     {
         match self {
@@ -151,7 +157,7 @@ impl Call {
             Call::Drop { name } => Ok(Call::Drop { name: name.copy()? }),
             Call::Load { name, pyx } => Ok(Call::Load {
                 name: name.copy()?,
-                pyx: copy_texts(alloc, pyx)?,
+                pyx: pyx.copy()?,
             }),
             Call::Export { name } => Ok(Call::Export { name: name.copy()? }),
         }

@@ -1,7 +1,9 @@
+//! Copies of syntax trees.
 ghost use Rattle.std.specs.Prelude.{◌≡◌, IfOk};
 
-use crate::copy::{copy_name, copy_signs};
+use crate::copy::copy_name;
 use crate::memory::NoMemory;
+use crate::text::Str;
 use crate::tree::{
     Bind, BindList, Expr, ExprList, ProductPart, ProductPartList, SortKey, SortKeyList, Start,
     Step, StepList, SumPart, SumPartList,
@@ -236,7 +238,7 @@ impl Expr {
                 parts: copy_exprs(alloc, parts)?,
             }),
             Expr::Signed { signs, inner } => Ok(Expr::Signed {
-                signs: copy_signs(alloc, signs)?,
+                signs: signs.copy()?,
                 inner: copy_boxed(alloc, inner)?,
             }),
             Expr::Path { start, rest } => Ok(Expr::Path {
@@ -287,6 +289,28 @@ fn copy_both(alloc: Global, first: &Expr, second: &Expr) -> Result<Both, NoMemor
     }
 }
 
+fn copy_replace(alloc: Global, name: &Str, target: &Expr, by: &Expr) -> Result<Update, NoMemory>
+    ensures { IfOk result (λ c. c ≡ Update.Replace name.now target.now by.now) }
+{
+    let name = name.copy()?;
+    let both = copy_both(alloc, target, by)?;
+    Ok(Update::Replace {
+        name,
+        target: both.first,
+        by: both.second,
+    })
+}
+
+fn copy_rename(alloc: Global, target: &Expr, name: &Str) -> Result<Update, NoMemory>
+    ensures { IfOk result (λ c. c ≡ Update.Rename target.now name.now) }
+{
+    let name = name.copy()?;
+    Ok(Update::Rename {
+        target: target.copy(alloc)?,
+        name,
+    })
+}
+
 impl Update {
     pub fn copy(&self, alloc: Global) -> Result<Update, NoMemory>
         ensures { IfOk result (λ c. c ≡ self.now) }
@@ -319,22 +343,8 @@ impl Update {
             Update::DeleteUndeep { target } => Ok(Update::DeleteUndeep {
                 target: target.copy(alloc)?,
             }),
-            Update::Replace { name, target, by } => {
-                let name = name.copy()?;
-                let both = copy_both(alloc, target, by)?;
-                Ok(Update::Replace {
-                    name,
-                    target: both.first,
-                    by: both.second,
-                })
-            }
-            Update::Rename { target, name } => {
-                let name = name.copy()?;
-                Ok(Update::Rename {
-                    target: target.copy(alloc)?,
-                    name,
-                })
-            }
+            Update::Replace { name, target, by } => copy_replace(alloc, name, target, by),
+            Update::Rename { target, name } => copy_rename(alloc, target, name),
         }
     }
 }

@@ -1,5 +1,6 @@
 //! The base types that all crates above share: texts, lists, calls with their syntax tree and
-//! tokens, locks that a call needs, and the codes of its answers.
+//! tokens, names and the characters that they have (`Names`), locks that a call needs and which of
+//! them conflict (`Modes`), and the codes of its answers.
 //!
 //! Contracts see a `Str` as the list of its bytes, a `Sequence` or `Items` as the list of its
 //! items, a `Boxed` as its value, and all else as plain data. Nothing is hidden that a caller
@@ -18,6 +19,7 @@ mod copy_tree;
 mod kind;
 mod limits;
 mod memory;
+mod name;
 mod need;
 mod refusal;
 mod sequence;
@@ -30,13 +32,13 @@ mod update;
 pub use call::{Call, CallText};
 pub use code::{Code, Mark, SpentKind};
 pub use code_reading::text_determines_code;
-pub use code_text::name_of_refusal;
-pub use copy::{copy_needs, copy_path, copy_texts, copy_tokens};
 pub use kind::Kind;
 pub use limits::{
-    BRACKETS_MAX, CALL_BYTES_MAX, DOCUMENT_NAME_BYTES_MAX, INTEGER_MAX, NESTING_WORDS_MAX,
+    BRACKETS_MAX, CALL_BYTES_MAX, DOCUMENT_NAME_BYTES_MAX, INTEGER_MAX, NAME_BYTES_MAX,
+    NESTING_WORDS_MAX,
 };
 pub use memory::NoMemory;
+pub use name::{begins_name, continues_name, is_name};
 pub use need::{LockMode, Need, NeedList};
 pub use refusal::PyxRefusal;
 pub use sequence::Sequence;

@@ -1,3 +1,4 @@
+//! Limits of a call's text and of names.
 /// The most bytes of a call's text.
 pub const CALL_BYTES_MAX: usize = 65_536;
 
@@ -9,6 +10,9 @@ pub const NESTING_WORDS_MAX: usize = 64;
 
 /// The most bytes of a document's name.
 pub const DOCUMENT_NAME_BYTES_MAX: usize = 255;
+
+/// The most bytes of a name of an element, an attribute or an instruction.
+pub const NAME_BYTES_MAX: usize = 255;
 
 /// The greatest integer that a call's text may have.
 pub const INTEGER_MAX: u64 = 9_223_372_036_854_775_807;

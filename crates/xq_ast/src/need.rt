@@ -1,3 +1,4 @@
+//! Locks that a call needs.
 use crate::sequence::Sequence;
 use crate::text::Str;
 

@@ -1,3 +1,7 @@
+//! Refusals of PYX lines.
+ghost use Rattle.std.specs.Prelude.{◌≡◌};
+ghost use Rattle.xq_ast.specs.CodeText.{refusal_name};
+
 /// Why a PYX line, or the end of the lines, is refused. The tests are made in this order.
 #[derive(Clone, Copy, Debug, PartialEq, Eq)]
 pub enum PyxRefusal {
@@ -19,4 +23,23 @@ pub enum PyxRefusal {
     TooMuchText,
     /// An element is open at the end.
     Unclosed,
+}
+
+impl PyxRefusal {
+    /// The name of the refusal, as a journal prints it.
+    pub fn name(self) -> &'static str
+        ensures { result.now ≡ refusal_name self }
+    {
+        match self {
+            PyxRefusal::BadLine => "BadLine",
+            PyxRefusal::BadName => "BadName",
+            PyxRefusal::EndMismatch => "EndMismatch",
+            PyxRefusal::AttributeLate => "AttributeLate",
+            PyxRefusal::AttributeTwice => "AttributeTwice",
+            PyxRefusal::TooDeep => "TooDeep",
+            PyxRefusal::TooManyNodes => "TooManyNodes",
+            PyxRefusal::TooMuchText => "TooMuchText",
+            PyxRefusal::Unclosed => "Unclosed",
+        }
+    }
 }

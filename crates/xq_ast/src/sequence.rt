@@ -1,3 +1,4 @@
+//! Lists that contracts see as their items.
 ghost use Rattle.std.specs.Prelude.{◌≡◌, [], ◌∷◌, ◌++◌, ◌↔◌, IsTrue, length, OnOk, OnErr};
 
 use crate::memory::NoMemory;
@@ -44,6 +45,11 @@ impl<T> Sequence<T> {
     {
         let Sequence { items } = self;
         items
+    }
+
+    /// Where the list takes its memory.
+    pub fn allocator(&self) -> Global {
+        *self.items.allocator()
     }
 
     pub fn as_slice(&self) -> &[T]

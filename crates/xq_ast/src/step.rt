@@ -1,3 +1,4 @@
+//! Steps of paths.
 use crate::sequence::Sequence;
 use crate::text::Str;
 

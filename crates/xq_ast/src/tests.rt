@@ -1,197 +1,236 @@
+//! What no clause says: that copies are made where there is memory, and the texts of codes.
 use crate::{
     Axis, Bind, Boxed, Call, CallText, Code, CompareOp, Expr, ExprList, Items, LockMode, Mark,
     Need, NoMemory, PathStep, ProductOp, ProductPart, PyxRefusal, Sequence, Sign, SortKey,
-    SpentKind, Start, Step, Str, SumPart, Symbol, Test, Token, Update, copy_needs, copy_path,
-    copy_tokens,
+    SpentKind, Start, Step, Str, SumPart, Symbol, Test, Token, Update, is_name,
 };
 use std::alloc::Global;
 use std::test::Fail;
 
-fn name(alloc: Global, text: &str) -> Result<Option<Str>, NoMemory> {
-    Ok(Some(Str::of(alloc, text)?))
+fn int(alloc: Global) -> Result<Boxed<Expr>, NoMemory> {
+    Ok(Boxed::new(alloc, Expr::Int { value: 1 })?)
 }
 
-fn int(alloc: Global, value: i64) -> Result<Boxed<Expr>, NoMemory> {
-    Ok(Boxed::new(alloc, Expr::Int { value })?)
-}
-
-fn ints(alloc: Global, value: i64) -> Result<ExprList, NoMemory> {
+fn ints(alloc: Global) -> Result<ExprList, NoMemory> {
     let mut all = Items::new(alloc);
-    all.push(Expr::Int { value })?;
-    all.push(Expr::Context)?;
+    all.push(Expr::Int { value: 1 })?;
     Ok(all)
 }
 
-fn step(alloc: Global, axis: Axis, test: Test) -> Result<Step, NoMemory> {
-    Ok(Step {
-        deep: true,
-        axis,
-        test,
-        preds: ints(alloc, 7)?,
+fn compare(alloc: Global) -> Result<Expr, NoMemory> {
+    Ok(Expr::Compare {
+        left: int(alloc)?,
+        op: CompareOp::Le,
+        right: int(alloc)?,
     })
 }
 
-fn push_lists(alloc: Global, all: &mut ExprList) -> Result<(), NoMemory> {
-    all.push(Expr::Or {
-        parts: ints(alloc, 1)?,
-    })?;
-    all.push(Expr::And {
-        parts: ints(alloc, 2)?,
-    })?;
-    all.push(Expr::Union {
-        parts: ints(alloc, 3)?,
-    })?;
-    Ok(())
+fn range(alloc: Global) -> Result<Expr, NoMemory> {
+    Ok(Expr::Range {
+        low: int(alloc)?,
+        high: int(alloc)?,
+    })
 }
 
-fn push_pairs(alloc: Global, all: &mut ExprList) -> Result<(), NoMemory> {
-    all.push(Expr::Compare {
-        left: int(alloc, 4)?,
-        op: CompareOp::Le,
-        right: int(alloc, 5)?,
-    })?;
-    all.push(Expr::Range {
-        low: int(alloc, 6)?,
-        high: int(alloc, 7)?,
-    })?;
-    Ok(())
+fn choice(alloc: Global) -> Result<Expr, NoMemory> {
+    Ok(Expr::If {
+        test: int(alloc)?,
+        yes: int(alloc)?,
+        no: int(alloc)?,
+    })
 }
 
-fn push_arithmetic(alloc: Global, all: &mut ExprList) -> Result<(), NoMemory> {
-    let mut sum = Items::new(alloc);
-    sum.push(SumPart {
+fn sum(alloc: Global) -> Result<Expr, NoMemory> {
+    let first = int(alloc)?;
+    let mut rest = Items::new(alloc);
+    rest.push(SumPart {
         minus: true,
-        expr: Expr::Int { value: 9 },
+        expr: Expr::Context,
     })?;
-    all.push(Expr::Sum {
-        first: int(alloc, 8)?,
-        rest: sum,
-    })?;
-    let mut product = Items::new(alloc);
-    product.push(ProductPart {
+    Ok(Expr::Sum { first, rest })
+}
+
+fn product(alloc: Global) -> Result<Expr, NoMemory> {
+    let first = int(alloc)?;
+    let mut rest = Items::new(alloc);
+    rest.push(ProductPart {
         op: ProductOp::Mod,
-        expr: Expr::Int { value: 11 },
+        expr: Expr::Context,
     })?;
-    all.push(Expr::Product {
-        first: int(alloc, 10)?,
-        rest: product,
-    })?;
+    Ok(Expr::Product { first, rest })
+}
+
+fn signed(alloc: Global) -> Result<Expr, NoMemory> {
+    let inner = int(alloc)?;
     let mut signs = Sequence::new(alloc);
     signs.push(Sign::Minus)?;
-    all.push(Expr::Signed {
-        signs,
-        inner: int(alloc, 12)?,
-    })?;
-    Ok(())
+    Ok(Expr::Signed { signs, inner })
 }
 
-fn push_flwor(alloc: Global, all: &mut ExprList) -> Result<(), NoMemory> {
+fn filter(alloc: Global) -> Result<Expr, NoMemory> {
+    Ok(Expr::Filter {
+        inner: int(alloc)?,
+        preds: ints(alloc)?,
+    })
+}
+
+fn step(alloc: Global) -> Step {
+    Step {
+        deep: true,
+        axis: Axis::Itself,
+        test: Test::Name {
+            name: Some(Str::new(alloc)),
+        },
+        preds: Items::new(alloc),
+    }
+}
+
+fn path(alloc: Global) -> Result<Expr, NoMemory> {
+    let mut rest = Items::new(alloc);
+    rest.push(step(alloc))?;
+    Ok(Expr::Path {
+        start: Start::First { step: step(alloc) },
+        rest,
+    })
+}
+
+fn path_of_value(alloc: Global) -> Result<Expr, NoMemory> {
+    Ok(Expr::Path {
+        start: Start::Value { inner: int(alloc)? },
+        rest: Items::new(alloc),
+    })
+}
+
+fn flwor(alloc: Global) -> Result<Expr, NoMemory> {
+    let result = int(alloc)?;
     let mut binds = Items::new(alloc);
     binds.push(Bind::For {
-        name: Str::of(alloc, "x")?,
-        at: name(alloc, "at")?,
+        name: Str::new(alloc),
+        at: Some(Str::new(alloc)),
         source: Expr::Context,
     })?;
     binds.push(Bind::Let {
-        name: Str::of(alloc, "y")?,
-        value: Expr::Int { value: 13 },
+        name: Str::new(alloc),
+        value: Expr::Context,
     })?;
     let mut keys = Items::new(alloc);
     keys.push(SortKey {
-        expr: Expr::Var {
-            name: Str::of(alloc, "x")?,
-        },
+        expr: Expr::Context,
         descending: true,
     })?;
-    all.push(Expr::Flwor {
+    Ok(Expr::Flwor {
         binds,
-        filter: Some(int(alloc, 14)?),
+        filter: None,
         keys,
-        result: int(alloc, 15)?,
-    })?;
-    Ok(())
+        result,
+    })
 }
 
-fn push_paths(alloc: Global, all: &mut ExprList) -> Result<(), NoMemory> {
-    let mut rest = Items::new(alloc);
-    rest.push(step(alloc, Axis::Child, Test::Text)?)?;
-    rest.push(step(alloc, Axis::Parent, Test::AnyNode)?)?;
-    let named = Test::Name {
-        name: name(alloc, "a")?,
-    };
-    all.push(Expr::Path {
-        start: Start::First {
-            step: step(alloc, Axis::Itself, named)?,
-        },
-        rest,
-    })?;
-    all.push(Expr::Path {
-        start: Start::Value {
-            inner: int(alloc, 16)?,
-        },
-        rest: Items::new(alloc),
-    })?;
-    all.push(Expr::Filter {
-        inner: int(alloc, 17)?,
-        preds: ints(alloc, 18)?,
-    })?;
-    Ok(())
+fn element(alloc: Global) -> Result<Expr, NoMemory> {
+    Ok(Expr::Element {
+        name: Str::new(alloc),
+        content: Some(int(alloc)?),
+    })
 }
 
-fn push_names(alloc: Global, all: &mut ExprList) -> Result<(), NoMemory> {
-    all.push(Expr::Text {
-        value: Str::of(alloc, "text")?,
-    })?;
-    all.push(Expr::Fun {
-        name: Str::of(alloc, "count")?,
-        args: ints(alloc, 19)?,
-    })?;
-    all.push(Expr::Doc {
-        name: Str::of(alloc, "d")?,
-    })?;
-    all.push(Expr::If {
-        test: int(alloc, 21)?,
-        yes: int(alloc, 22)?,
-        no: int(alloc, 23)?,
-    })?;
-    Ok(())
+fn attribute(alloc: Global) -> Result<Expr, NoMemory> {
+    Ok(Expr::Attribute {
+        name: Str::new(alloc),
+        content: Some(int(alloc)?),
+    })
 }
 
-fn push_constructors(alloc: Global, all: &mut ExprList) -> Result<(), NoMemory> {
-    all.push(Expr::Element {
-        name: Str::of(alloc, "e")?,
-        content: None,
-    })?;
-    all.push(Expr::Attribute {
-        name: Str::of(alloc, "a")?,
-        content: Some(int(alloc, 20)?),
-    })?;
-    all.push(Expr::TextNode { content: None })?;
+/// A copy of an expression is made.
+fn check(alloc: Global, expr: Expr) -> Result<(), Fail> {
+    let _ = expr.copy(alloc)?;
     Ok(())
-}
-
-fn tree(alloc: Global) -> Result<Expr, NoMemory> {
-    let mut parts = Items::new(alloc);
-    push_lists(alloc, &mut parts)?;
-    push_pairs(alloc, &mut parts)?;
-    push_arithmetic(alloc, &mut parts)?;
-    push_flwor(alloc, &mut parts)?;
-    push_paths(alloc, &mut parts)?;
-    push_names(alloc, &mut parts)?;
-    push_constructors(alloc, &mut parts)?;
-    Ok(Expr::Seq { parts })
 }
 
 #[test]
-fn a_tree_of_all_variants_is_copied(rt: HostRuntime) -> Result<(), Fail> {
+fn operators_are_copied(rt: HostRuntime) -> Result<(), Fail> {
     let alloc = rt.alloc();
-    let update = Update::Delete {
-        target: tree(alloc)?,
-    };
-    let copy = update.copy(alloc)?;
-    let shown = format!(in alloc; "{update:?}")?;
-    let again = format!(in alloc; "{copy:?}")?;
-    assert_eq!(rt; again.as_str(), shown.as_str());
+    let parts = ints(alloc)?;
+    check(alloc, Expr::Or { parts })?;
+    let parts = ints(alloc)?;
+    check(alloc, Expr::And { parts })?;
+    let parts = ints(alloc)?;
+    check(alloc, Expr::Union { parts })?;
+    check(alloc, compare(alloc)?)?;
+    check(alloc, range(alloc)?)?;
+    check(alloc, sum(alloc)?)?;
+    check(alloc, product(alloc)?)?;
+    check(alloc, signed(alloc)?)
+}
+
+#[test]
+fn primaries_and_paths_are_copied(rt: HostRuntime) -> Result<(), Fail> {
+    let alloc = rt.alloc();
+    let name = Str::new(alloc);
+    check(alloc, Expr::Var { name })?;
+    let value = Str::new(alloc);
+    check(alloc, Expr::Text { value })?;
+    let name = Str::new(alloc);
+    check(alloc, Expr::Doc { name })?;
+    let name = Str::new(alloc);
+    let args = ints(alloc)?;
+    check(alloc, Expr::Fun { name, args })?;
+    check(alloc, filter(alloc)?)?;
+    check(alloc, path(alloc)?)?;
+    check(alloc, path_of_value(alloc)?)
+}
+
+#[test]
+fn wider_expressions_are_copied(rt: HostRuntime) -> Result<(), Fail> {
+    let alloc = rt.alloc();
+    let parts = ints(alloc)?;
+    check(alloc, Expr::Seq { parts })?;
+    check(alloc, flwor(alloc)?)?;
+    check(alloc, choice(alloc)?)?;
+    check(alloc, element(alloc)?)?;
+    check(alloc, attribute(alloc)?)?;
+    check(alloc, Expr::TextNode { content: None })
+}
+
+/// A copy of an update is made.
+fn check_update(alloc: Global, update: Update) -> Result<(), Fail> {
+    let _ = update.copy(alloc)?;
+    Ok(())
+}
+
+#[test]
+fn updates_are_copied(rt: HostRuntime) -> Result<(), Fail> {
+    let alloc = rt.alloc();
+    for update in [
+        Update::Into {
+            source: Expr::Context,
+            target: Expr::Context,
+        },
+        Update::Preceding {
+            source: Expr::Context,
+            target: Expr::Context,
+        },
+        Update::Following {
+            source: Expr::Context,
+            target: Expr::Context,
+        },
+        Update::Delete {
+            target: Expr::Context,
+        },
+        Update::DeleteUndeep {
+            target: Expr::Context,
+        },
+        Update::Replace {
+            name: Str::new(alloc),
+            target: Expr::Context,
+            by: Expr::Context,
+        },
+        Update::Rename {
+            target: Expr::Context,
+            name: Str::new(alloc),
+        },
+    ] {
+        check_update(alloc, update)?;
+    }
     Ok(())
 }
 
@@ -200,42 +239,90 @@ fn calls_are_copied(rt: HostRuntime) -> Result<(), Fail> {
     let alloc = rt.alloc();
     let mut pyx = Sequence::new(alloc);
     pyx.push(Str::of(alloc, "(a")?)?;
-    pyx.push(Str::of(alloc, ")a")?)?;
     let text = CallText {
         text: Str::of(alloc, "LOAD 'd'")?,
         pyx,
     };
-    let load = Call::Load {
-        name: Str::of(alloc, "d")?,
-        pyx: text.copy(alloc)?.pyx,
-    };
-    let copy = load.copy(alloc)?;
-    let shown = format!(in alloc; "{copy:?}")?;
-    assert_eq!(rt; shown.as_str(), format!(in alloc; "{load:?}")?.as_str());
+    let CallText { text: name, pyx } = text.copy()?;
+    assert_eq!(rt; name.as_str(), "LOAD 'd'");
+    let load = Call::Load { name, pyx };
+    assert_eq!(rt; matches!(load.copy()?, Call::Load { .. }), true);
     Ok(())
 }
 
 #[test]
-fn lists_are_copied(rt: HostRuntime) -> Result<(), Fail> {
+fn needs_are_copied(rt: HostRuntime) -> Result<(), Fail> {
     let alloc = rt.alloc();
     let mut needs = Sequence::new(alloc);
     needs.push(Need {
         name: Str::of(alloc, "d")?,
         mode: LockMode::X,
     })?;
-    assert_eq!(rt; copy_needs(alloc, &needs)?.len(), 1);
+    for need in needs.copy()?.as_slice() {
+        assert_eq!(rt; need.name.as_str(), "d");
+        assert_eq!(rt; need.mode, LockMode::X);
+    }
+    Ok(())
+}
+
+#[test]
+fn tokens_are_copied(rt: HostRuntime) -> Result<(), Fail> {
+    let alloc = rt.alloc();
     let mut tokens = Sequence::new(alloc);
-    tokens.push(Token::Name(Str::of(alloc, "fn:count")?))?;
-    tokens.push(Token::Int(i64::MAX))?;
+    tokens.push(Token::Name(Str::new(alloc)))?;
+    tokens.push(Token::Text(Str::new(alloc)))?;
+    tokens.push(Token::Int(7))?;
     tokens.push(Token::Symbol(Symbol::Dollar))?;
-    assert_eq!(rt; copy_tokens(alloc, &tokens)?.len(), 3);
+    let copy = tokens.copy()?;
+    let last = copy.as_slice().last();
+    assert_eq!(rt; copy.len(), 4);
+    assert_eq!(rt; matches!(last, Some(Token::Symbol(Symbol::Dollar))), true);
+    Ok(())
+}
+
+#[test]
+fn structural_paths_are_copied(rt: HostRuntime) -> Result<(), Fail> {
+    let alloc = rt.alloc();
     let mut path = Sequence::new(alloc);
     path.push(PathStep {
         deep: true,
         attribute: false,
         name: None,
     })?;
-    assert_eq!(rt; copy_path(alloc, &path)?.len(), 1);
+    for step in path.copy()?.as_slice() {
+        assert_eq!(rt; step.deep, true);
+        assert_eq!(rt; step.attribute, false);
+        assert_eq!(rt; step.name.is_none(), true);
+    }
+    Ok(())
+}
+
+#[test]
+fn a_name_is_told_by_its_bytes(rt: HostRuntime) -> Result<(), Fail> {
+    let alloc = rt.alloc();
+    let longest = "a".repeat(alloc, 255)?;
+    let too_many_bytes = "\u{e9}".repeat(alloc, 128)?;
+    assert_eq!(rt; is_name(longest.as_str()), true);
+    assert_eq!(rt; is_name(too_many_bytes.as_str()), false);
+    for (text, want) in [
+        ("", false),
+        ("a", true),
+        ("Z", true),
+        ("_", true),
+        (":", true),
+        ("\u{e9}", true),
+        ("1", false),
+        ("-a", false),
+        (".a", false),
+        ("@a", false),
+        ("[a", false),
+        ("a1-.b:_\u{e9}", true),
+        ("a b", false),
+        ("a/b", false),
+        ("a\n", false),
+    ] {
+        assert_eq!(rt; is_name(text), want, "of {text}");
+    }
     Ok(())
 }
 

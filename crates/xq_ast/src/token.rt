@@ -1,3 +1,4 @@
+//! Tokens of a call's text.
 use crate::sequence::Sequence;
 use crate::text::Str;
 

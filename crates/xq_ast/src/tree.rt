@@ -1,3 +1,4 @@
+//! Syntax trees of queries.
 use crate::step::{Axis, Test};
 use crate::text::Str;
 use sqlite_items::{Boxed, Items};
@@ -17,7 +18,7 @@ pub type SumPartList = Items<SumPart>;
 /// What follows the first operand of a product.
 pub type ProductPartList = Items<ProductPart>;
 
-/// The steps of a path behind its start.
+/// The steps of a path after its start.
 pub type StepList = Items<Step>;
 
 /// The signs before an operand, the outermost first.
@@ -56,73 +57,102 @@ pub enum Sign {
 pub enum Expr {
     /// A string.
     Text {
+        /// Its characters, all references replaced.
         value: Str,
     },
+    /// An integer.
     Int {
+        /// 0 to 9223372036854775807.
         value: i64,
     },
+    /// What a variable is bound to.
     Var {
+        /// The variable's name, without the `$`.
         name: Str,
     },
     /// The context item, written `.`.
     Context,
-    /// Expressions between commas. No parts is `()`.
+    /// Expressions between commas, whose items follow one another.
     Seq {
+        /// None, or two at least. No parts is `()`.
         parts: ExprList,
     },
+    /// `for` and `let`, then `where`, `order by` and `return`.
     Flwor {
+        /// One at least, the outermost first.
         binds: BindList,
+        /// What stands after `where`.
         filter: Option<Boxed<Expr>>,
+        /// What stands after `order by`. No keys leave the order as it is.
         keys: SortKeyList,
+        /// What stands after `return`.
         result: Boxed<Expr>,
     },
+    /// `if (test) then yes else no`
     If {
         test: Boxed<Expr>,
         yes: Boxed<Expr>,
         no: Boxed<Expr>,
     },
+    /// Operands of `or`.
     Or {
+        /// Two at least.
         parts: ExprList,
     },
+    /// Operands of `and`.
     And {
+        /// Two at least.
         parts: ExprList,
     },
+    /// A comparison of two values, true where some pair of their items compares so.
     Compare {
         left: Boxed<Expr>,
         op: CompareOp,
         right: Boxed<Expr>,
     },
-    /// The integers from the one to the other.
+    /// `low to high`: the integers from the one to the other.
     Range {
         low: Boxed<Expr>,
         high: Boxed<Expr>,
     },
+    /// Operands of `+` and `-`.
     Sum {
         first: Boxed<Expr>,
+        /// One at least.
         rest: SumPartList,
     },
+    /// Operands of `*`, `idiv` and `mod`.
     Product {
         first: Boxed<Expr>,
+        /// One at least.
         rest: ProductPartList,
     },
+    /// Operands of `|` or `union`: their nodes in document order, each once.
     Union {
+        /// Two at least.
         parts: ExprList,
     },
+    /// An operand with signs before it.
     Signed {
+        /// One at least.
         signs: SignList,
         inner: Boxed<Expr>,
     },
+    /// A path. A step that stands alone is one without further steps.
     Path {
         start: Start,
+        /// The steps after the first `/` or `//`.
         rest: StepList,
     },
     /// A primary expression with predicates.
     Filter {
         inner: Boxed<Expr>,
+        /// One at least, in the order in which they are applied.
         preds: ExprList,
     },
-    /// A call of a function, whose name is kept without the prefix `fn:`.
+    /// A call of a function.
     Fun {
+        /// The function's name without the prefix `fn:`.
         name: Str,
         args: ExprList,
     },
@@ -130,14 +160,17 @@ pub enum Expr {
     Doc {
         name: Str,
     },
+    /// A new element. No content is none at all.
     Element {
         name: Str,
         content: Option<Boxed<Expr>>,
     },
+    /// A new attribute. No content is an empty value.
     Attribute {
         name: Str,
         content: Option<Boxed<Expr>>,
     },
+    /// A new text.
     TextNode {
         content: Option<Boxed<Expr>>,
     },
@@ -188,7 +221,9 @@ pub struct ProductPart {
 #[cycle(ast)]
 #[derive(Debug, Drop)]
 pub enum Start {
+    /// With the items of an expression.
     Value { inner: Boxed<Expr> },
+    /// With a step from the context item.
     First { step: Step },
 }
 
@@ -197,7 +232,10 @@ pub enum Start {
 #[derive(Debug, Drop)]
 pub struct Step {
     pub deep: bool,
+    /// The way that it goes.
     pub axis: Axis,
+    /// Which nodes of the axis it takes.
     pub test: Test,
+    /// The predicates, in the order in which they are applied.
     pub preds: ExprList,
 }

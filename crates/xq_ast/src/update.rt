@@ -1,3 +1,4 @@
+//! Syntax trees of updates.
 use crate::text::Str;
 use crate::tree::Expr;
 

@@ -1,16 +1,19 @@
+//! Names of elements, attributes and instructions, and the bytes that they have.
 ghost use Rattle.std.specs.Prelude.{◌≡◌};
 ghost use Rattle.std.specs.List.{list_all};
-ghost use Rattle.xml_model.specs.Names as spec;
+ghost use Rattle.xq_ast.specs.Names as spec;
 
 use crate::limits::NAME_BYTES_MAX;
 
-fn begins_name(b: u8) -> bool
+/// Whether a name may begin with this byte. A byte from 128 on is a part of a character beyond ASCII.
+pub fn begins_name(b: u8) -> bool
     ensures { result ≡ spec.begins_name b }
 {
     b.is_ascii_alphabetic() || b == b'_' || b == b':' || b >= 128
 }
 
-fn continues_name(b: u8) -> bool
+/// Whether a name may go on with this byte.
+pub fn continues_name(b: u8) -> bool
     ensures { result ≡ spec.continues_name b }
 {
     begins_name(b) || b.is_ascii_digit() || b == b'-' || b == b'.'

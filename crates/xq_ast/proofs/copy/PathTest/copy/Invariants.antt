@@ -1,5 +1,5 @@
 use Rattle.std.proofs.Common.{◌≡◌, take}
-use Rattle.xq_ast.proofs.copy.copy_path.Given as goal
+use Rattle.xq_ast.proofs.copy.PathTest.copy.Given as goal
 
 abbrev pub invariant-loop-step : goal.invariant-loop-step
 invariant-loop-step l = l.all ≡ take l.step-index l.step-items
