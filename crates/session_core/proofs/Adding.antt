@@ -11,7 +11,7 @@ use Rattle.std.specs.Cmp.{nat_cmp_total}
 use Rattle.std.specs.FinMap as fin
 use Rattle.xq_ast.specs.declared.code.Mark.{Mark}
 use Rattle.xq_ast.specs.declared.need.Need.{Need}
-use Rattle.xml_model.specs.Forest.{Forest}
+use Rattle.xml_model.specs.Forest.{Forest, IsForest}
 use Rattle.doc_locks.specs.Names.{Locks}
 use Rattle.session_core.specs.declared.event.BeginKind.{BeginKind}
 use Rattle.session_core.specs.declared.event.BeginKind.TheVariants as kinds
@@ -32,7 +32,7 @@ use Rattle.session_core.specs.Legal.{SoFar}
 use Rattle.session_core.specs.Steps.{IsStep}
 use Rattle.session_core.specs.Table.{States, entry_of, state_at}
 use Rattle.session_core.specs.Kept.{Follows, forest_in}
-use Rattle.session_core.specs.Ties.{forests_of, IsDoubt, DoubtIs, Ties, IsCore}
+use Rattle.session_core.specs.Ties.{holding, AllForests, DoubtIsForest, forests_of, IsDoubt, DoubtIs, Ties, IsCore}
 use Rattle.session_core.proofs.CallOrder.{in_order}
 use Rattle.session_core.proofs.Covering.{apart_not_run, none_ran, ran_all-one}
 use Rattle.session_core.proofs.Growing.{past-more, newest-more}
@@ -208,14 +208,16 @@ module _ (B : Base) (past : List Event) (t : ℕ) (r : Reply) (refusals : Refusa
 
 pub core_more : (B : Base) (journal journal' : List Event) (e : Event) (capacity : ℕ) (states : States) (opened number : ℕ) (locks : Locks) (forests : List Forest) (doubt : Option (ℕ × Forest))
     → journal' ≡ journal ++ e ∷ [] → SoFar B (journal ++ e ∷ []) → Ties B (e ∷ past_of journal) states locks forests doubt → opened ≡ fin.len states
-    → length journal' + opened ≤ capacity → number ≡ B.numbers.commit + commit_count (e ∷ past_of journal) → IsCore B journal' capacity states opened number locks forests doubt
-core_more B journal journal' e capacity states opened number locks forests doubt more legal ties opened_is room number_is = record {
+    → length journal' + opened ≤ capacity → number ≡ B.numbers.commit + commit_count (e ∷ past_of journal) → AllForests forests → DoubtIsForest doubt → IsCore B (holding journal' capacity states opened number locks forests doubt)
+core_more B journal journal' e capacity states opened number locks forests doubt more legal ties opened_is room number_is valid doubt_valid = record {
   legal = subst (SoFar B) (sym more) legal;
   ties = subst (λ past. Ties B past states locks forests doubt) (sym (past-more journal e)
       ∙ ap past_of (sym more)) ties;
   opened_is = opened_is;
   room = room;
   number_is = subst (λ past. number ≡ B.numbers.commit + commit_count past) (sym (past-more journal e) ∙ ap past_of (sym more)) number_is;
+  valid = valid;
+  doubt_valid = doubt_valid;
 }
 
 -- ---- how many transactions are open
@@ -243,6 +245,18 @@ in_table (Reading n) is = refl
 in_table InDoubt is = refl
 
 -- ---- forests
+
+-- one valid forest more
+pub all_more : (forests : List Forest) (F : Forest) → AllForests forests → IsForest F → AllForests (forests ++ F ∷ [])
+all_more [] F all is = (is, tt)
+all_more (G ∷ more) F all is = (all.0, all_more more F all.1 is)
+
+-- the forest behind so many transactions is one of them
+pub valid_at : (F : Forest) (ts : List Transaction) (n : ℕ) → AllForests (forests_of F ts) → IsForest (serial F (take n ts))
+valid_at F [] zero all = all.0
+valid_at F [] (suc n) all = all.0
+valid_at F (t ∷ more) zero all = all.0
+valid_at F (t ∷ more) (suc n) all = valid_at (run_calls F (ran_all t.replies)) more n all.1
 
 within_or : (k n : ℕ) → (min k n ≡ k) ⊎ ((min k n ≡ n) × (n ≤ k))
 within_or k n = by_test (nat_le k n) refl

@@ -8,7 +8,8 @@ ghost use Rattle.session_core.specs.Marks.{IsNextMark};
 ghost use Rattle.session_core.specs.Legal.{SoFar};
 ghost use Rattle.session_core.specs.Kept.{kept_of, with_event, past, Follows, forest_behind, forest_in, AskEnds, CanSettle, IsSettled};
 ghost use Rattle.session_core.specs.Settling.{HasCommitLeft};
-ghost use Rattle.session_core.specs.Transactions.{newest_number, next_number};
+ghost use Rattle.xml_model.specs.Forest.{IsForest};
+ghost use Rattle.session_core.specs.Transactions.{after, newest_number, next_number};
 
 use crate::event::{BeginKind, Event, Journal, Reply, State};
 use crate::states::StateTable;
@@ -49,7 +50,7 @@ impl Model for Core {
     ghost use Rattle.std.specs.Prelude.{vec_capacity};
     ghost use Rattle.session_core.specs.Kept.{Kept, kept_code, kept_of};
     ghost use Rattle.session_core.specs.Unsettled.{pair_of};
-    ghost use Rattle.session_core.specs.Ties.{IsCore};
+    ghost use Rattle.session_core.specs.Ties.{IsCore, holding};
 
     ghost Value = { Kept };
 
@@ -57,7 +58,7 @@ impl Model for Core {
 
     ghost view = { λ a. kept_of a.base_commit a.base_generation a.base_forest.value a.journal.items };
 
-    ghost invariant = { λ a. IsCore (kept_of a.base_commit a.base_generation a.base_forest.value a.journal.items).base a.journal.items (vec_capacity a.journal) a.states a.opened a.newest a.locks a.forests.items (pair_of a.doubt) };
+    ghost invariant = { λ a. IsCore (kept_of a.base_commit a.base_generation a.base_forest.value a.journal.items).base (holding a.journal.items (vec_capacity a.journal) a.states a.opened a.newest a.locks a.forests.items (pair_of a.doubt)) };
 }
 
 impl Core {
@@ -70,6 +71,7 @@ impl Core {
     ) -> Result<Core, NoMemory>
         ensures { IfOk result (λ core. core ≡ kept_of commit generation forest []) }
     {
+        forest.is_forest();
         let base_forest = Snapshot::of(&forest);
         let mut forests = Vec::new(alloc);
         forests.push(forest)?;
@@ -92,6 +94,14 @@ impl Core {
         ensures { SoFar self.now.base self.now.journal }
     {
         let _ = &self.opened;
+    }
+
+    /// What the type keeps: the documents behind any number of commits are valid, also those that
+    /// it began with.
+    pub fn forests_are_valid(&self)
+        ensures { (n : ℕ) → IsForest (after self.now.base (past self.now) n) }
+    {
+        let _ = &self.forests;
     }
 
     /// The session's state. Takes no memory.
@@ -231,6 +241,7 @@ impl Core {
         ensures ok { IfOk result (λ n. self.new ≡ with_event (Event.Committed session n) self.old) }
         ensures err { OnErr result (self.new ≡ self.old) }
     {
+        forest.is_forest();
         self.forests.reserve(1)?;
         let number = self.newest + 1;
         self.forests.push_reserved(forest);
@@ -256,6 +267,7 @@ impl Core {
         ensures ok { IfOk result (λ n. self.new ≡ with_event (Event.Doubt session n mark) self.old) }
         ensures err { OnErr result (self.new ≡ self.old) }
     {
+        forest.is_forest();
         self.journal.reserve(self.opened + 1)?;
         self.states.set(session, State::InDoubt)?;
         let number = self.newest + 1;

@@ -91,6 +91,7 @@ fn a_commit_in_doubt_is_settled_with_yes_by_another(rt: HostRuntime) -> Result<(
     let alloc = rt.alloc();
     let mut core = Core::new(alloc, 0, 1, DocMap::new(alloc))?;
     core.make_all(settled_with_yes(alloc)?)?;
+    core.forests_are_valid();
     assert!(&rt; core.forest(3).get(&d(alloc)?).is_some());
     let events = core.close().into_vec();
     assert_eq!(&rt; events.len(), 7);

@@ -1,11 +1,11 @@
 -- Texts of calls, and the events that close them.
-use Rattle.std.proofs.Common.{◌≡◌, ℕ, List, [], ◌∷◌, None, Result, Ok, Err, OnErr, refl, subst, ◌∙◌, append_assoc}
+use Rattle.std.proofs.Common.{◌≡◌, ℕ, List, [], ◌∷◌, None, IsTrue, Result, Ok, Err, OnErr, refl, subst, ◌∙◌, append_assoc}
 use mathlib.Core.Logic.{inl, inr}
 use Rattle.xq_ast.specs.declared.call.Call.{Call}
 use Rattle.xq_ast.specs.declared.call.CallText.{CallText}
 use Rattle.xq_ast.specs.declared.code.Code.{Code}
 use Rattle.xq_ast.specs.declared.code.Code.TheVariants as codes
-use Rattle.xq_ast.specs.Parsed.{Parsed}
+use Rattle.xq_ast.specs.Parsed.{Parsed, has_good_names, read, a_call}
 use Rattle.xq_ast.specs.Readings.{parsed}
 use Rattle.xq_ast.proofs.Readings.{parsed_holds}
 use Rattle.xq_parse.specs.Answers.{code_of}
@@ -28,6 +28,10 @@ use Rattle.session_run.specs.Calls.{IsAnswerInMemory, AnswersText, TakesNoDevice
 use Rattle.session_run.specs.Called.{IsCalled, IsUnclosed, AddsClosing, ClosesRead, LeavesRead, behind_grant}
 
 -- ---- a text that is a call
+
+-- its names are names of documents
+pub good_names : (text : CallText) (call : Call) → Parsed text (Ok call) → IsTrue (has_good_names call)
+good_names text call (read short spelled (a_call nested is good)) = good
 
 module _ (s : ℕ) (text : CallText) (call : Call) (is : Parsed text (Ok call)) where
   answers_read : (e : Event) (before : List Event) → AnswersText text e before

@@ -1,5 +1,4 @@
 use Rattle.std.proofs.Common.{refl}
-use Rattle.xml_model.specs.Changes.{changes_of_entries}
 use Rattle.session_run.proofs.Closing.{stays}
 use Rattle.session_core.specs.Kept.{past}
 use Rattle.session_run.proofs.Memory.{lacking}
@@ -10,4 +9,4 @@ answer_unchanged-requires-clause-right c = lacking c.args.core.now.base c.args.s
 
 pub returns-in-Err-clause-ready : goal.returns-in-Err-clause-ready
 returns-in-Err-clause-ready c =
-    stays c.answer_unchanged.result c.args.session (changes_of_entries c.args.changes.now.docs.entries) c.args.core.now c.args.core.now c.answer_unchanged.new.core refl c.requires.tied c.answer_unchanged.ensures.ready
+    stays c.answer_unchanged.result c.args.session c.args.changes.now.changes c.args.core.now c.args.core.now c.answer_unchanged.new.core refl c.requires.tied c.answer_unchanged.ensures.ready

@@ -1,6 +1,5 @@
 use Rattle.std.proofs.Common.{refl, subst}
 use Rattle.session_core.specs.Kept.{past, AskEnds}
-use Rattle.xml_model.specs.Changes.{changes_of_entries}
 use Rattle.session_run.proofs.Closing.{stays}
 use Rattle.session_run.proofs.Calling.{granted_here}
 use Rattle.session_run.proofs.Memory.{lacking}
@@ -11,12 +10,12 @@ answer_unchanged-requires-clause-right c = lacking c.args.core.now.base c.args.s
 
 pub returns-in_default-clause-ready : goal.returns-in_default-clause-ready
 returns-in_default-clause-ready c =
-    stays c.answer_unchanged.result c.args.session (changes_of_entries c.args.changes.now.docs.entries) c.args.core.now c.args.core.now c.answer_unchanged.new.core refl c.requires.ready.tied c.answer_unchanged.ensures.ready
+    stays c.answer_unchanged.result c.args.session c.args.changes.now.changes c.args.core.now c.args.core.now c.answer_unchanged.new.core refl c.requires.ready.tied c.answer_unchanged.ensures.ready
 
 pub answer_unchanged-requires-in-Err-NoMemory-clause-right : goal.answer_unchanged-requires-in-Err-NoMemory-clause-right
 answer_unchanged-requires-in-Err-NoMemory-clause-right c = lacking c.ask.new.self.base c.args.session (past c.ask.new.self) (Some _)
 
 pub returns-in-Err-NoMemory-clause-ready : goal.returns-in-Err-NoMemory-clause-ready
 returns-in-Err-NoMemory-clause-ready c =
-    stays c.answer_unchanged-in-Err-NoMemory.result c.args.session (changes_of_entries c.args.changes.now.docs.entries) c.ask.new.self c.args.core.now c.answer_unchanged-in-Err-NoMemory.new.core
+    stays c.answer_unchanged-in-Err-NoMemory.result c.args.session c.args.changes.now.changes c.ask.new.self c.args.core.now c.answer_unchanged-in-Err-NoMemory.new.core
     (subst (AskEnds c.args.session c.in-Ok.needed c.args.core.now c.ask.new.self) c.in-Err-NoMemory.field-0-is c.in-Err-NoMemory.ensures.refused) c.requires.ready.tied c.answer_unchanged-in-Err-NoMemory.ensures.ready

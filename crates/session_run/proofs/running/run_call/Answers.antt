@@ -1,7 +1,6 @@
 use Rattle.std.proofs.Common.{refl, sym, ap, ◌∙◌}
 use Rattle.session_core.specs.Kept.{past}
 use Rattle.session_core.specs.Refusals.{refused_in, work_of}
-use Rattle.xml_model.specs.Changes.{changes_of_entries}
 use Rattle.session_run.proofs.Memory.{refused_right}
 use Rattle.session_run.proofs.Closing.{stays}
 use Rattle.session_run.proofs.running.run_call.Goals as goal
@@ -12,4 +11,4 @@ answer_unchanged-requires-clause-right c =
 
 pub returns-in-Some-clause-ready : goal.returns-in-Some-clause-ready
 returns-in-Some-clause-ready c =
-    stays c.answer_unchanged.result c.args.session (changes_of_entries c.args.changes.now.docs.entries) c.args.core.now c.args.core.now c.answer_unchanged.new.core refl c.requires.ready.tied c.answer_unchanged.ensures.ready
+    stays c.answer_unchanged.result c.args.session c.args.changes.now.changes c.args.core.now c.args.core.now c.answer_unchanged.new.core refl c.requires.ready.tied c.answer_unchanged.ensures.ready

@@ -3,7 +3,6 @@ use Rattle.session_core.specs.Answering as answers
 use Rattle.session_core.specs.Kept.{past}
 use Rattle.session_core.specs.States.{state}
 use Rattle.session_core.specs.Refusals.{refused_in, work_of}
-use Rattle.xml_model.specs.Changes.{changes_of_entries}
 use Rattle.session_run.proofs.Memory.{unrun_here}
 use Rattle.session_run.proofs.Closing.{stays}
 use Rattle.session_run.proofs.Calling.{checkpoints_idle}
@@ -20,4 +19,4 @@ answer_unchanged-requires-clause-right c = unrun_here c.args.core.now.base c.arg
 
 pub returns-in-Begin-clause-ready : goal.returns-in-Begin-clause-ready
 returns-in-Begin-clause-ready c =
-    stays c.begin.result c.args.session (changes_of_entries c.args.changes.now.docs.entries) c.args.core.now c.args.core.now c.begin.new.core refl c.requires.ready.tied c.begin.ensures.ready
+    stays c.begin.result c.args.session c.args.changes.now.changes c.args.core.now c.args.core.now c.begin.new.core refl c.requires.ready.tied c.begin.ensures.ready

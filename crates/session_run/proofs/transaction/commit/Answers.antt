@@ -1,7 +1,6 @@
 use Rattle.std.proofs.Common.{refl}
 use Rattle.session_core.specs.Answering as answers
 use Rattle.session_core.specs.Kept.{past}
-use Rattle.xml_model.specs.Changes.{changes_of_entries}
 use Rattle.session_run.proofs.Closing.{stays}
 use Rattle.session_run.proofs.Calling.{none_left}
 use Rattle.session_run.proofs.Memory.{lacking, unrun_here}
@@ -18,12 +17,12 @@ answer_unchanged-requires-clause-right c = unrun_here c.args.core.now.base c.arg
 
 pub returns-then-newest-eq18446744073709551615-clause-ready : goal.returns-then-newest-eq18446744073709551615-clause-ready
 returns-then-newest-eq18446744073709551615-clause-ready c =
-    stays c.answer_unchanged.result c.args.session (changes_of_entries c.args.changes.now.docs.entries) c.args.core.now c.args.core.now c.answer_unchanged.new.core refl c.requires.ready.tied c.answer_unchanged.ensures.ready
+    stays c.answer_unchanged.result c.args.session c.args.changes.now.changes c.args.core.now c.args.core.now c.answer_unchanged.new.core refl c.requires.ready.tied c.answer_unchanged.ensures.ready
 
 pub answer_unchanged-requires-in-Err-clause-right : goal.answer_unchanged-requires-in-Err-clause-right
 answer_unchanged-requires-in-Err-clause-right c = lacking c.commit_changes.new.core.base c.args.session (past c.commit_changes.new.core) (Some _)
 
 pub returns-in-Err-clause-ready : goal.returns-in-Err-clause-ready
 returns-in-Err-clause-ready c =
-    stays c.answer_unchanged-in-Err.result c.args.session (changes_of_entries c.args.changes.now.docs.entries) c.commit_changes.new.core c.args.core.now c.answer_unchanged-in-Err.new.core
+    stays c.answer_unchanged-in-Err.result c.args.session c.args.changes.now.changes c.commit_changes.new.core c.args.core.now c.answer_unchanged-in-Err.new.core
     c.in-Err.ensures.err c.requires.ready.tied c.answer_unchanged-in-Err.ensures.ready

@@ -21,7 +21,7 @@ pub invariant_of-self-2 : goal.invariant_of-self-2
 invariant_of-self-2 c =
     let f = c.self.inside in
     let kept : c.push_reserved.new.self.items ≡ f.forests.items ++ c.args.forest ∷ [] = search rules in
-    core_committed _ _ _ _ _ _ _ _ _ c.self.invariant c.args.session c.args.forest
+    core_committed _ _ _ _ _ _ _ _ _ c.self.invariant c.args.session c.args.forest c.is_forest.ensures
     (subst (λ (k : Kept). state c.args.session (past k) ≡ states.Updating) (sym c.self.view_is) c.requires.updating)
     (subst (λ (k : Kept). in_doubt (past k) ≡ None) (sym c.self.view_is) c.requires.settled)
     (subst (λ (k : Kept). HasCommitLeft k.base.numbers (past k)) (sym c.self.view_is) c.requires.left)

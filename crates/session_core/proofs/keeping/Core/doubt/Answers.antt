@@ -15,7 +15,7 @@ invariant_of-self-2 c =
     let f = c.self.inside in
     let more : c.push_reserved.new.self.items ≡ f.journal.items ++ events.Doubt c.args.session (f.newest + 1) c.args.mark ∷ [] = search rules in
     let room : length c.push_reserved.new.self.items + f.opened ≤ vec_capacity c.push_reserved.new.self = search rules in
-    core_doubted _ _ _ _ _ _ _ _ _ c.self.invariant c.args.session c.args.forest c.args.mark
+    core_doubted _ _ _ _ _ _ _ _ _ c.self.invariant c.args.session c.args.forest c.args.mark c.is_forest.ensures
     (subst (λ (k : Kept). state c.args.session (past k) ≡ states.Updating) (sym c.self.view_is) c.requires.updating)
     (subst (λ (k : Kept). in_doubt (past k) ≡ None) (sym c.self.view_is) c.requires.settled)
     (subst (λ (k : Kept). HasCommitLeft k.base.numbers (past k)) (sym c.self.view_is) c.requires.left)
