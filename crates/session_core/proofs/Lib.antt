@@ -12,6 +12,7 @@ pub mod Cores
 pub mod Answering
 pub mod Beside
 pub mod Making
+mod Worked
 mod WorkedCalls
 mod WorkedStatements
 mod ReaderBesideLoader

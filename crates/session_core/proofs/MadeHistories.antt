@@ -21,6 +21,7 @@ use Rattle.session_core.specs.Locks.{IsFree, AllFree, IsRefused}
 use Rattle.session_core.specs.Kept.{Kept, kept_of, with_event, past}
 use Rattle.session_core.specs.CoreCalls.{Meets, IsAsked, granted, refused, Makes, CanMake}
 use Rattle.session_core.proofs.Sessions.{◌⊳◌, free_where_none}
+use Rattle.session_core.proofs.Worked.{first_failure}
 use Rattle.session_core.proofs.WorkedCalls.{d, element, exclusive}
 use Rattle.session_core.proofs.WorkedStatements.{document, load_leaves, create_leaves}
 use Rattle.session_core.proofs.ReaderBesideLoader as beside
@@ -86,9 +87,6 @@ posts s call answer = (calls.Post s (record { call = Some call; says = answer })
 
 abbrev pub created : Forest
 created = forests.insert no_documents d (record { kids = [] })
-
-abbrev first_failure : Mark
-first_failure = record { before = 0; after = 1 }
 
 abbrev doubts : CoreCall × Event
 doubts = (calls.Doubt 1 created first_failure, Doubt 1 1 first_failure)

@@ -1,5 +1,5 @@
 -- Journals that differ from a legal one in just what a clause forbids. The scripts may be any: the clause alone
--- refuses them. Two are refused by a clause that stands by itself, without the others and without a base.
+-- refuses them. Three are refused by a clause that stands by itself, without the others and without a base.
 use Rattle.std.proofs.Common.{◌≡◌, ◌≤◌, Bool, true, false, true≢false, [], ◌∷◌, Option, Some, is_some, IsTrue, refl, sym, ap, ◌∙◌, arith}
 use mathlib.Core.Logic.{◌⊎◌, inl, inr}
 use Rattle.xq_ast.specs.declared.call.Call.{Call}
@@ -22,14 +22,9 @@ use Rattle.session_core.specs.Refusals.{RefusalsAt, is_spent}
 use Rattle.session_core.specs.Transactions.{Base}
 use Rattle.session_core.specs.Closes.{Scripts}
 use Rattle.session_core.specs.Legal.{Legal}
+use Rattle.session_core.proofs.Worked.{B, answer, first_failure}
 use Rattle.session_core.proofs.WorkedCalls.{d, element, begin_read, commit, shared, exclusive}
 use Rattle.session_core.proofs.WorkedStatements.{export_before, export_behind}
-
-abbrev B : Base
-B = record { numbers = record { commit = 0; generation = 1 }; forest = no_documents }
-
-abbrev answer : Call → Says → Reply
-answer call what = record { call = Some call; says = what }
 
 abbrev is_lines : Says → Bool
 is_lines (says.Lines all) = true
@@ -149,10 +144,6 @@ marks_overlap : (P : Scripts) → Legal (
     ∷ []) B P → ⊥
 marks_overlap P l = let in_order : 2 ≤ 1 = l.marks.0.0.1 in omega (arith, in_order)
 
--- the device failed once
-abbrev first_failure : Mark
-first_failure = record { before = 0; after = 1 }
-
 neither : {A : Type 0} → (IsTrue false × A) ⊎ IsTrue false → ⊥
 neither (inl is) = true≢false (sym is.0)
 neither (inr is) = true≢false (sym is)
@@ -234,3 +225,10 @@ granted_twice : AtEach CallOrderAt (past_of (
     ∷ Granted 1 shared
     ∷ [])) → ⊥
 granted_twice in_order = true≢false (sym in_order.0)
+
+granted_twice_is_not_legal : (P : Scripts) → Legal (
+    Began 1 kinds.Updating
+    ∷ Granted 1 shared
+    ∷ Granted 1 shared
+    ∷ []) B P → ⊥
+granted_twice_is_not_legal P l = granted_twice l.closes.in_order

@@ -24,7 +24,7 @@ pub struct Session {
 
 impl Model for Session {
     ghost use Rattle.session_run.specs.Sessions.{Seat, seat_code, seat_of};
-    
+
     ghost Value = { Seat };
 
     ghost coded = { seat_code };
@@ -42,7 +42,7 @@ impl Session {
         Session {
             alloc,
             number,
-            changes: DocDocChanges::new(alloc),
+            changes: DocChanges::new(alloc),
         }
     }
 

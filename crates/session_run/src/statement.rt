@@ -86,7 +86,12 @@ fn put(alloc: Global, name: &Str, doc: Doc) -> Result<Effect, NoMemory>
     })
 }
 
-fn create(alloc: Global, base: &DocMap, changes: &DocChanges, name: &Str) -> Result<Effect, NoMemory>
+fn create(
+    alloc: Global,
+    base: &DocMap,
+    changes: &DocChanges,
+    name: &Str,
+) -> Result<Effect, NoMemory>
     requires named { IsTrue (is_document_name name.now) }
     ensures effect { IfOk result (IsEffect (Call.Create name.now) changes.now.changes base.now) }
     ensures valid { IfOk result (λ effect. IsValidChange effect.change) }
@@ -144,7 +149,12 @@ fn take_away(base: &DocMap, changes: &DocChanges, name: &Str) -> Result<Effect, 
     }
 }
 
-fn export(alloc: Global, base: &DocMap, changes: &DocChanges, name: &Str) -> Result<Effect, NoMemory>
+fn export(
+    alloc: Global,
+    base: &DocMap,
+    changes: &DocChanges,
+    name: &Str,
+) -> Result<Effect, NoMemory>
     ensures effect { IfOk result (IsEffect (Call.Export name.now) changes.now.changes base.now) }
     ensures valid { IfOk result (λ effect. IsValidChange effect.change) }
 {

@@ -81,7 +81,11 @@ fn commit(core: &mut Core, session: u32, changes: &mut DocChanges) -> Result<(),
 }
 
 /// Ends the transaction by COMMIT.
-pub(crate) fn finish(core: &mut Core, session: u32, changes: &mut DocChanges) -> Result<(), NoMemory>
+pub(crate) fn finish(
+    core: &mut Core,
+    session: u32,
+    changes: &mut DocChanges,
+) -> Result<(), NoMemory>
     requires ready { IsReady session changes.old.changes core.old }
     requires inside { IsTrue (is_open (state_of session (past core.old))) }
     ensures closed { OnOk result (AddsClosing session Call.Commit core.old core.new) }
