@@ -1,4 +1,4 @@
-use Rattle.std.proofs.Common.{refl}
+use Rattle.std.proofs.Common.{Some, refl}
 use Rattle.session_run.proofs.Closing.{stays}
 use Rattle.session_core.specs.Kept.{past}
 use Rattle.session_run.proofs.Memory.{lacking}

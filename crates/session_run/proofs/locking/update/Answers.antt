@@ -1,4 +1,4 @@
-use Rattle.std.proofs.Common.{refl, subst}
+use Rattle.std.proofs.Common.{Some, refl, subst}
 use Rattle.session_core.specs.Kept.{past, AskEnds}
 use Rattle.session_run.proofs.Closing.{stays}
 use Rattle.session_run.proofs.Calling.{granted_here}
@@ -11,6 +11,10 @@ answer_unchanged-requires-clause-right c = lacking c.args.core.now.base c.args.s
 pub returns-in_default-clause-ready : goal.returns-in_default-clause-ready
 returns-in_default-clause-ready c =
     stays c.answer_unchanged.result c.args.session c.args.changes.now.changes c.args.core.now c.args.core.now c.answer_unchanged.new.core refl c.requires.ready.tied c.answer_unchanged.ensures.ready
+
+pub run_granted-requires-in-Ok-ask-clause-tied : goal.run_granted-requires-in-Ok-ask-clause-tied
+run_granted-requires-in-Ok-ask-clause-tied c =
+    (granted_here c.args.session c.args.changes.now.changes c.args.call c.args.core.now c.requires.ready c.requires.updating c.ask.new.self c.in-Ok.needed c.in-Ok.ensures c.in-Ok-ask.ensures.granted).tied
 
 pub answer_unchanged-requires-in-Err-NoMemory-clause-right : goal.answer_unchanged-requires-in-Err-NoMemory-clause-right
 answer_unchanged-requires-in-Err-NoMemory-clause-right c = lacking c.ask.new.self.base c.args.session (past c.ask.new.self) (Some _)

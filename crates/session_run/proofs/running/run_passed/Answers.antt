@@ -1,4 +1,6 @@
-use Rattle.std.proofs.Common.{◌≡◌, None, refl, subst}
+use Rattle.std.proofs.Common.{◌≡◌, None, Some, refl, subst}
+use Rattle.xq_ast.specs.declared.call.Call.TheVariants.{Checkpoint}
+use Rattle.session_core.specs.declared.event.Says.TheVariants as says
 use Rattle.session_core.specs.Answering as answers
 use Rattle.session_core.specs.Kept.{past}
 use Rattle.session_core.specs.States.{state}

@@ -1,4 +1,4 @@
-use Rattle.std.proofs.Common.{OnOk, refl, subst}
+use Rattle.std.proofs.Common.{Some, OnOk, refl, subst}
 use Rattle.session_core.specs.declared.event.BeginKind.TheVariants as kinds
 use Rattle.session_core.specs.declared.event.Event.TheVariants as events
 use Rattle.session_core.specs.Kept.{Kept, past}
