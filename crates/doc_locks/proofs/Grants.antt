@@ -12,7 +12,8 @@ use Rattle.std.specs.List.{list_any}
 use Rattle.std.specs.Map.{keys_of}
 use Rattle.xq_ast.specs.declared.need.Need.{Need}
 use Rattle.doc_locks.specs.Names.{Names, Locks}
-use Rattle.doc_locks.specs.Locks.{conflicts, is_blocked_by, IsFree, IsLeastHolder, IsFirstConflict}
+use Rattle.doc_locks.specs.Locks.{is_blocked_by, IsFree, IsLeastHolder, IsFirstConflict}
+use Rattle.xq_ast.specs.Modes.{conflicts}
 use Rattle.doc_locks.specs.Refusal.{IsRefusal, NamesConflict}
 use Rattle.doc_locks.specs.declared.end.AskEnd.{AskEnd}
 use Rattle.doc_locks.specs.declared.end.AskEnd.TheVariants.{Held, NoMemory}

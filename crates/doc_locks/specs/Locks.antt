@@ -2,7 +2,7 @@
 use Rattle.std.specs.Prelude.{◌≡◌, ℕ, ◌≤◌, Bool, true, false, not, ◌&&◌, ◌==◌, List, [], ◌∷◌, Option, Some, None, unwrap_or, All, IsSomeAnd, slice_get, take}
 use Rattle.std.specs.FinMap as fin
 use Rattle.xq_ast.specs.declared.need.LockMode.{LockMode}
-use Rattle.xq_ast.specs.declared.need.LockMode.TheVariants.{S, X}
+use Rattle.xq_ast.specs.Modes.{conflicts, stronger}
 use Rattle.xq_ast.specs.declared.need.Need.{Need}
 use Rattle.doc_locks.specs.Names.{Names, Locks}
 
@@ -13,13 +13,6 @@ names_of t session = unwrap_or (fin.get t session) fin.empty
 -- the mode in which a session holds a name, if it does
 abbrev pub mode_held : Locks → ℕ → List ℕ → Option LockMode
 mode_held t session name = fin.get (names_of t session) name
-
--- two locks of different sessions on one name conflict where at least one of them is X
-abbrev pub conflicts : Option LockMode → LockMode → Bool
-conflicts None mode = false
-conflicts (Some X) mode = true
-conflicts (Some S) X = true
-conflicts (Some S) S = false
 
 -- whether a session is another than the one that asks, and holds a lock that conflicts with the need
 abbrev pub is_blocked_by : Locks → ℕ → Need → ℕ → Bool
@@ -39,15 +32,9 @@ pub record IsFirstConflict (t : Locks) (session : ℕ) (needs : List Need) (plac
   pub before : All (IsFree t session) (take place needs)
   pub there : IsSomeAnd (slice_get needs place) (λ need. IsLeastHolder t session need holder)
 
--- the stronger of the mode that is held, if any, and one that is granted
-abbrev pub stronger : Option LockMode → LockMode → LockMode
-stronger None mode = mode
-stronger (Some X) mode = X
-stronger (Some S) mode = mode
-
 -- what a session holds once needs are granted to it as well
 abbrev pub with_need : Names → Need → Names
-with_need names need = fin.insert names need.name (stronger (fin.get names need.name) need.mode)
+with_need names need = fin.insert names need.name (stronger need.mode (fin.get names need.name))
 
 abbrev pub with_needs : List Need → Names → Names
 with_needs [] names = names

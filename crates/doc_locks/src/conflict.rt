@@ -1,6 +1,6 @@
 //! When two locks conflict, and which of two modes is the stronger.
 ghost use Rattle.std.specs.Prelude.{◌≡◌};
-ghost use Rattle.doc_locks.specs.Locks.{conflicts, stronger};
+ghost use Rattle.xq_ast.specs.Modes.{conflicts, stronger};
 
 use xq_ast::LockMode;
 
@@ -17,7 +17,7 @@ pub fn is_conflict(held: Option<LockMode>, mode: LockMode) -> bool
 
 /// The stronger of the mode that is held, if any, and one that is granted.
 pub fn stronger_mode(held: Option<LockMode>, mode: LockMode) -> LockMode
-    ensures { result ≡ stronger held mode }
+    ensures { result ≡ stronger mode held }
 {
     match held {
         Some(LockMode::X) => LockMode::X,

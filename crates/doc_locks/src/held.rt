@@ -9,7 +9,7 @@ use crate::conflict::stronger_mode;
 use indexmap::IndexMap;
 use std::alloc::Global;
 use std::marker::Model;
-use xq_ast::{LockMode, Need, NeedList, NoMemory, Str, copy_needs};
+use xq_ast::{LockMode, Need, NeedList, NoMemory, Str};
 
 /// Names with the modes in which a session holds them, in the order in which they were first granted.
 #[derive(Drop)]
@@ -48,7 +48,7 @@ impl HeldNames {
         ensures ok { OnOk result (self.new ≡ with_needs needs.now self.old) }
         ensures err { OnErr result (self.new ≡ self.old) }
     {
-        let needs = copy_needs(alloc, needs)?.into_vec();
+        let needs = needs.copy()?.into_vec();
         self.modes.reserve(needs.len())?;
         put_all(&mut self.modes, needs);
         Ok(())

@@ -1,7 +1,8 @@
 //! The table of all sessions' locks.
 ghost use Rattle.std.specs.Prelude.{◌≡◌, ◌<◌, length, IsSome, Some, IfSome, IfNone, OnOk, OnErr, IfErr, All, not, ◌&&◌, ◌==◌};
 ghost use Rattle.std.specs.FinMap as map;
-ghost use Rattle.doc_locks.specs.Locks.{conflicts, IsFree, IsLeastHolder, IsFirstConflict, granted};
+ghost use Rattle.doc_locks.specs.Locks.{IsFree, IsLeastHolder, IsFirstConflict, granted};
+ghost use Rattle.xq_ast.specs.Modes.{conflicts};
 ghost use Rattle.doc_locks.specs.Refusal.{IsRefusal, NamesConflict};
 ghost use Rattle.doc_locks.specs.Least.{least_with};
 

@@ -11,7 +11,7 @@ use Rattle.std.specs.Cmp.{nat_cmp_total}
 use Rattle.std.specs.FinMap as fin
 use Rattle.xq_ast.specs.declared.code.Mark.{Mark}
 use Rattle.xq_ast.specs.declared.need.Need.{Need}
-use Rattle.xml_model.specs.Forest.{Forest}
+use Rattle.xml_model.specs.Forest.{Forest, IsForest}
 use Rattle.doc_locks.specs.Names.{Locks}
 use Rattle.session_core.specs.declared.event.BeginKind.{BeginKind}
 use Rattle.session_core.specs.declared.event.BeginKind.TheVariants as kinds
@@ -21,18 +21,19 @@ use Rattle.session_core.specs.declared.event.Reply.{Reply}
 use Rattle.session_core.specs.declared.event.Event.{Event}
 use Rattle.session_core.specs.declared.event.Event.TheVariants.{Began, Granted, Refused, Answered, Committed, Ended, RolledBack, Doubt, Settled, Left}
 use Rattle.session_core.specs.History.{past_of, last_of}
-use Rattle.session_core.specs.Transactions.{Base, Transaction, open_of, with_reply, commits, commit_count, ran, ran_all, run_calls, serial, after, newest}
+use Rattle.session_core.specs.Transactions.{Base, Transaction, open_of, with_reply, commits, commit_count, ran, ran_all, run_calls, serial, after, newest, next_number}
 use Rattle.session_core.specs.States.{state_with, state, is_open, is_reading, held_with, held_in, in_doubt}
 use Rattle.session_core.specs.Locks.{IsGranted, IsRefused, IsBehindGrant}
 use Rattle.session_core.specs.Replies.{RunsNext}
 use Rattle.session_core.specs.Refusals.{RefusalsAt, IsBehindSettling, is_apart}
-use Rattle.session_core.specs.Settling.{last_number, MaySettle, ClosesBehind, IsBehindSettled}
+use Rattle.session_core.specs.Settling.{last_number, MaySettle, ClosesBehind, IsBehindSettled, HasCommitLeft}
 use Rattle.session_core.specs.Marks.{IsNextMark}
 use Rattle.session_core.specs.Legal.{SoFar}
 use Rattle.session_core.specs.Steps.{IsStep}
 use Rattle.session_core.specs.Table.{States, entry_of, state_at}
-use Rattle.session_core.specs.Kept.{Follows, HasCommitLeft, forest_in, next_number}
-use Rattle.session_core.specs.Ties.{forests_of, IsDoubt, DoubtIs, Ties, IsCore}
+use Rattle.session_core.specs.Kept.{Follows, forest_in}
+use Rattle.session_core.specs.Ties.{holding, AllForests, DoubtIsForest, forests_of, IsDoubt, DoubtIs, Ties, IsCore}
+use Rattle.session_core.proofs.CallOrder.{in_order}
 use Rattle.session_core.proofs.Covering.{apart_not_run, none_ran, ran_all-one}
 use Rattle.session_core.proofs.Growing.{past-more, newest-more}
 use Rattle.session_core.proofs.Tying.{state_at-entry, states_same, locks_same, forests_of-at, length-forests_of}
@@ -42,57 +43,59 @@ use Rattle.session_core.proofs.Stepping.{count_same, forests_same}
 
 module _ (B : Base) (past : List Event) where
   pub step_began_update : (s : ℕ) → state s past ≡ Idle → Follows (Began s kinds.Updating) past → IsStep B (Began s kinds.Updating) past
-  step_began_update s idle follows = record { locks = (tt, follows.0); serial = tt; snapshots = tt; unfinished = tt; refusals = idle; settling = (tt, follows.1); marks = (tt, tt); next = tt }
+  step_began_update s idle follows = record { in_order = in_order (Began s kinds.Updating) past follows; locks = (tt, follows.0); serial = tt; snapshots = tt; unfinished = tt; refusals = idle; settling = (tt, follows.1); marks = (tt, tt); next = tt }
 
-  pub step_began_read : (s n : ℕ) → state s past ≡ Idle → n ≡ B.commit + commit_count past → Follows (Began s (kinds.Reading n)) past → IsStep B (Began s (kinds.Reading n)) past
-  step_began_read s n idle number follows = record { locks = (tt, follows.0); serial = tt; snapshots = number; unfinished = tt; refusals = idle; settling = (tt, follows.1); marks = (tt, tt); next = tt }
+  pub step_began_read : (s n : ℕ) → state s past ≡ Idle → n ≡ B.numbers.commit + commit_count past → Follows (Began s (kinds.Reading n)) past → IsStep B (Began s (kinds.Reading n)) past
+  step_began_read s n idle number follows = record { in_order = in_order (Began s (kinds.Reading n)) past follows; locks = (tt, follows.0); serial = tt; snapshots = number; unfinished = tt; refusals = idle; settling = (tt, follows.1); marks = (tt, tt); next = tt }
 
   pub step_granted : (s : ℕ) (asked : List Need) → IsGranted s asked past → Follows (Granted s asked) past → IsStep B (Granted s asked) past
-  step_granted s asked granted follows = record { locks = (granted, follows.0); serial = tt; snapshots = tt; unfinished = tt; refusals = tt; settling = (tt, follows.1); marks = (tt, tt); next = tt }
+  step_granted s asked granted follows = record { in_order = in_order (Granted s asked) past follows; locks = (granted, follows.0); serial = tt; snapshots = tt; unfinished = tt; refusals = tt; settling = (tt, follows.1); marks = (tt, tt); next = tt }
 
   pub step_refused : (s : ℕ) (name : List ℕ) (holder : ℕ) (asked : List Need) → IsRefused s name holder asked past → Follows (Refused s name holder asked) past → IsStep B (Refused s name holder asked) past
   step_refused s name holder asked refused follows =
-      record { locks = (refused, follows.0); serial = tt; snapshots = tt; unfinished = tt; refusals = refused.updating; settling = (tt, follows.1); marks = (tt, tt); next = tt }
+      record { in_order = in_order (Refused s name holder asked) past follows; locks = (refused, follows.0); serial = tt; snapshots = tt; unfinished = tt; refusals = refused.updating; settling = (tt, follows.1); marks = (tt, tt); next = tt }
 
   not_spent : (a b : ℕ) → a < b → b ≤ a → ⊥
   not_spent a b below above = omega arith
 
-  pub step_committed : (s n : ℕ) → state s past ≡ Updating → in_doubt past ≡ None → HasCommitLeft B past → n ≡ next_number B past → RunsNext B s past → Follows (Committed s n) past → IsStep B (Committed s n) past
+  pub step_committed : (s n : ℕ) → state s past ≡ Updating → in_doubt past ≡ None → HasCommitLeft B.numbers past → n ≡ next_number B.numbers past → RunsNext B s past → Follows (Committed s n) past → IsStep B (Committed s n) past
   step_committed s n updating settled left number runs follows = record {
+    in_order = in_order (Committed s n) past follows;
     locks = (tt, follows.0);
     serial = (number, runs);
     snapshots = tt;
     unfinished = tt;
     refusals = updating;
-    settling = ((settled, not_spent (B.commit + commit_count past) last_number left), follows.1);
+    settling = ((settled, not_spent (B.numbers.commit + commit_count past) last_number left), follows.1);
     marks = (tt, tt);
     next = tt;
   }
 
-  pub step_doubted : (s n : ℕ) (mark : Mark) → state s past ≡ Updating → in_doubt past ≡ None → HasCommitLeft B past → n ≡ next_number B past → IsNextMark past mark → Follows (Doubt s n mark) past → IsStep B (Doubt s n mark) past
+  pub step_doubted : (s n : ℕ) (mark : Mark) → state s past ≡ Updating → in_doubt past ≡ None → HasCommitLeft B.numbers past → n ≡ next_number B.numbers past → IsNextMark past mark → Follows (Doubt s n mark) past → IsStep B (Doubt s n mark) past
   step_doubted s n mark updating settled left number next_mark follows = record {
+    in_order = in_order (Doubt s n mark) past follows;
     locks = (tt, follows.0);
     serial = number;
     snapshots = tt;
     unfinished = tt;
     refusals = updating;
-    settling = ((settled, not_spent (B.commit + commit_count past) last_number left), follows.1);
+    settling = ((settled, not_spent (B.numbers.commit + commit_count past) last_number left), follows.1);
     marks = (next_mark, tt);
     next = tt;
   }
 
   pub step_settled : (by s : ℕ) (stands : Bool) → state s past ≡ InDoubt → MaySettle by s (state by past) → RunsNext B s past → Follows (Settled by s stands) past → IsStep B (Settled by s stands) past
-  step_settled by s true doubt may runs follows = record { locks = (tt, follows.0); serial = runs; snapshots = tt; unfinished = tt; refusals = tt; settling = ((doubt, may), follows.1); marks = (tt, tt); next = tt }
-  step_settled by s false doubt may runs follows = record { locks = (tt, follows.0); serial = tt; snapshots = tt; unfinished = runs; refusals = tt; settling = ((doubt, may), follows.1); marks = (tt, tt); next = tt }
+  step_settled by s true doubt may runs follows = record { in_order = in_order (Settled by s true) past follows; locks = (tt, follows.0); serial = runs; snapshots = tt; unfinished = tt; refusals = tt; settling = ((doubt, may), follows.1); marks = (tt, tt); next = tt }
+  step_settled by s false doubt may runs follows = record { in_order = in_order (Settled by s false) past follows; locks = (tt, follows.0); serial = tt; snapshots = tt; unfinished = runs; refusals = tt; settling = ((doubt, may), follows.1); marks = (tt, tt); next = tt }
 
   pub step_ended : (s : ℕ) → IsTrue (is_reading (state s past)) → Follows (Ended s) past → IsStep B (Ended s) past
-  step_ended s reading follows = record { locks = (tt, follows.0); serial = tt; snapshots = tt; unfinished = tt; refusals = reading; settling = (tt, follows.1); marks = (tt, tt); next = tt }
+  step_ended s reading follows = record { in_order = in_order (Ended s) past follows; locks = (tt, follows.0); serial = tt; snapshots = tt; unfinished = tt; refusals = reading; settling = (tt, follows.1); marks = (tt, tt); next = tt }
 
   pub step_rolled_back : (s : ℕ) → IsTrue (is_open (state s past)) → RunsNext B s past → Follows (RolledBack s) past → IsStep B (RolledBack s) past
-  step_rolled_back s is runs follows = record { locks = (tt, follows.0); serial = tt; snapshots = tt; unfinished = runs; refusals = is; settling = (tt, follows.1); marks = (tt, tt); next = tt }
+  step_rolled_back s is runs follows = record { in_order = in_order (RolledBack s) past follows; locks = (tt, follows.0); serial = tt; snapshots = tt; unfinished = runs; refusals = is; settling = (tt, follows.1); marks = (tt, tt); next = tt }
 
   pub step_left : (s : ℕ) → IsTrue (is_open (state s past)) → RunsNext B s past → Follows (Left s) past → IsStep B (Left s) past
-  step_left s is runs follows = record { locks = (tt, follows.0); serial = tt; snapshots = tt; unfinished = runs; refusals = is; settling = (tt, follows.1); marks = (tt, tt); next = tt }
+  step_left s is runs follows = record { in_order = in_order (Left s) past follows; locks = (tt, follows.0); serial = tt; snapshots = tt; unfinished = runs; refusals = is; settling = (tt, follows.1); marks = (tt, tt); next = tt }
 
 pub open_of_reading : (x : State) → IsTrue (is_reading x) → IsTrue (is_open x)
 open_of_reading Idle is = is
@@ -169,7 +172,7 @@ module _ (B : Base) (past : List Event) (t : ℕ) (r : Reply) (refusals : Refusa
         marked = is.marked;
         forest_is = is.forest_is ∙ ap (run_calls (newest B past)) (sym (more_replies is.transaction.replies (not_ran (state t past) (ap (λ z. state z past) (eqb-true t d.0 same) ∙ in_doubt_state d.0 d.1 is) refusals)))
             ∙ ap (λ F. run_calls F (ran_all (is.transaction.replies ++ r ∷ []))) (sym newest_stays);
-        left = subst (λ n. B.commit + n < last_number) (sym (count_same (Answered t r) past refl)) is.left;
+        left = subst (λ n. B.numbers.commit + n < last_number) (sym (count_same (Answered t r) past refl)) is.left;
       }
       by_test false other = record {
         in_doubt_is = is.in_doubt_is;
@@ -178,7 +181,7 @@ module _ (B : Base) (past : List Event) (t : ℕ) (r : Reply) (refusals : Refusa
         kind_is = is.kind_is;
         marked = is.marked;
         forest_is = is.forest_is ∙ ap (λ F. run_calls F (ran_all is.transaction.replies)) (sym newest_stays);
-        left = subst (λ n. B.commit + n < last_number) (sym (count_same (Answered t r) past refl)) is.left;
+        left = subst (λ n. B.numbers.commit + n < last_number) (sym (count_same (Answered t r) past refl)) is.left;
       }
 
   state-with_reply : (o : Option Transaction) → state_with (with_reply r o) ≡ state_with o
@@ -205,14 +208,16 @@ module _ (B : Base) (past : List Event) (t : ℕ) (r : Reply) (refusals : Refusa
 
 pub core_more : (B : Base) (journal journal' : List Event) (e : Event) (capacity : ℕ) (states : States) (opened number : ℕ) (locks : Locks) (forests : List Forest) (doubt : Option (ℕ × Forest))
     → journal' ≡ journal ++ e ∷ [] → SoFar B (journal ++ e ∷ []) → Ties B (e ∷ past_of journal) states locks forests doubt → opened ≡ fin.len states
-    → length journal' + opened ≤ capacity → number ≡ B.commit + commit_count (e ∷ past_of journal) → IsCore B journal' capacity states opened number locks forests doubt
-core_more B journal journal' e capacity states opened number locks forests doubt more legal ties opened_is room number_is = record {
+    → length journal' + opened ≤ capacity → number ≡ B.numbers.commit + commit_count (e ∷ past_of journal) → AllForests forests → DoubtIsForest doubt → IsCore B (holding journal' capacity states opened number locks forests doubt)
+core_more B journal journal' e capacity states opened number locks forests doubt more legal ties opened_is room number_is valid doubt_valid = record {
   legal = subst (SoFar B) (sym more) legal;
   ties = subst (λ past. Ties B past states locks forests doubt) (sym (past-more journal e)
       ∙ ap past_of (sym more)) ties;
   opened_is = opened_is;
   room = room;
-  number_is = subst (λ past. number ≡ B.commit + commit_count past) (sym (past-more journal e) ∙ ap past_of (sym more)) number_is;
+  number_is = subst (λ past. number ≡ B.numbers.commit + commit_count past) (sym (past-more journal e) ∙ ap past_of (sym more)) number_is;
+  valid = valid;
+  doubt_valid = doubt_valid;
 }
 
 -- ---- how many transactions are open
@@ -240,6 +245,18 @@ in_table (Reading n) is = refl
 in_table InDoubt is = refl
 
 -- ---- forests
+
+-- one valid forest more
+pub all_more : (forests : List Forest) (F : Forest) → AllForests forests → IsForest F → AllForests (forests ++ F ∷ [])
+all_more [] F all is = (is, tt)
+all_more (G ∷ more) F all is = (all.0, all_more more F all.1 is)
+
+-- the forest behind so many transactions is one of them
+pub valid_at : (F : Forest) (ts : List Transaction) (n : ℕ) → AllForests (forests_of F ts) → IsForest (serial F (take n ts))
+valid_at F [] zero all = all.0
+valid_at F [] (suc n) all = all.0
+valid_at F (t ∷ more) zero all = all.0
+valid_at F (t ∷ more) (suc n) all = valid_at (run_calls F (ran_all t.replies)) more n all.1
 
 within_or : (k n : ℕ) → (min k n ≡ k) ⊎ ((min k n ≡ n) × (n ≤ k))
 within_or k n = by_test (nat_le k n) refl
@@ -274,14 +291,14 @@ state_told past states s is = ap state_at is ∙ state_at-entry (state s past)
 
 -- a reader sees the forest at its commit, and each other session the newest
 pub forest_read : (B : Base) (past : List Event) (forests : List Forest) (s n k : ℕ) (F : Forest) → forests ≡ forests_of B.forest (commits past)
-    → slice_get forests (min k (length forests - 1)) ≡ Some F → k ≡ n - B.commit → state s past ≡ Reading n → F ≡ forest_in B past (state s past)
+    → slice_get forests (min k (length forests - 1)) ≡ Some F → k ≡ n - B.numbers.commit → state s past ≡ Reading n → F ≡ forest_in B past (state s past)
 forest_read B past forests s n k F are found place reads = forest_found B past forests k F are found ∙ ap (after B past) place ∙ ap (forest_in B past) (sym reads)
 
 pub forest_newest : (B : Base) (past : List Event) (forests : List Forest) (x : State) (number : ℕ) (F : Forest) → forests ≡ forests_of B.forest (commits past)
-    → slice_get forests (min (number - B.commit) (length forests - 1)) ≡ Some F → number ≡ B.commit + commit_count past → ((n : ℕ) → x ≡ Reading n → ⊥) → F ≡ forest_in B past x
-forest_newest B past forests x number F are found number_is not_reading = forest_found B past forests (number - B.commit) F are found ∙ ap (after B past) place ∙ by_state x not_reading
+    → slice_get forests (min (number - B.numbers.commit) (length forests - 1)) ≡ Some F → number ≡ B.numbers.commit + commit_count past → ((n : ℕ) → x ≡ Reading n → ⊥) → F ≡ forest_in B past x
+forest_newest B past forests x number F are found number_is not_reading = forest_found B past forests (number - B.numbers.commit) F are found ∙ ap (after B past) place ∙ by_state x not_reading
   where
-    place : number - B.commit ≡ commit_count past
+    place : number - B.numbers.commit ≡ commit_count past
     place = omega arith
 
     by_state : (x : State) → ((n : ℕ) → x ≡ Reading n → ⊥) → newest B past ≡ forest_in B past x

@@ -1,5 +1,5 @@
 -- Right answers keep a journal legal so far: each meets its own clauses.
-use Rattle.std.proofs.Common.{◌≡◌, ℕ, ◌-◌, Bool, true, false, not, true≢false, List, [], ◌∷◌, Option, None, Some, IfSome, IsTrue, Result, Ok, Err, refl, sym, ap, subst, ◌∙◌}
+use Rattle.std.proofs.Common.{◌≡◌, ℕ, ◌-◌, Bool, true, false, not, ◌||◌, true≢false, List, [], ◌∷◌, Option, None, Some, IfSome, IsTrue, Result, Ok, Err, refl, sym, ap, subst, ◌∙◌}
 use Rattle.std.specs.Prelude.{if◌then◌else◌, nat_lt, length}
 use Rattle.std.specs.FinMap as forests
 use mathlib.Core.Logic.{inl, inr}
@@ -15,7 +15,7 @@ use Rattle.xml_model.specs.declared.limits.TheConstants.{REPLY_BYTES_MAX}
 use Rattle.xml_model.specs.declared.node.Doc.{Doc}
 use Rattle.xml_model.specs.declared.node.RefusedLine.{RefusedLine}
 use Rattle.xml_model.specs.Forest.{Forest}
-use Rattle.xml_model.specs.Needs.{needs, is_exclusive, has_exclusive}
+use Rattle.xml_model.specs.Needs.{needs, has_exclusive}
 use Rattle.xml_model.specs.Pyx.{Line, read, pyx, text_of}
 use Rattle.xml_model.specs.Statement.{is_statement, stmt, error, lines, answer_of, added_where_free, dropped, exported}
 use Rattle.session_core.specs.declared.event.BeginKind.{BeginKind}
@@ -29,15 +29,18 @@ use Rattle.session_core.specs.declared.event.Event.{Event}
 use Rattle.session_core.specs.declared.event.Event.TheVariants.{Granted, Answered}
 use Rattle.session_core.specs.History.{AtEach, past_of, last_of}
 use Rattle.session_core.specs.Transactions.{Base, Transaction, Ran, open_of, updating, where_updating, ran, ran_by, ran_all, run_calls, serial, after, newest, says_of, says_run, is_without_run, AnsweredInTurn, AnsweredAt}
-use Rattle.session_core.specs.States.{state, state_with, state_in, blocks, conflicts}
+use Rattle.session_core.specs.States.{state, state_with, state_in, blocks}
+use Rattle.xq_ast.specs.Modes.{conflicts, is_exclusive}
 use Rattle.session_core.specs.Locks.{AllFree, AreGranted, RanGranted, MeetsNoConflict, IsAnsweredWithLocks, LocksAt}
 use Rattle.session_core.specs.Replies.{AnsweredFrom}
 use Rattle.session_core.specs.Refusals.{Work, begins, ends, checkpoints, reads, shows, changes, work_of, refused_in, passes_with, answers_statement, is_text_refusal, is_state_refusal, IsByTable, IsBehindSettling, RefusalsAt}
-use Rattle.session_core.specs.Settling.{last_number, IsSettledForCheckpoint, SettlingOfAnswer}
+use Rattle.session_core.specs.Settling.{last_number, makes_pages, IsSettledForCheckpoint, SettlingOfAnswer}
 use Rattle.session_core.specs.Marks.{IsNextMark, mark_in, FailsRightly}
 use Rattle.session_core.specs.Steps.{IsNextReply, IsStep}
 use Rattle.session_core.specs.Kept.{Follows}
-use Rattle.session_core.specs.Answering.{RefusesText, RefusesCall, MakesCheckpoint, FindsNoNumber, RunsUpdating, RunsReading, IsRightAnswer, lacks_memory, refuses_text, refuses_call, makes_checkpoint, finds_no_number, runs_updating, runs_reading, AnswersKeepLegal}
+use Rattle.session_core.specs.Answering.{is_of_store, is_told, is_damaged, RefusesText, RefusesCall, MakesCheckpoint, FindsNoNumber, RunsUpdating, RunsReading, HasItsLocks, FailsOnDevice, FindsNoPage, FindsDamage, AnswersInOrder, forest_for, IsSaidOf, IsToldBy, IsRightAnswer, AnswersKeepLegal}
+use Rattle.session_core.specs.Answering.AnswersInOrder.{lacks_memory, refuses_text, refuses_call, makes_checkpoint, finds_no_number, runs_updating, runs_reading, fails, finds_no_page, finds_damage}
+use Rattle.session_core.proofs.CallOrder.{in_order}
 use Rattle.session_core.proofs.Holding.{has_name, locks_by, locks_in, locks_of, mode_by, held_is, all_apart}
 use Rattle.session_core.proofs.Covering.{AreHeld, LastHeldBy, LastHeldIn, last_held, none_ran}
 use Rattle.session_core.proofs.Growing.{grows}
@@ -78,7 +81,7 @@ state_unrun codes.ReadOnly is = refl
 state_unrun codes.Updating is = refl
 state_unrun code is = absurd (true≢false (sym is))
 
-plain_settles : (B : Base) (x : State) (call : Option Call) (code : Code) (past : List Event) → is_plain code ≡ true → SettlingOfAnswer B x call (says.Error code) past
+plain_settles : (B : Base) (x : State) (call : Option Call) (code : Code) (past : List Event) → is_plain code ≡ true → SettlingOfAnswer B.numbers x call (says.Error code) past
 plain_settles B x call (codes.Failed mark) past is = absurd (true≢false (sym is))
 plain_settles B x call (codes.InDoubt mark) past is = absurd (true≢false (sym is))
 plain_settles B x call (codes.Spent kind number) past is = absurd (true≢false (sym is))
@@ -139,33 +142,53 @@ stmt_tells F (Drop name) = dropped_tells (forests.get F name) name F
 stmt_tells F (Load name pyx_lines) = added_tells (forests.get F name) name (read pyx_lines) F
 stmt_tells F (Export name) = exported_tells (forests.get F name)
 
-code_runs : (code : Code) → tells_code code ≡ true → not (is_without_run code) ≡ true
-code_runs codes.Exists is = refl
-code_runs codes.FODC0002 is = refl
-code_runs codes.ReplyTooLong is = refl
-code_runs (codes.Pyx why line) is = refl
-code_runs code is = absurd (true≢false (sym is))
+-- and such an answer the documents may tell
+tells_told : (answer : Says) → tells answer ≡ true → is_told answer ≡ true
+tells_told says.Done is = refl
+tells_told (says.Lines all) is = refl
+tells_told (says.Error code) is = by_code code is
+  where
+    by_code : (code : Code) → tells_code code ≡ true → is_told (says.Error code) ≡ true
+    by_code codes.Exists is = refl
+    by_code codes.FODC0002 is = refl
+    by_code codes.ReplyTooLong is = refl
+    by_code (codes.Pyx why line) is = refl
+    by_code code is = absurd (true≢false (sym is))
+tells_told answer is = absurd (true≢false (sym is))
 
-pub told_runs : (answer : Says) → tells answer ≡ true → says_run answer ≡ true
+pub stmt_told : (F : Forest) (call : Call) → is_told (says_of (stmt F call).says) ≡ true
+stmt_told F call = tells_told (says_of (stmt F call).says) (stmt_tells F call)
+
+code_runs : (code : Code) → is_told (says.Error code) ≡ true → not (is_without_run code) ≡ true
+code_runs codes.NoTransaction is = absurd (true≢false (sym is))
+code_runs codes.InTransaction is = absurd (true≢false (sym is))
+code_runs codes.ReadOnly is = absurd (true≢false (sym is))
+code_runs codes.Updating is = absurd (true≢false (sym is))
+code_runs codes.NoMemory is = absurd (true≢false (sym is))
+code_runs (codes.Failed mark) is = absurd (true≢false (sym is))
+code_runs (codes.Spent kind number) is = absurd (true≢false (sym is))
+code_runs (codes.Damaged commit ordinal page) is = absurd (true≢false (sym is))
+code_runs code is = refl
+
+-- an answer that the documents may tell is one of a call that ran
+pub told_runs : (answer : Says) → is_told answer ≡ true → says_run answer ≡ true
 told_runs says.Done is = refl
 told_runs (says.Lines all) is = refl
 told_runs (says.Error code) is = code_runs code is
 told_runs answer is = absurd (true≢false (sym is))
 
-code_answers : (code : Code) → tells_code code ≡ true → answers_statement (says.Error code) ≡ true
-code_answers codes.Exists is = refl
-code_answers codes.FODC0002 is = refl
-code_answers codes.ReplyTooLong is = refl
-code_answers (codes.Pyx why line) is = refl
-code_answers code is = absurd (true≢false (sym is))
+neither : (a b c : Bool) → not (a || (b || c)) ≡ true → not (a || b) ≡ true
+neither true b c is = is
+neither false true c is = is
+neither false false c is = refl
 
-told_answers : (answer : Says) → tells answer ≡ true → answers_statement answer ≡ true
+told_answers : (answer : Says) → is_told answer ≡ true → answers_statement answer ≡ true
 told_answers says.Done is = refl
 told_answers (says.Lines all) is = refl
-told_answers (says.Error code) is = code_answers code is
+told_answers (says.Error code) is = neither (is_text_refusal code) (is_state_refusal code) (is_of_store code) is
 told_answers answer is = absurd (true≢false (sym is))
 
-code_plain : (code : Code) → tells_code code ≡ true → is_plain code ≡ true
+code_plain : (code : Code) → is_told (says.Error code) ≡ true → is_plain code ≡ true
 code_plain (codes.Failed mark) is = absurd (true≢false (sym is))
 code_plain (codes.InDoubt mark) is = absurd (true≢false (sym is))
 code_plain (codes.Spent kind number) is = absurd (true≢false (sym is))
@@ -176,13 +199,13 @@ no_checkpoint : (call : Call) (past : List Event) → is_statement call ≡ true
 no_checkpoint Checkpoint past is = absurd (true≢false (sym is))
 no_checkpoint call past is = tt
 
-told_settles : (B : Base) (x : State) (call : Call) (answer : Says) (past : List Event) → is_statement call ≡ true → tells answer ≡ true → SettlingOfAnswer B x (Some call) answer past
+told_settles : (B : Base) (x : State) (call : Call) (answer : Says) (past : List Event) → is_statement call ≡ true → is_told answer ≡ true → SettlingOfAnswer B.numbers x (Some call) answer past
 told_settles B x call says.Done past statement is = no_checkpoint call past statement
 told_settles B x call (says.Lines all) past statement is = tt
 told_settles B x call (says.Error code) past statement is = plain_settles B x (Some call) code past (code_plain code is)
 told_settles B x call answer past statement is = absurd (true≢false (sym is))
 
-told_marks : (x : State) (call : Option Call) (answer : Says) (past : List Event) → tells answer ≡ true → AreMarksOf x call answer past
+told_marks : (x : State) (call : Option Call) (answer : Says) (past : List Event) → is_told answer ≡ true → AreMarksOf x call answer past
 told_marks x call says.Done past is = (tt, tt)
 told_marks x call (says.Lines all) past is = (tt, tt)
 told_marks x call (says.Error code) past is = plain_marks x call code past (code_plain code is)
@@ -220,7 +243,7 @@ pub refused_code : (x : State) (work : Work) (code : Code) → refused_in x work
 refused_code x work code is = ap are_state_refusals (sym is) ∙ table_refuses x work
 
 -- a call that an updating transaction refuses needs no locks
-refused_needs : (call : Call) (code : Code) → refused_in Updating (work_of call) ≡ Some code → needs call ≡ []
+pub refused_needs : (call : Call) (code : Code) → refused_in Updating (work_of call) ≡ Some code → needs call ≡ []
 refused_needs (Create name) code is = cc
 refused_needs (Drop name) code is = cc
 refused_needs (Load name pyx_lines) code is = cc
@@ -283,7 +306,8 @@ pub granted_as : (s : ℕ) (asked : List Need) (past : List Event) → last_of s
 granted_as s [] past is = tt
 granted_as s (n ∷ more) past is = is
 
-held_where_granted : (past : List Event) (s : ℕ) (asked : List Need) → state s past ≡ Updating → AreGranted s asked past → AreHeld asked (locks_of s past)
+-- what a call needs is held where its locks were granted
+pub held_where_granted : (past : List Event) (s : ℕ) (asked : List Need) → state s past ≡ Updating → AreGranted s asked past → AreHeld asked (locks_of s past)
 held_where_granted past s [] updating granted = tt
 held_where_granted past s (n ∷ more) updating granted = held_behind_grant past s (n ∷ more) updating granted
 
@@ -296,7 +320,7 @@ nothing_next F (t ∷ more) r none = (subst (AnsweredInTurn (run_calls F (ran_al
 nothing_seen : (B : Base) (x : State) (calls : List Ran) (past : List Event) → calls ≡ [] → AnsweredFrom B x calls past
 nothing_seen B Idle calls past none = tt
 nothing_seen B Updating calls past none = tt
-nothing_seen B (Reading n) calls past none = subst (AnsweredAt (after B past (n - B.commit))) (sym none) tt
+nothing_seen B (Reading n) calls past none = subst (AnsweredAt (after B past (n - B.numbers.commit))) (sym none) tt
 nothing_seen B InDoubt calls past none = tt
 
 no_locks : (x : State) (s : ℕ) (r : Reply) (past : List Event) → ran r ≡ [] → (x ≡ Updating → MeetsNoConflict s r.call r.says past) → IsAnsweredWithLocks x s r past
@@ -307,10 +331,18 @@ no_locks InDoubt s r past none meets = tt
 
 no_memory_meets : (s : ℕ) (call : Option Call) (past : List Event) → MeetsNoConflict s call (says.Error codes.NoMemory) past
 no_memory_meets s None past = tt
-no_memory_meets s (Some call) past = λ other. absurd (other refl)
+no_memory_meets s (Some call) past = λ passes other. absurd (other refl)
 
 none_asked : (s : ℕ) (asked : List Need) (past : List Event) → asked ≡ [] → AllFree s asked past
 none_asked s asked past none = subst (λ l. AllFree s l past) (sym none) tt
+
+-- an answered call of an updating transaction meets no conflict, also one that the state refuses
+pub meets_none : (s : ℕ) (call : Call) (answer : Says) (past : List Event) → MeetsNoConflict s (Some call) answer past → (answer ≡ says.Error codes.NoMemory → ⊥) → AllFree s (needs call) past
+meets_none s call answer past meets other = by_refusal (refused_in Updating (work_of call)) refl
+  where
+    by_refusal : (refusal : Option Code) → refused_in Updating (work_of call) ≡ refusal → AllFree s (needs call) past
+    by_refusal None passes = meets passes other
+    by_refusal (Some code) refused = none_asked s (needs call) past (refused_needs call code refused)
 
 text_in_order : (x : State) (code : Code) → is_text_refusal code ≡ true → (x ≡ InDoubt → ⊥) → IsBehindSettling x None (says.Error code)
 text_in_order Idle code is sound = is
@@ -343,13 +375,48 @@ reading_not_updating (Some t) n is = by_parts t.in_doubt t.kind is
     by_parts false kinds.Updating e = cc
     by_parts false (kinds.Reading m) e = refl
 
+-- ---- what the documents tell
+
+said_one : (F : Forest) (call : Call) (answer : Says) → ran_by (Some call) answer ≡ record { call = call; says = answer } ∷ [] → IsSaidOf F (ran_by (Some call) answer) → answer ≡ says_of (stmt F call).says
+said_one F call answer runs said = (subst (IsSaidOf F) runs said).0
+
+-- a call that ran is answered as on the documents that its session sees
+pub told_by : (B : Base) (s : ℕ) (past : List Event) (x : State) (call : Call) (answer : Says) → state s past ≡ x → is_statement call ≡ true → is_told answer ≡ true
+    → IsToldBy B s past (Some call) answer → answer ≡ says_of (stmt (forest_for B s past x) call).says
+told_by B s past x call answer is statement told by =
+    said_one (forest_for B s past x) call answer (one_ran call answer statement (told_runs answer told)) (subst (λ y. IsSaidOf (forest_for B s past y) (ran_by (Some call) answer)) is by)
+
+-- and nothing is told of one that did not run
+pub nothing_told : (B : Base) (s : ℕ) (past : List Event) (call : Option Call) (answer : Says) → ran_by call answer ≡ [] → IsToldBy B s past call answer
+nothing_told B s past call answer none = subst (IsSaidOf (forest_for B s past (state s past))) (sym none) tt
+
+-- ---- right answers made
+
+module _ (B : Base) (s : ℕ) (past : List Event) where
+  pub right_unrun : (call : Option Call) (answer : Says) → AnswersInOrder B.numbers s past call answer → ran_by call answer ≡ [] → IsRightAnswer B s past call answer
+  right_unrun call answer order none = record { in_order = order; by_documents = nothing_told B s past call answer none }
+
+  pub right_lacking : (call : Option Call) → IsRightAnswer B s past call (says.Error codes.NoMemory)
+  right_lacking call = right_unrun call (says.Error codes.NoMemory) lacks_memory (none_ran call (says.Error codes.NoMemory) refl)
+
+  -- a statement that ran, on the documents of its session's state
+  pub right_ran : (x : State) (call : Call) (answer : Says) → state s past ≡ x → IsTrue (is_statement call) → (is_told answer ≡ true → AnswersInOrder B.numbers s past (Some call) answer)
+      → answer ≡ says_of (stmt (forest_for B s past x) call).says → IsRightAnswer B s past (Some call) answer
+  right_ran x call answer is statement order so =
+      let told : is_told answer ≡ true = ap is_told so ∙ stmt_told (forest_for B s past x) call in
+      let runs = one_ran call answer statement (told_runs answer told) in record {
+        in_order = order told;
+        by_documents = subst (λ y. IsSaidOf (forest_for B s past y) (ran_by (Some call) answer)) (sym is) (subst (IsSaidOf (forest_for B s past x)) (sym runs) (so, tt));
+      }
+
 -- ---- each right answer
 
 module _ (B : Base) (past : List Event) (s : ℕ) where
   unrun : (call : Option Call) (answer : Says) → ran_by call answer ≡ [] → (state s past ≡ Updating → MeetsNoConflict s call answer past)
-      → RefusalsAt (Answered s (replied call answer)) past → SettlingOfAnswer B (state s past) call answer past → AreMarksOf (state s past) call answer past
+      → RefusalsAt (Answered s (replied call answer)) past → SettlingOfAnswer B.numbers (state s past) call answer past → AreMarksOf (state s past) call answer past
       → Follows (Answered s (replied call answer)) past → IsStep B (Answered s (replied call answer)) past
   unrun call answer none meets refusals settling marks follows = record {
+    in_order = in_order (Answered s (replied call answer)) past follows;
     locks = (no_locks (state s past) s (replied call answer) past none meets, follows.0);
     serial = tt;
     snapshots = nothing_seen B (state s past) (ran_by call answer) past none;
@@ -375,7 +442,7 @@ module _ (B : Base) (past : List Event) (s : ℕ) where
   refusing_call call answer is =
       let by_state = refused_code (state s past) (work_of call) is.code is.refused in
       subst (Keeps (Some call)) (sym is.says_so) (λ follows. unrun (Some call) (says.Error is.code) (none_ran (Some call) (says.Error is.code) (ap not (state_unrun is.code by_state)))
-      (λ updating other. none_asked s (needs call) past (refused_needs call is.code (ap (λ x. refused_in x (work_of call)) (sym updating) ∙ is.refused)))
+      (λ updating passes other. none_asked s (needs call) past (refused_needs call is.code (ap (λ x. refused_in x (work_of call)) (sym updating) ∙ is.refused)))
       (inr (by_table (state s past) call is.code is.refused)) (plain_settles B (state s past) (Some call) is.code past (state_plain is.code by_state))
       (plain_marks (state s past) (Some call) is.code past (state_plain is.code by_state)) follows)
 
@@ -387,58 +454,91 @@ module _ (B : Base) (past : List Event) (s : ℕ) where
 
   making_checkpoint : (call : Call) (answer : Says) → MakesCheckpoint s call answer past → Keeps (Some call) answer
   making_checkpoint call answer is = subst (λ c. Keeps (Some c) answer) (sym is.is) (subst (Keeps (Some Checkpoint)) (sym is.says_so)
-      (λ follows. unrun (Some Checkpoint) says.Done refl (λ updating other. tt) (inr (checkpoint_order (state s past) is.idle)) is.settled (tt, tt) follows))
+      (λ follows. unrun (Some Checkpoint) says.Done refl (λ updating passes other. tt) (inr (checkpoint_order (state s past) is.idle)) is.settled (tt, tt) follows))
 
-  finding_no_number : (call : Call) (answer : Says) → FindsNoNumber B s call answer past → Keeps (Some call) answer
+  commit_order : (x : State) → x ≡ Updating → IsBehindSettling x (Some Commit) (says.Error (codes.Spent spent.Commit last_number))
+  commit_order Idle is = cc
+  commit_order Updating is = refl
+  commit_order (Reading n) is = cc
+  commit_order InDoubt is = cc
+
+  finding_no_number : (call : Call) (answer : Says) → FindsNoNumber B.numbers s call answer past → Keeps (Some call) answer
   finding_no_number call answer is = subst (λ c. Keeps (Some c) answer) (sym is.is) (subst (Keeps (Some Commit)) (sym is.says_so)
-      (λ follows. unrun (Some Commit) (says.Error (codes.Spent spent.Commit last_number)) refl (λ updating other. tt) (inl refl)
-      (subst (λ x. SettlingOfAnswer B x (Some Commit) (says.Error (codes.Spent spent.Commit last_number)) past) (sym is.updating) (refl, (refl, is.none_left))) (tt, tt) follows))
+      (λ follows. unrun (Some Commit) (says.Error (codes.Spent spent.Commit last_number)) refl (λ updating passes other. tt) (inr (commit_order (state s past) is.updating))
+      (subst (λ x. SettlingOfAnswer B.numbers x (Some Commit) (says.Error (codes.Spent spent.Commit last_number)) past) (sym is.updating) (refl, (refl, is.none_left))) (tt, tt) follows))
 
-  running_updating : AtEach LocksAt past → (call : Call) (answer : Says) → RunsUpdating B s call answer past → Keeps (Some call) answer
-  running_updating locks call answer is follows =
-      let told : tells answer ≡ true = ap tells is.says_so ∙ stmt_tells (serial (newest B past) (updating (open_of s past))) call in
-      let runs = one_ran call answer is.statement (told_runs answer told) in
+  -- what a call needs is free where its locks were granted
+  meets_where_locked : AtEach LocksAt past → (call : Option Call) (answer : Says) → state s past ≡ Updating → HasItsLocks s call past → MeetsNoConflict s call answer past
+  meets_where_locked locks None answer updating locked = tt
+  meets_where_locked locks (Some call) answer updating locked = λ passes other. free_where_held past locks s (needs call) (held_where_granted past s (needs call) updating locked)
+
+  running_updating : AtEach LocksAt past → (call : Call) (answer : Says) → RunsUpdating s call answer past → IsToldBy B s past (Some call) answer → Keeps (Some call) answer
+  running_updating locks call answer is by follows =
+      let runs = one_ran call answer is.statement (told_runs answer is.told) in
       let o = opened (open_of s past) is.updating in record {
+        in_order = in_order (Answered s (replied (Some call) answer)) past follows;
         locks = (
           subst (λ x. IsAnsweredWithLocks x s (replied (Some call) answer) past) (sym is.updating) (
             subst (λ calls. RanGranted s calls past) (sym runs) (is.granted, tt),
-            λ other. free_where_held past locks s (needs call) (held_where_granted past s (needs call) is.updating is.granted),
+            meets_where_locked locks (Some call) answer is.updating is.granted,
           ),
           follows.0,
         );
         serial = tt;
         snapshots = subst (λ x. AnsweredFrom B x (ran_by (Some call) answer) past) (sym is.updating) tt;
         unfinished = tt;
-        refusals = inr (subst (λ x. IsBehindSettling x (Some call) answer) (sym is.updating) (passes_table call answer _ is.passes is.statement (told_answers answer told)));
-        settling = (told_settles B (state s past) call answer past is.statement told, follows.1);
-        marks = told_marks (state s past) (Some call) answer past told;
-        next = next_one (newest B past) (updating (open_of s past)) o.transaction call answer (updating_is (open_of s past) o.transaction o.is o.kind_is) runs is.says_so;
+        refusals = inr (subst (λ x. IsBehindSettling x (Some call) answer) (sym is.updating) (passes_table call answer _ is.passes is.statement (told_answers answer is.told)));
+        settling = (told_settles B (state s past) call answer past is.statement is.told, follows.1);
+        marks = told_marks (state s past) (Some call) answer past is.told;
+        next = next_one (newest B past) (updating (open_of s past)) o.transaction call answer (updating_is (open_of s past) o.transaction o.is o.kind_is) runs
+            (told_by B s past Updating call answer is.updating is.statement is.told by);
       }
 
-  running_reading : (call : Call) (answer : Says) → RunsReading B s call answer past → Keeps (Some call) answer
-  running_reading call answer is follows =
-      let told : tells answer ≡ true = ap tells is.says_so ∙ stmt_tells (after B past (is.number - B.commit)) call in
-      let runs = one_ran call answer is.statement (told_runs answer told) in record {
+  running_reading : (call : Call) (answer : Says) → RunsReading s call answer past → IsToldBy B s past (Some call) answer → Keeps (Some call) answer
+  running_reading call answer is by follows =
+      let runs = one_ran call answer is.statement (told_runs answer is.told) in record {
+        in_order = in_order (Answered s (replied (Some call) answer)) past follows;
         locks = (subst (λ x. IsAnsweredWithLocks x s (replied (Some call) answer) past) (sym is.reading) tt, follows.0);
         serial = tt;
-        snapshots = subst (λ x. AnsweredFrom B x (ran_by (Some call) answer) past) (sym is.reading) (subst (AnsweredAt (after B past (is.number - B.commit))) (sym runs) (is.says_so, tt));
+        snapshots = subst (λ x. AnsweredFrom B x (ran_by (Some call) answer) past) (sym is.reading)
+            (subst (AnsweredAt (after B past (is.number - B.numbers.commit))) (sym runs) (told_by B s past (Reading is.number) call answer is.reading is.statement is.told by, tt));
         unfinished = tt;
-        refusals = inr (subst (λ x. IsBehindSettling x (Some call) answer) (sym is.reading) (passes_table call answer _ is.passes is.statement (told_answers answer told)));
-        settling = (told_settles B (state s past) call answer past is.statement told, follows.1);
-        marks = told_marks (state s past) (Some call) answer past told;
+        refusals = inr (subst (λ x. IsBehindSettling x (Some call) answer) (sym is.reading) (passes_table call answer _ is.passes is.statement (told_answers answer is.told)));
+        settling = (told_settles B (state s past) call answer past is.statement is.told, follows.1);
+        marks = told_marks (state s past) (Some call) answer past is.told;
         next = subst (λ ts. IsNextReply (newest B past) ts (replied (Some call) answer)) (sym (reading_not_updating (open_of s past) is.number is.reading)) tt;
       }
 
-  -- a right answer that its session's last event lets follow meets its own clauses
-  pub right_step : AtEach LocksAt past → (call : Option Call) (answer : Says) → IsRightAnswer B s past call answer → Follows (Answered s (replied call answer)) past → IsStep B (Answered s (replied call answer)) past
-  right_step locks call _ lacks_memory follows = lacking call follows
-  right_step locks _ answer (refuses_text is) follows = refusing_text answer is follows
-  right_step locks _ answer (refuses_call {call = call} is) follows = refusing_call call answer is follows
-  right_step locks _ answer (makes_checkpoint {call = call} is) follows = making_checkpoint call answer is follows
-  right_step locks _ answer (finds_no_number {call = call} is) follows = finding_no_number call answer is follows
-  right_step locks _ answer (runs_updating {call = call} is) follows = running_updating locks call answer is follows
-  right_step locks _ answer (runs_reading {call = call} is) follows = running_reading call answer is follows
+  failing : AtEach LocksAt past → (call : Option Call) (answer : Says) → FailsOnDevice B.numbers s call answer past → Keeps call answer
+  failing locks call answer is = subst (Keeps call) (sym is.says_so) (λ follows. unrun call (says.Error (codes.Failed is.mark)) (none_ran call (says.Error (codes.Failed is.mark)) refl)
+      (λ updating. meets_where_locked locks call (says.Error (codes.Failed is.mark)) updating (is.locked updating)) (inl refl) is.settles (is.next, is.may) follows)
+
+  page_order : (call : Call) → makes_pages call ≡ true → IsBehindSettling Updating (Some call) (says.Error (codes.Spent spent.Page last_number))
+  page_order (Create name) is = refl
+  page_order (Load name pyx_lines) is = refl
+  page_order call is = absurd (true≢false (sym is))
+
+  finding_no_page : AtEach LocksAt past → (call : Call) (answer : Says) → FindsNoPage s call answer past → Keeps (Some call) answer
+  finding_no_page locks call answer is = subst (Keeps (Some call)) (sym is.says_so) (λ follows. unrun (Some call) (says.Error (codes.Spent spent.Page last_number)) (none_ran (Some call) (says.Error (codes.Spent spent.Page last_number)) refl)
+      (λ updating. meets_where_locked locks (Some call) (says.Error (codes.Spent spent.Page last_number)) updating is.granted)
+      (inr (subst (λ x. IsBehindSettling x (Some call) (says.Error (codes.Spent spent.Page last_number))) (sym is.updating) (page_order call is.makes)))
+      (subst (λ x. SettlingOfAnswer B.numbers x (Some call) (says.Error (codes.Spent spent.Page last_number)) past) (sym is.updating) (refl, is.makes)) (tt, tt) follows)
+
+  -- a right answer that tells of no damage, and that its session's last event lets follow, meets its own clauses
+  pub right_step : AtEach LocksAt past → (call : Option Call) (answer : Says) → AnswersInOrder B.numbers s past call answer → IsToldBy B s past call answer → is_damaged answer ≡ false
+      → Follows (Answered s (replied call answer)) past → IsStep B (Answered s (replied call answer)) past
+  right_step locks call _ lacks_memory by sound follows = lacking call follows
+  right_step locks _ answer (refuses_text is) by sound follows = refusing_text answer is follows
+  right_step locks _ answer (refuses_call {call = call} is) by sound follows = refusing_call call answer is follows
+  right_step locks _ answer (makes_checkpoint {call = call} is) by sound follows = making_checkpoint call answer is follows
+  right_step locks _ answer (finds_no_number {call = call} is) by sound follows = finding_no_number call answer is follows
+  right_step locks _ answer (runs_updating {call = call} is) by sound follows = running_updating locks call answer is by follows
+  right_step locks _ answer (runs_reading {call = call} is) by sound follows = running_reading call answer is by follows
+  right_step locks call answer (fails is) by sound follows = failing locks call answer is follows
+  right_step locks _ answer (finds_no_page {call = call} is) by sound follows = finding_no_page locks call answer is follows
+  right_step locks _ answer (finds_damage is) by sound follows = absurd (true≢false (sym is.damaged ∙ sound))
 
 -- right answers keep a journal legal so far
 pub answers_keep_legal : AnswersKeepLegal
-answers_keep_legal B journal s reply so_far right follows = grows B journal (Answered s reply) so_far (right_step B (past_of journal) s so_far.locks reply.call reply.says right follows)
+answers_keep_legal B journal s reply so_far right sound follows =
+    grows B journal (Answered s reply) so_far (right_step B (past_of journal) s so_far.locks reply.call reply.says right.in_order right.by_documents sound follows)

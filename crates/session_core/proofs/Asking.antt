@@ -2,6 +2,7 @@
 use Rattle.std.proofs.Common.{◌≡◌, ℕ, zero, suc, ◌≤◌, ◌<◌, ◌==◌, Bool, true, false, not, ◌&&◌, true≢false, List, [], ◌∷◌, ◌++◌, length, take, slice_get, All, Option, None, Some, IsSomeAnd, IfSome, refl, sym, ap, subst, ◌∙◌, arith}
 use Rattle.std.proofs.lemmas.Bool.{eq-eqb, ne_eqb}
 use Rattle.xq_ast.specs.declared.call.Call.{Call}
+use Rattle.xq_ast.specs.declared.call.Call.TheVariants.{Create, Drop, Load, Export}
 use Rattle.xq_ast.specs.declared.need.LockMode.{LockMode}
 use Rattle.xq_ast.specs.declared.need.LockMode.TheVariants.{S, X}
 use Rattle.xq_ast.specs.declared.need.Need.{Need}
@@ -13,16 +14,12 @@ use Rattle.doc_locks.specs.Refusal.{IsRefusal}
 use Rattle.doc_locks.specs.declared.end.AskEnd.TheVariants.{Held}
 use Rattle.session_core.specs.declared.event.State.TheVariants.{Updating}
 use Rattle.session_core.specs.declared.event.Event.{Event}
-use Rattle.session_core.specs.States.{state, conflicts, blocks}
+use Rattle.session_core.specs.States.{state, blocks}
+use Rattle.xq_ast.specs.Modes.{conflicts}
+use Rattle.session_core.specs.Refusals.{refused_in, work_of}
 use Rattle.session_core.specs.Locks.{IsFree, AllFree, IsGranted, IsRefused}
 use Rattle.session_core.proofs.Holding.{and_parts}
 use Rattle.session_core.proofs.Tying.{LocksAre}
-
-same_conflicts : (mode : Option LockMode) (asked : LockMode) → table.conflicts mode asked ≡ conflicts mode asked
-same_conflicts None asked = refl
-same_conflicts (Some X) asked = refl
-same_conflicts (Some S) X = refl
-same_conflicts (Some S) S = refl
 
 -- the needs before a place, the one there, and those behind
 record Parted (asked : List Need) (place : ℕ) (P Q : Need → Type 0) : Type 0 where
@@ -39,10 +36,22 @@ parted P Q (n ∷ more) zero p q = record { there = n; behind = more; are = refl
 parted P Q (n ∷ more) (suc place) p q =
     let rest = parted P Q more place p q in record { there = rest.there; behind = rest.behind; are = ap (λ l. n ∷ l) rest.are; first = rest.first; second = rest.second }
 
+-- a call that needs locks passes the test of an updating transaction
+some_passes : (call : Call) (asked : List Need) → needs_of call ≡ asked → (asked ≡ [] → ⊥) → refused_in Updating (work_of call) ≡ None
+some_passes (Create name) asked are some = refl
+some_passes (Drop name) asked are some = refl
+some_passes (Load name pyx_lines) asked are some = refl
+some_passes (Export name) asked are some = refl
+some_passes call asked are some = absurd (some (sym are))
+
+not_empty : (front : List Need) (n : Need) (behind asked : List Need) → asked ≡ front ++ n ∷ behind → asked ≡ [] → ⊥
+not_empty [] n behind asked are none = let e : n ∷ behind ≡ [] = sym are ∙ none in cc
+not_empty (m ∷ front) n behind asked are none = let e : m ∷ front ++ n ∷ behind ≡ [] = sym are ∙ none in cc
+
 module _ (past : List Event) (locks : Locks) (are : LocksAre locks past) (s : ℕ) where
   -- who is another blocks in the table what it blocks in the journal
   blocked_is : (t : ℕ) (n : Need) → (t ≡ s → ⊥) → is_blocked_by locks s n t ≡ blocks t n past
-  blocked_is t n other = ap (λ b. not b && table.conflicts (mode_held locks t n.name) n.mode) (ne_eqb t s other) ∙ same_conflicts (mode_held locks t n.name) n.mode ∙ ap (λ m. conflicts m n.mode) (are t n.name)
+  blocked_is t n other = ap (λ b. not b && conflicts (mode_held locks t n.name) n.mode) (ne_eqb t s other) ∙ ap (λ m. conflicts m n.mode) (are t n.name)
 
   free : (n : Need) → table.IsFree locks s n → IsFree s n past
   free n is t other = sym (blocked_is t n other) ∙ is t
@@ -72,6 +81,7 @@ module _ (past : List Event) (locks : Locks) (are : LocksAre locks past) (s : �
         updating = updating;
         call = call;
         needs_are = needs_are;
+        passes = some_passes call asked needs_are (not_empty (take place asked) parts.there parts.behind asked parts.are);
         before = take place asked;
         blocked = parts.there;
         behind = parts.behind;

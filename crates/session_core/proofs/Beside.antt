@@ -163,7 +163,7 @@ none_or_some : (s : ℕ) (o : Option ℕ) → o ≡ None → o ≡ Some s → �
 none_or_some s o none some = let e : ◌≡◌ {A = Option ℕ} None (Some s) = sym none ∙ some in cc
 
 -- a session in doubt is the one whose commit is in doubt
-pub doubt_is_of : (B : Base) (past : List Event) → AtEach (SettlingAt B) past → (s : ℕ) → state s past ≡ InDoubt → in_doubt past ≡ Some s
+pub doubt_is_of : (B : Base) (past : List Event) → AtEach (SettlingAt B.numbers) past → (s : ℕ) → state s past ≡ InDoubt → in_doubt past ≡ Some s
 doubt_is_of B [] settling s is = absurd (none_sound is)
 doubt_is_of B (Began t kind ∷ past) settling s is = by_whose t s (open_of s past) _ (λ other. doubt_is_of B past settling.1 s) (λ same it. absurd (begun_sound kind it)) is
 doubt_is_of B (Granted t more ∷ past) settling s is = by_whose t s (open_of s past) _ (λ other. doubt_is_of B past settling.1 s)
@@ -181,5 +181,5 @@ doubt_is_of B (Settled by t stands ∷ past) settling s is = by_whose t s (open_
     (λ other it. absurd (other (some_same t s (sym (doubt_is_of B past settling.1 t settling.0.0.0) ∙ doubt_is_of B past settling.1 s it)))) (λ same it. absurd (none_sound it)) is
 
 -- where nothing is in doubt no session is
-pub none_in_doubt : (B : Base) (past : List Event) → AtEach (SettlingAt B) past → in_doubt past ≡ None → (s : ℕ) → state s past ≡ InDoubt → ⊥
+pub none_in_doubt : (B : Base) (past : List Event) → AtEach (SettlingAt B.numbers) past → in_doubt past ≡ None → (s : ℕ) → state s past ≡ InDoubt → ⊥
 none_in_doubt B past settling none s is = none_or_some s (in_doubt past) none (doubt_is_of B past settling s is)

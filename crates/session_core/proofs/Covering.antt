@@ -10,7 +10,8 @@ use Rattle.xq_ast.specs.declared.call.Call.TheVariants.{ShowDocuments}
 use Rattle.xq_ast.specs.declared.code.Code.{Code}
 use Rattle.xq_ast.specs.declared.code.Code.TheVariants as codes
 use Rattle.xq_ast.specs.declared.need.Need.{Need}
-use Rattle.xml_model.specs.Needs.{needs, is_exclusive, has_exclusive}
+use Rattle.xml_model.specs.Needs.{needs, has_exclusive}
+use Rattle.xq_ast.specs.Modes.{is_exclusive}
 use Rattle.xml_model.specs.Statement.{is_statement}
 use Rattle.session_core.specs.declared.event.BeginKind.{BeginKind}
 use Rattle.session_core.specs.declared.event.BeginKind.TheVariants as kinds
@@ -209,7 +210,7 @@ apart_code codes.NoMemory e = refl
 apart_code (codes.Failed mark) e = refl
 apart_code (codes.InDoubt mark) e = absurd (true≢false (sym e))
 apart_code (codes.Pyx why line) e = absurd (true≢false (sym e))
-apart_code (codes.Spent kind number) e = refl
+apart_code (codes.Spent kind number) e = absurd (true≢false (sym e))
 apart_code (codes.Damaged commit ordinal page) e = absurd (true≢false (sym e))
 
 pub apart_not_run : (answer : Says) → is_apart answer ≡ true → says_run answer ≡ false

@@ -14,6 +14,7 @@ use Rattle.session_core.specs.declared.event.Reply.{Reply}
 use Rattle.session_core.specs.declared.event.Event.{Event}
 use Rattle.session_core.specs.declared.event.Event.TheVariants.{Began, Granted, Refused, Answered, Committed, Ended, RolledBack, Doubt, Settled, Left}
 use Rattle.session_core.specs.History.{AtEach, past_of}
+use Rattle.session_core.specs.CallOrder.{CallOrderAt}
 use Rattle.session_core.specs.Transactions.{Base, Transaction, Ran, open_of, open_behind, begun, with_locks, with_reply, with_doubt, updating, where_updating, commits, committed_by, ran, ran_all, run_calls, serial, newest, AnsweredInTurn}
 use Rattle.session_core.specs.Locks.{LocksAt}
 use Rattle.session_core.specs.Replies.{AllInTurn, RunsNext, SerialAt, SnapshotsAt, UnfinishedAt, UnfinishedAtEnd}
@@ -133,6 +134,7 @@ still_runs B (Left t) past locks refusals s runs next = runs_if (newest B past) 
 -- strict locking: a journal that is legal so far is legal with one event more
 pub grows : (B : Base) (journal : List Event) (e : Event) → SoFar B journal → IsStep B e (past_of journal) → SoFar B (journal ++ e ∷ [])
 grows B journal e so_far step = record {
+  in_order = over (AtEach CallOrderAt) (step.in_order, so_far.in_order);
   locks = over (AtEach LocksAt) (step.locks, so_far.locks);
   serial = over (AtEach (SerialAt B)) (step.serial, so_far.serial);
   snapshots = over (AtEach (SnapshotsAt B)) (step.snapshots, so_far.snapshots);
@@ -141,7 +143,7 @@ grows B journal e so_far step = record {
     at_end = over (UnfinishedAtEnd B) (λ s. on_newest B e (past_of journal) s (still_runs B e (past_of journal) so_far.locks so_far.refusals s (so_far.unfinished.at_end s) step.next));
   };
   refusals = over (AtEach RefusalsAt) (step.refusals, so_far.refusals);
-  settling = over (AtEach (SettlingAt B)) (step.settling, so_far.settling);
+  settling = over (AtEach (SettlingAt B.numbers)) (step.settling, so_far.settling);
   marks = over (AtEach MarksAt) (step.marks, so_far.marks);
 }
   where
@@ -150,4 +152,4 @@ grows B journal e so_far step = record {
 
 -- an empty journal is legal so far
 pub begins : (B : Base) → SoFar B []
-begins B = record { locks = tt; serial = tt; snapshots = tt; unfinished = record { each = tt; at_end = λ s. tt }; refusals = tt; settling = tt; marks = tt }
+begins B = record { in_order = tt; locks = tt; serial = tt; snapshots = tt; unfinished = record { each = tt; at_end = λ s. tt }; refusals = tt; settling = tt; marks = tt }

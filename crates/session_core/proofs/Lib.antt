@@ -1,4 +1,5 @@
 pub mod Sessions
+pub mod CallOrder
 pub mod Holding
 pub mod Covering
 pub mod Turning
@@ -11,7 +12,7 @@ pub mod Cores
 pub mod Answering
 pub mod Beside
 pub mod Making
-pub mod Runs
+mod Worked
 mod WorkedCalls
 mod WorkedStatements
 mod ReaderBesideLoader

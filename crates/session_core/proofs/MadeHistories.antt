@@ -21,9 +21,9 @@ use Rattle.session_core.specs.Locks.{IsFree, AllFree, IsRefused}
 use Rattle.session_core.specs.Kept.{Kept, kept_of, with_event, past}
 use Rattle.session_core.specs.CoreCalls.{Meets, IsAsked, granted, refused, Makes, CanMake}
 use Rattle.session_core.proofs.Sessions.{◌⊳◌, free_where_none}
-use Rattle.session_core.proofs.Runs.{create_leaves}
+use Rattle.session_core.proofs.Worked.{first_failure}
 use Rattle.session_core.proofs.WorkedCalls.{d, element, exclusive}
-use Rattle.session_core.proofs.WorkedStatements.{document, load_leaves}
+use Rattle.session_core.proofs.WorkedStatements.{document, load_leaves, create_leaves}
 use Rattle.session_core.proofs.ReaderBesideLoader as beside
 use Rattle.session_core.proofs.SettledYes as with_yes
 use Rattle.session_core.proofs.SettledNo as with_no
@@ -59,10 +59,6 @@ only_granted : (s : ℕ) (asked : List Need) (k : Kept) → AllFree s asked (pas
 only_granted s asked k free behind (granted all is) = is
 only_granted s asked k free behind (refused name holder not is) = absurd (not_refused s name holder asked (past k) free not)
 
--- a list with one call more is the other list with the same
-pub add : {list front longer : List CoreCall} {call same : CoreCall} → list ≡ front → longer ≡ list ++ call ∷ [] → call ≡ same → longer ≡ front ++ same ∷ []
-add {front = front} {call = call} before more is = more ∙ ap (λ l. l ++ call ∷ []) before ∙ ap (λ x. front ++ x ∷ []) is
-
 -- ---- what the histories share
 
 abbrev pub nothing : Kept
@@ -92,9 +88,6 @@ posts s call answer = (calls.Post s (record { call = Some call; says = answer })
 abbrev pub created : Forest
 created = forests.insert no_documents d (record { kids = [] })
 
-abbrev first_failure : Mark
-first_failure = record { before = 0; after = 1 }
-
 abbrev doubts : CoreCall × Event
 doubts = (calls.Doubt 1 created first_failure, Doubt 1 1 first_failure)
 
@@ -112,10 +105,10 @@ yes_go =
     ((refl, (tt, tt)), λ k is. is)
     ⊳ (record { updating = refl; some = omega arith; of_call = (Create d, refl); follows = (tt, tt) }, gets_lock)
     ⊳ (with_yes.so_far, λ k is. is)
-    ⊳ ((record { updating = refl; settled = refl; left = omega arith; forest_is = sym (create_leaves d) }, (inl (omega arith), tt), (tt, tt)), λ k is. is)
+    ⊳ ((record { updating = refl; settled = refl; left = omega arith; forest_is = sym create_leaves }, (inl (omega arith), tt), (tt, tt)), λ k is. is)
     ⊳ ((refl, (tt, tt)), λ k is. is)
     ⊳ ((inr (inl refl), (tt, tt)), λ k is. is)
-    ⊳ ((record { updating = refl; settled = refl; left = omega arith; forest_is = sym (create_leaves d) }, (tt, tt)), λ k is. is)
+    ⊳ ((record { updating = refl; settled = refl; left = omega arith; forest_is = sym create_leaves }, (tt, tt)), λ k is. is)
     ⊳ tt
 
 pub yes_can : CanMake (calls_of yes_steps) nothing
@@ -134,7 +127,7 @@ no_go =
     ((refl, (tt, tt)), λ k is. is)
     ⊳ (record { updating = refl; some = omega arith; of_call = (Create d, refl); follows = (tt, tt) }, gets_lock)
     ⊳ (with_yes.so_far, λ k is. is)
-    ⊳ ((record { updating = refl; settled = refl; left = omega arith; forest_is = sym (create_leaves d) }, (inl (omega arith), tt), (tt, tt)), λ k is. is)
+    ⊳ ((record { updating = refl; settled = refl; left = omega arith; forest_is = sym create_leaves }, (inl (omega arith), tt), (tt, tt)), λ k is. is)
     ⊳ ((inl refl, (tt, tt)), λ k is. is)
     ⊳ (with_no.so_far, λ k is. is)
     ⊳ tt

@@ -2,18 +2,15 @@
 -- session leaves.
 use Rattle.std.proofs.Common.{◌≡◌, ℕ, zero, suc, ◌<◌, ◌==◌, false, true≢false, List, [], ◌∷◌, length, None, Some, Ok, refl, sym, ap, subst, arith}
 use mathlib.Core.Logic.{inl, inr}
-use Rattle.xq_ast.specs.declared.call.Call.{Call}
 use Rattle.xq_ast.specs.declared.call.Call.TheVariants.{Begin, Commit, Create, Export}
 use Rattle.xq_ast.specs.declared.code.Code.TheVariants as codes_of
 use Rattle.xq_ast.specs.declared.need.LockMode.TheVariants.{X}
-use Rattle.xml_model.specs.Forest.{no_documents}
 use Rattle.session_core.specs.declared.event.BeginKind.TheVariants as kinds
-use Rattle.session_core.specs.declared.event.Reply.{Reply}
-use Rattle.session_core.specs.declared.event.Says.{Says}
 use Rattle.session_core.specs.declared.event.Says.TheVariants as says
 use Rattle.session_core.specs.declared.event.Event.{Event}
 use Rattle.session_core.specs.declared.event.Event.TheVariants.{Began, Granted, Refused, Answered, Committed, Left}
 use Rattle.session_core.specs.History.{past_of, AtEach}
+use Rattle.session_core.specs.CallOrder.{CallOrderAt}
 use Rattle.session_core.specs.Transactions.{Base, updating, open_of, newest}
 use Rattle.session_core.specs.States.{state, state_with, is_open, blocks}
 use Rattle.session_core.specs.Locks.{LocksAt}
@@ -22,15 +19,10 @@ use Rattle.session_core.specs.Settling.{SettlingAt}
 use Rattle.session_core.specs.Marks.{MarksAt}
 use Rattle.session_core.specs.Closes.{Scripts, ClosesAtEnd, calls_of, closed_of}
 use Rattle.session_core.specs.Legal.{Legal, IsClosed, IsUnfinished, IsOrdered}
-use Rattle.session_core.proofs.Sessions.{◌⊳◌, by_session, free_where_none}
+use Rattle.session_core.proofs.Sessions.{◌⊳◌}
+use Rattle.session_core.proofs.Worked.{B, answer, granted, free_begun, free_granted, OthersIdle, all_run, all_end}
 use Rattle.session_core.proofs.WorkedCalls.{d, begin, commit, create, export, begin_is, commit_is, create_is, export_is, shared, exclusive}
 use Rattle.session_core.proofs.WorkedStatements.{export_before}
-
-abbrev B : Base
-B = record { commit = 0; generation = 1; forest = no_documents }
-
-abbrev answer : Call → Says → Reply
-answer call what = record { call = Some call; says = what }
 
 abbrev P : Scripts
 P = (begin ∷ export ∷ commit ∷ []) ∷ (begin ∷ create ∷ []) ∷ []
@@ -46,32 +38,23 @@ journal =
     ∷ Committed 1 1
     ∷ []
 
-abbrev granted : List Event
-granted = Granted 1 shared ∷ Began 1 kinds.Updating ∷ []
-
-abbrev begun : List Event
-begun = Began 1 kinds.Updating ∷ []
-
 abbrev second_begun : List Event
-second_begun = Began 2 kinds.Updating ∷ Answered 1 (answer (Export d) (says.Error codes_of.FODC0002)) ∷ granted
-
-none_granted : (t : ℕ) → (1 == t) ≡ false → open_of t granted ≡ None
-none_granted t apart = rw (apart) refl
-
-none_begun : (t : ℕ) → (1 == t) ≡ false → open_of t begun ≡ None
-none_begun t apart = rw (apart) refl
+second_begun = Began 2 kinds.Updating ∷ Answered 1 (answer (Export d) (says.Error codes_of.FODC0002)) ∷ granted shared
 
 first_is_least : (t : ℕ) → t < 1 → (t ≡ 2 → ⊥) → blocks t (record { name = d; mode = X }) second_begun ≡ false
 first_is_least zero below other = refl
 first_is_least (suc t) below other = absurd (omega (arith, below))
 
+in_order : AtEach CallOrderAt (past_of journal)
+in_order = refl ⊳ refl ⊳ refl ⊳ refl ⊳ refl ⊳ refl ⊳ refl ⊳ tt
+
 locks : AtEach LocksAt (past_of journal)
 locks =
     (tt, tt) ⊳ (tt, tt)
-    ⊳ (record { updating = refl; call = Create d; needs_are = refl; before = []; blocked = record { name = d; mode = X }; behind = []; asked_are = refl; before_free = tt; name_is = refl; other = λ same. omega (arith, same); holds = refl; least = first_is_least }, tt)
+    ⊳ (record { updating = refl; call = Create d; needs_are = refl; passes = refl; before = []; blocked = record { name = d; mode = X }; behind = []; asked_are = refl; before_free = tt; name_is = refl; other = λ same. omega (arith, same); holds = refl; least = first_is_least }, tt)
     ⊳ (tt, tt)
-    ⊳ (((refl, tt), λ ran. (free_where_none 1 _ granted none_granted, tt)), refl)
-    ⊳ (record { updating = refl; call = Export d; needs_are = refl; some = omega arith; free = (free_where_none 1 _ begun none_begun, tt) }, tt)
+    ⊳ (((refl, tt), λ passes other. (free_granted shared _, tt)), refl)
+    ⊳ (record { updating = refl; call = Export d; needs_are = refl; some = omega arith; free = (free_begun _, tt) }, tt)
     ⊳ (tt, tt) ⊳ tt
 
 serial : AtEach (SerialAt B) (past_of journal)
@@ -80,11 +63,8 @@ serial = (refl, ((export_before, tt), tt)) ⊳ tt ⊳ tt ⊳ tt ⊳ tt ⊳ tt �
 snapshots : AtEach (SnapshotsAt B) (past_of journal)
 snapshots = tt ⊳ tt ⊳ tt ⊳ tt ⊳ tt ⊳ tt ⊳ tt ⊳ tt
 
-closed_at_end : (s : ℕ) → (1 == s) ≡ false → (2 == s) ≡ false → open_of s (past_of journal) ≡ None
-closed_at_end s first second = rw (first, second) refl
-
-none_runs : (s : ℕ) → (1 == s) ≡ false → (2 == s) ≡ false → RunsNext B s (past_of journal)
-none_runs s first second = subst (λ o. AllInTurn (newest B (past_of journal)) (updating o)) (sym (closed_at_end s first second)) tt
+idle : OthersIdle (past_of journal)
+idle s first second = rw (first, second) refl
 
 nothing_closed : (s : ℕ) → (1 == s) ≡ false → (2 == s) ≡ false → closed_of s (past_of journal) ≡ length (calls_of P s)
 nothing_closed zero first second = refl
@@ -93,13 +73,12 @@ nothing_closed (suc (suc zero)) first second = absurd (true≢false second)
 nothing_closed (suc (suc (suc s))) first second = rw (first, second) refl
 
 ends : ClosesAtEnd P (past_of journal)
-ends = by_session (λ s. (closed_of s (past_of journal) ≡ length (calls_of P s)) × (is_open (state s (past_of journal)) ≡ false)) (refl, refl) (refl, refl)
-    (λ s first second. (nothing_closed s first second, ap (λ o. is_open (state_with o)) (closed_at_end s first second)))
+ends = all_end P (past_of journal) idle nothing_closed (refl, refl) (refl, refl)
 
 unfinished : IsUnfinished B (past_of journal)
 unfinished = record {
   each = tt ⊳ (tt, tt) ⊳ tt ⊳ tt ⊳ tt ⊳ tt ⊳ tt ⊳ tt;
-  at_end = by_session (λ s. RunsNext B s (past_of journal)) tt tt none_runs;
+  at_end = all_run (past_of journal) idle tt tt;
 }
 
 refusals : IsOrdered P (past_of journal)
@@ -108,7 +87,7 @@ refusals = record {
   by_text = tt ⊳ tt ⊳ tt ⊳ tt ⊳ record { what = Ok (Export d); parsed = export_is; answers = tt } ⊳ tt ⊳ tt ⊳ tt;
 }
 
-settling : AtEach (SettlingAt B) (past_of journal)
+settling : AtEach (SettlingAt B.numbers) (past_of journal)
 settling = ((refl, λ none. omega (arith, none)), tt) ⊳ (tt, tt) ⊳ (tt, tt) ⊳ (tt, tt) ⊳ (tt, tt) ⊳ (tt, tt) ⊳ (tt, tt) ⊳ tt
 
 marks : AtEach MarksAt (past_of journal)
@@ -125,6 +104,7 @@ closes = record {
       ⊳ (record { call = Export d; parsed = export_is; needs_are = refl }, refl)
       ⊳ (record { what = Ok Begin; parsed = begin_is; closes = refl }, refl)
       ⊳ tt;
+  in_order = in_order;
   at_end = ends;
 }
 

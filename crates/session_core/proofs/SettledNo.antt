@@ -1,18 +1,14 @@
 -- A worked history: a commit in doubt is settled with no by its own session's next call.
 use Rattle.std.proofs.Common.{◌≡◌, ℕ, zero, suc, ◌==◌, false, true≢false, List, [], ◌∷◌, length, None, Some, Ok, refl, sym, ap, subst, arith}
 use mathlib.Core.Logic.{inl, inr}
-use Rattle.xq_ast.specs.declared.call.Call.{Call}
 use Rattle.xq_ast.specs.declared.call.Call.TheVariants.{Begin, Commit, Create}
-use Rattle.xq_ast.specs.declared.code.Mark.{Mark}
 use Rattle.xq_ast.specs.declared.code.Code.TheVariants as codes_of
-use Rattle.xml_model.specs.Forest.{no_documents}
 use Rattle.session_core.specs.declared.event.BeginKind.TheVariants as kinds
-use Rattle.session_core.specs.declared.event.Reply.{Reply}
-use Rattle.session_core.specs.declared.event.Says.{Says}
 use Rattle.session_core.specs.declared.event.Says.TheVariants as says
 use Rattle.session_core.specs.declared.event.Event.{Event}
 use Rattle.session_core.specs.declared.event.Event.TheVariants.{Began, Granted, Answered, Doubt, Settled}
 use Rattle.session_core.specs.History.{past_of, AtEach}
+use Rattle.session_core.specs.CallOrder.{CallOrderAt}
 use Rattle.session_core.specs.Transactions.{Base, updating, open_of, newest}
 use Rattle.session_core.specs.States.{state, state_with, is_open}
 use Rattle.session_core.specs.Locks.{LocksAt}
@@ -21,22 +17,13 @@ use Rattle.session_core.specs.Settling.{SettlingAt}
 use Rattle.session_core.specs.Marks.{MarksAt}
 use Rattle.session_core.specs.Closes.{Scripts, ClosesAtEnd, calls_of, closed_of}
 use Rattle.session_core.specs.Legal.{SoFar, Legal, IsClosed, IsUnfinished, IsOrdered}
-use Rattle.session_core.proofs.Sessions.{◌⊳◌, by_session, free_where_none}
+use Rattle.session_core.proofs.Sessions.{◌⊳◌}
+use Rattle.session_core.proofs.Worked.{B, answer, first_failure, free_begun, free_granted, OthersIdle, all_run, all_end}
 use Rattle.session_core.proofs.WorkedCalls.{d, begin, commit, create, begin_is, commit_is, create_is, exclusive}
 use Rattle.session_core.proofs.WorkedStatements.{create_says}
 
-abbrev B : Base
-B = record { commit = 0; generation = 1; forest = no_documents }
-
-abbrev answer : Call → Says → Reply
-answer call what = record { call = Some call; says = what }
-
 abbrev P : Scripts
 P = (begin ∷ create ∷ commit ∷ commit ∷ []) ∷ []
-
--- the device failed once
-abbrev first_failure : Mark
-first_failure = record { before = 0; after = 1 }
 
 abbrev pub journal : List Event
 journal =
@@ -48,23 +35,14 @@ journal =
     ∷ Answered 1 (answer Commit (says.Error codes_of.NoTransaction))
     ∷ []
 
-abbrev granted : List Event
-granted = Granted 1 exclusive ∷ Began 1 kinds.Updating ∷ []
-
-abbrev begun : List Event
-begun = Began 1 kinds.Updating ∷ []
-
-none_granted : (t : ℕ) → (1 == t) ≡ false → open_of t granted ≡ None
-none_granted t apart = rw (apart) refl
-
-none_begun : (t : ℕ) → (1 == t) ≡ false → open_of t begun ≡ None
-none_begun t apart = rw (apart) refl
+in_order : AtEach CallOrderAt (past_of journal)
+in_order = refl ⊳ refl ⊳ refl ⊳ refl ⊳ refl ⊳ refl ⊳ tt
 
 locks : AtEach LocksAt (past_of journal)
 locks =
     (tt, tt) ⊳ (tt, tt) ⊳ (tt, tt)
-    ⊳ (((refl, tt), λ ran. (free_where_none 1 _ granted none_granted, tt)), refl)
-    ⊳ (record { updating = refl; call = Create d; needs_are = refl; some = omega arith; free = (free_where_none 1 _ begun none_begun, tt) }, tt)
+    ⊳ (((refl, tt), λ passes other. (free_granted exclusive _, tt)), refl)
+    ⊳ (record { updating = refl; call = Create d; needs_are = refl; some = omega arith; free = (free_begun _, tt) }, tt)
     ⊳ (tt, tt) ⊳ tt
 
 serial : AtEach (SerialAt B) (past_of journal)
@@ -73,11 +51,8 @@ serial = tt ⊳ tt ⊳ refl ⊳ tt ⊳ tt ⊳ tt ⊳ tt
 snapshots : AtEach (SnapshotsAt B) (past_of journal)
 snapshots = tt ⊳ tt ⊳ tt ⊳ tt ⊳ tt ⊳ tt ⊳ tt
 
-closed_at_end : (s : ℕ) → (1 == s) ≡ false → (2 == s) ≡ false → open_of s (past_of journal) ≡ None
-closed_at_end s first second = rw (first) refl
-
-none_runs : (s : ℕ) → (1 == s) ≡ false → (2 == s) ≡ false → RunsNext B s (past_of journal)
-none_runs s first second = subst (λ o. AllInTurn (newest B (past_of journal)) (updating o)) (sym (closed_at_end s first second)) tt
+idle : OthersIdle (past_of journal)
+idle s first second = rw (first) refl
 
 nothing_closed : (s : ℕ) → (1 == s) ≡ false → (2 == s) ≡ false → closed_of s (past_of journal) ≡ length (calls_of P s)
 nothing_closed zero first second = refl
@@ -86,13 +61,12 @@ nothing_closed (suc (suc zero)) first second = absurd (true≢false second)
 nothing_closed (suc (suc (suc s))) first second = rw (first) refl
 
 ends : ClosesAtEnd P (past_of journal)
-ends = by_session (λ s. (closed_of s (past_of journal) ≡ length (calls_of P s)) × (is_open (state s (past_of journal)) ≡ false)) (refl, refl) (refl, refl)
-    (λ s first second. (nothing_closed s first second, ap (λ o. is_open (state_with o)) (closed_at_end s first second)))
+ends = all_end P (past_of journal) idle nothing_closed (refl, refl) (refl, refl)
 
 unfinished : IsUnfinished B (past_of journal)
 unfinished = record {
   each = tt ⊳ ((create_says, tt), tt) ⊳ tt ⊳ tt ⊳ tt ⊳ tt ⊳ tt;
-  at_end = by_session (λ s. RunsNext B s (past_of journal)) tt tt none_runs;
+  at_end = all_run (past_of journal) idle tt tt;
 }
 
 refusals : IsOrdered P (past_of journal)
@@ -101,7 +75,7 @@ refusals = record {
   by_text = record { what = Ok Commit; parsed = commit_is; answers = tt } ⊳ tt ⊳ tt ⊳ record { what = Ok (Create d); parsed = create_is; answers = tt } ⊳ tt ⊳ tt ⊳ tt;
 }
 
-settling : AtEach (SettlingAt B) (past_of journal)
+settling : AtEach (SettlingAt B.numbers) (past_of journal)
 settling =
     (tt, tt)
     ⊳ ((refl, inl refl), tt)
@@ -121,6 +95,7 @@ closes = record {
       ⊳ (record { call = Create d; parsed = create_is; needs_are = refl }, refl)
       ⊳ (record { what = Ok Begin; parsed = begin_is; closes = refl }, refl)
       ⊳ tt;
+  in_order = in_order;
   at_end = ends;
 }
 
@@ -128,4 +103,4 @@ pub is_legal : Legal journal B P
 is_legal = record { closes = closes; locks = locks; serial = serial; snapshots = snapshots; unfinished = unfinished; refusals = refusals; settling = settling; marks = marks }
 
 pub so_far : SoFar B journal
-so_far = record { locks = locks; serial = serial; snapshots = snapshots; unfinished = unfinished; refusals = refusals.by_state; settling = settling; marks = marks }
+so_far = record { in_order = in_order; locks = locks; serial = serial; snapshots = snapshots; unfinished = unfinished; refusals = refusals.by_state; settling = settling; marks = marks }

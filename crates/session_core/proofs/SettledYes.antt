@@ -1,17 +1,13 @@
 -- A worked history: a commit in doubt is settled with yes when another session commits.
 use Rattle.std.proofs.Common.{◌≡◌, ℕ, zero, suc, ◌==◌, true, false, true≢false, List, [], ◌∷◌, length, None, Some, Ok, refl, sym, ap, subst, arith}
 use mathlib.Core.Logic.{inl, inr}
-use Rattle.xq_ast.specs.declared.call.Call.{Call}
 use Rattle.xq_ast.specs.declared.call.Call.TheVariants.{Begin, Commit, Create}
-use Rattle.xq_ast.specs.declared.code.Mark.{Mark}
-use Rattle.xml_model.specs.Forest.{no_documents}
 use Rattle.session_core.specs.declared.event.BeginKind.TheVariants as kinds
-use Rattle.session_core.specs.declared.event.Reply.{Reply}
-use Rattle.session_core.specs.declared.event.Says.{Says}
 use Rattle.session_core.specs.declared.event.Says.TheVariants as says
 use Rattle.session_core.specs.declared.event.Event.{Event}
 use Rattle.session_core.specs.declared.event.Event.TheVariants.{Began, Granted, Answered, Committed, Doubt, Settled}
 use Rattle.session_core.specs.History.{past_of, AtEach}
+use Rattle.session_core.specs.CallOrder.{CallOrderAt}
 use Rattle.session_core.specs.Transactions.{Base, updating, open_of, newest}
 use Rattle.session_core.specs.States.{state, state_with, is_open}
 use Rattle.session_core.specs.Locks.{LocksAt}
@@ -20,22 +16,13 @@ use Rattle.session_core.specs.Settling.{SettlingAt}
 use Rattle.session_core.specs.Marks.{MarksAt}
 use Rattle.session_core.specs.Closes.{Scripts, ClosesAtEnd, calls_of, closed_of}
 use Rattle.session_core.specs.Legal.{SoFar, Legal, IsClosed, IsUnfinished, IsOrdered}
-use Rattle.session_core.proofs.Sessions.{◌⊳◌, by_session, free_where_none}
+use Rattle.session_core.proofs.Sessions.{◌⊳◌}
+use Rattle.session_core.proofs.Worked.{B, answer, first_failure, free_begun, free_granted, OthersIdle, all_run, all_end}
 use Rattle.session_core.proofs.WorkedCalls.{d, begin, commit, create, begin_is, commit_is, create_is, exclusive}
 use Rattle.session_core.proofs.WorkedStatements.{create_says}
 
-abbrev B : Base
-B = record { commit = 0; generation = 1; forest = no_documents }
-
-abbrev answer : Call → Says → Reply
-answer call what = record { call = Some call; says = what }
-
 abbrev P : Scripts
 P = (begin ∷ create ∷ commit ∷ []) ∷ (begin ∷ commit ∷ []) ∷ []
-
--- the device failed once
-abbrev first_failure : Mark
-first_failure = record { before = 0; after = 1 }
 
 abbrev pub journal : List Event
 journal =
@@ -48,23 +35,14 @@ journal =
     ∷ Committed 2 2
     ∷ []
 
-abbrev granted : List Event
-granted = Granted 1 exclusive ∷ Began 1 kinds.Updating ∷ []
-
-abbrev begun : List Event
-begun = Began 1 kinds.Updating ∷ []
-
-none_granted : (t : ℕ) → (1 == t) ≡ false → open_of t granted ≡ None
-none_granted t apart = rw (apart) refl
-
-none_begun : (t : ℕ) → (1 == t) ≡ false → open_of t begun ≡ None
-none_begun t apart = rw (apart) refl
+in_order : AtEach CallOrderAt (past_of journal)
+in_order = refl ⊳ refl ⊳ refl ⊳ refl ⊳ refl ⊳ refl ⊳ refl ⊳ tt
 
 locks : AtEach LocksAt (past_of journal)
 locks =
     (tt, tt) ⊳ (tt, tt) ⊳ (tt, tt) ⊳ (tt, tt)
-    ⊳ (((refl, tt), λ ran. (free_where_none 1 _ granted none_granted, tt)), refl)
-    ⊳ (record { updating = refl; call = Create d; needs_are = refl; some = omega arith; free = (free_where_none 1 _ begun none_begun, tt) }, tt)
+    ⊳ (((refl, tt), λ passes other. (free_granted exclusive _, tt)), refl)
+    ⊳ (record { updating = refl; call = Create d; needs_are = refl; some = omega arith; free = (free_begun _, tt) }, tt)
     ⊳ (tt, tt) ⊳ tt
 
 serial : AtEach (SerialAt B) (past_of journal)
@@ -73,11 +51,8 @@ serial = (refl, (tt, tt)) ⊳ ((create_says, tt), tt) ⊳ tt ⊳ refl ⊳ tt ⊳
 snapshots : AtEach (SnapshotsAt B) (past_of journal)
 snapshots = tt ⊳ tt ⊳ tt ⊳ tt ⊳ tt ⊳ tt ⊳ tt ⊳ tt
 
-closed_at_end : (s : ℕ) → (1 == s) ≡ false → (2 == s) ≡ false → open_of s (past_of journal) ≡ None
-closed_at_end s first second = rw (first, second) refl
-
-none_runs : (s : ℕ) → (1 == s) ≡ false → (2 == s) ≡ false → RunsNext B s (past_of journal)
-none_runs s first second = subst (λ o. AllInTurn (newest B (past_of journal)) (updating o)) (sym (closed_at_end s first second)) tt
+idle : OthersIdle (past_of journal)
+idle s first second = rw (first, second) refl
 
 nothing_closed : (s : ℕ) → (1 == s) ≡ false → (2 == s) ≡ false → closed_of s (past_of journal) ≡ length (calls_of P s)
 nothing_closed zero first second = refl
@@ -86,13 +61,12 @@ nothing_closed (suc (suc zero)) first second = absurd (true≢false second)
 nothing_closed (suc (suc (suc s))) first second = rw (first, second) refl
 
 ends : ClosesAtEnd P (past_of journal)
-ends = by_session (λ s. (closed_of s (past_of journal) ≡ length (calls_of P s)) × (is_open (state s (past_of journal)) ≡ false)) (refl, refl) (refl, refl)
-    (λ s first second. (nothing_closed s first second, ap (λ o. is_open (state_with o)) (closed_at_end s first second)))
+ends = all_end P (past_of journal) idle nothing_closed (refl, refl) (refl, refl)
 
 unfinished : IsUnfinished B (past_of journal)
 unfinished = record {
   each = tt ⊳ tt ⊳ tt ⊳ tt ⊳ tt ⊳ tt ⊳ tt ⊳ tt;
-  at_end = by_session (λ s. RunsNext B s (past_of journal)) tt tt none_runs;
+  at_end = all_run (past_of journal) idle tt tt;
 }
 
 refusals : IsOrdered P (past_of journal)
@@ -101,7 +75,7 @@ refusals = record {
   by_text = tt ⊳ tt ⊳ tt ⊳ tt ⊳ record { what = Ok (Create d); parsed = create_is; answers = tt } ⊳ tt ⊳ tt ⊳ tt;
 }
 
-settling : AtEach (SettlingAt B) (past_of journal)
+settling : AtEach (SettlingAt B.numbers) (past_of journal)
 settling =
     ((refl, λ none. omega (arith, none)), tt)
     ⊳ ((refl, inr (inl refl)), tt)
@@ -123,6 +97,7 @@ closes = record {
       ⊳ (record { call = Create d; parsed = create_is; needs_are = refl }, refl)
       ⊳ (record { what = Ok Begin; parsed = begin_is; closes = refl }, refl)
       ⊳ tt;
+  in_order = in_order;
   at_end = ends;
 }
 
@@ -133,15 +108,16 @@ is_legal = record { closes = closes; locks = locks; serial = serial; snapshots =
 abbrev answered : List Event
 answered = Began 1 kinds.Updating ∷ Granted 1 exclusive ∷ Answered 1 (answer (Create d) says.Done) ∷ []
 
-none_answered : (s : ℕ) → (1 == s) ≡ false → (2 == s) ≡ false → RunsNext B s (past_of answered)
-none_answered s first second = let none : open_of s (past_of answered) ≡ None = rw (first) refl in subst (λ o. AllInTurn (newest B (past_of answered)) (updating o)) (sym none) tt
+none_answered : OthersIdle (past_of answered)
+none_answered s first second = rw (first) refl
 
 pub so_far : SoFar B answered
 so_far = record {
+  in_order = in_order.1.1.1.1;
   locks = locks.1.1.1.1;
   serial = serial.1.1.1.1;
   snapshots = snapshots.1.1.1.1;
-  unfinished = record { each = unfinished.each.1.1.1.1; at_end = by_session (λ s. RunsNext B s (past_of answered)) ((create_says, tt), tt) tt none_answered };
+  unfinished = record { each = unfinished.each.1.1.1.1; at_end = all_run (past_of answered) none_answered ((create_says, tt), tt) tt };
   refusals = refusals.by_state.1.1.1.1;
   settling = settling.1.1.1.1;
   marks = marks.1.1.1.1;

@@ -44,7 +44,7 @@ doubt_stays B e past t (Some d) is sound frame none same = record {
   kind_is = is.kind_is;
   marked = is.marked;
   forest_is = is.forest_is ∙ ap (λ F. run_calls F (ran_all is.transaction.replies)) (sym (newest_same B e past none));
-  left = let count = count_same e past none in let before = is.left in subst (λ n. B.commit + n < last_number) (sym count) before;
+  left = let count = count_same e past none in let before = is.left in subst (λ n. B.numbers.commit + n < last_number) (sym count) before;
 }
 
 idle_sound : (t : ℕ) (past : List Event) → state t past ≡ Idle → state t past ≡ InDoubt → ⊥
@@ -152,7 +152,7 @@ module _ (B : Base) (past : List Event) (states : States) (locks : Locks) (fores
   held-doubted name None = refl
   held-doubted name (Some u) = held-doubted_by name u u.kind
 
-  pub ties_doubted : (t n : ℕ) (mark : Mark) (F : Forest) → state t past ≡ Updating → B.commit + commit_count past < last_number → F ≡ forest_behind B t past
+  pub ties_doubted : (t n : ℕ) (mark : Mark) (F : Forest) → state t past ≡ Updating → B.numbers.commit + commit_count past < last_number → F ≡ forest_behind B t past
       → Ties B (Doubt t n mark ∷ past) (fin.insert states t InDoubt) locks forests (Some (t, F))
   ties_doubted t n mark F updating left is =
       let o = opened (open_of t past) updating in record {
@@ -166,7 +166,7 @@ module _ (B : Base) (past : List Event) (states : States) (locks : Locks) (fores
           kind_is = o.kind_is;
           marked = refl;
           forest_is = is ∙ forest_behind-is t o.transaction o.is o.kind_is ∙ ap (λ G. run_calls G (ran_all o.transaction.replies)) (sym (newest_same B (Doubt t n mark) past refl));
-          left = subst (λ k. B.commit + k < last_number) (sym (count_same (Doubt t n mark) past refl)) left;
+          left = subst (λ k. B.numbers.commit + k < last_number) (sym (count_same (Doubt t n mark) past refl)) left;
         };
       }
 

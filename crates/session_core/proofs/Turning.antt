@@ -6,7 +6,8 @@ use Rattle.std.proofs.lemmas.Slice.Eq.{bytes_eq-Decides}
 use Rattle.std.specs.Str.{bytes_eq}
 use Rattle.xq_ast.specs.declared.need.Need.{Need}
 use Rattle.xml_model.specs.Forest.{Forest}
-use Rattle.xml_model.specs.Needs.{needs, is_exclusive, has_exclusive, AgreeAt}
+use Rattle.xml_model.specs.Needs.{needs, has_exclusive, AgreeAt}
+use Rattle.xq_ast.specs.Modes.{is_exclusive}
 use Rattle.xml_model.specs.Statement.{stmt}
 use Rattle.xml_model.proofs.Framing.{keeps}
 use Rattle.session_core.specs.declared.event.BeginKind.{BeginKind}

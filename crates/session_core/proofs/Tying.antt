@@ -15,14 +15,15 @@ use Rattle.xq_ast.specs.declared.need.LockMode.TheVariants.{S, X}
 use Rattle.xq_ast.specs.declared.need.Need.{Need}
 use Rattle.xml_model.specs.Forest.{Forest}
 use Rattle.doc_locks.specs.Names.{Names, Locks}
-use Rattle.doc_locks.specs.Locks.{names_of, mode_held, with_need, with_needs, granted, stronger as stronger_held}
+use Rattle.doc_locks.specs.Locks.{names_of, mode_held, with_need, with_needs, granted}
 use Rattle.session_core.specs.declared.event.BeginKind.{BeginKind}
 use Rattle.session_core.specs.declared.event.BeginKind.TheVariants as kinds
 use Rattle.session_core.specs.declared.event.State.{State}
 use Rattle.session_core.specs.declared.event.State.TheVariants.{Idle, Updating, Reading, InDoubt}
 use Rattle.session_core.specs.declared.event.Event.{Event}
 use Rattle.session_core.specs.Transactions.{Base, Transaction, open_of, updating, where_updating, with_locks, commits, committed_by, ran_all, run_calls, serial, newest}
-use Rattle.session_core.specs.States.{state_in, state_with, state, stronger, strongest, held_with, held_in, held}
+use Rattle.session_core.specs.States.{state_in, state_with, state, strongest, held_with, held_in, held}
+use Rattle.xq_ast.specs.Modes.{stronger}
 use Rattle.session_core.specs.Table.{States, entry_of, state_at}
 use Rattle.session_core.specs.Ties.{forests_of}
 use Rattle.session_core.proofs.Holding.{same_name}
@@ -149,7 +150,7 @@ both_none None = refl
 both_none (Some S) = refl
 both_none (Some X) = refl
 
-more_held : (old : Option LockMode) (mode : LockMode) (new : Option LockMode) → both (Some (stronger_held old mode)) new ≡ both old (Some (stronger mode new))
+more_held : (old : Option LockMode) (mode : LockMode) (new : Option LockMode) → both (Some (stronger mode old)) new ≡ both old (Some (stronger mode new))
 more_held None S None = refl
 more_held None S (Some S) = refl
 more_held None S (Some X) = refl
@@ -203,15 +204,15 @@ with_needs-held : (name : List ℕ) (asked : List Need) (names : Names) → fin.
 with_needs-held name [] names = refl
 with_needs-held name (n ∷ more) names =
     with_needs-held name more (with_need names n)
-    ∙ ap (λ o. both o (strongest name more)) (fin.get-insert nat_list_cmp_total names n.name (stronger_held (fin.get names n.name) n.mode) name ∙ ap (λ b. cond b (Some (stronger_held (fin.get names n.name) n.mode)) (fin.get names name)) (back n.name name))
+    ∙ ap (λ o. both o (strongest name more)) (fin.get-insert nat_list_cmp_total names n.name (stronger n.mode (fin.get names n.name)) name ∙ ap (λ b. cond b (Some (stronger n.mode (fin.get names n.name))) (fin.get names name)) (back n.name name))
     ∙ by_test (bytes_eq n.name name) refl
   where
     back : (a b : List ℕ) → eq_by_cmp (slice_cmp nat_cmp) b a ≡ bytes_eq a b
     back a b = (eq_by_cmp_equiv nat_list_cmp_total).symm b a ∙ is_eq-slice_cmp a b
 
-    by_test : (b : Bool) → bytes_eq n.name name ≡ b → both (cond b (Some (stronger_held (fin.get names n.name) n.mode)) (fin.get names name)) (strongest name more)
+    by_test : (b : Bool) → bytes_eq n.name name ≡ b → both (cond b (Some (stronger n.mode (fin.get names n.name))) (fin.get names name)) (strongest name more)
         ≡ both (fin.get names name) (if b then Some (stronger n.mode (strongest name more)) else strongest name more)
-    by_test true same = ap (λ z. both (Some (stronger_held (fin.get names z) n.mode)) (strongest name more)) (same_name n.name name same) ∙ more_held (fin.get names name) n.mode (strongest name more)
+    by_test true same = ap (λ z. both (Some (stronger n.mode (fin.get names z))) (strongest name more)) (same_name n.name name same) ∙ more_held (fin.get names name) n.mode (strongest name more)
     by_test false other = refl
 
 pub locks_granted : (past : List Event) (locks : Locks) (t : ℕ) (asked : List Need) → LocksAre locks past → state t past ≡ Updating → (s : ℕ) (name : List ℕ)

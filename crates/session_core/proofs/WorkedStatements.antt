@@ -44,3 +44,6 @@ export_behind = sym (ap (λ o. says_of (exported o)) present ∙ ap (λ all. say
 
 pub create_says : says.Done ≡ says_of (stmt no_documents (Create d)).says
 create_says = sym (ap (λ o. says_of (added_where_free o d (Ok (record { kids = [] })) no_documents).says) absent)
+
+pub create_leaves : (stmt no_documents (Create d)).forest ≡ forests.insert no_documents d (record { kids = [] })
+create_leaves = ap (λ o. (added_where_free o d (Ok (record { kids = [] })) no_documents).forest) absent

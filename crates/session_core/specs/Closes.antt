@@ -1,4 +1,8 @@
--- The clause `closes` of a legal history: the events of each session are those of the calls of its script, in order.
+-- The clause `closes` of a legal history: the events of each session are those of the calls of its script, in order. Here
+-- stand its sentences that need the scripts. In which order the events of one call come stands in `CallOrder`. That
+-- Committed and Doubt close a COMMIT in an updating transaction, Ended one in a read-only transaction, and that Began comes
+-- outside of one, is told by the state and stands in `Refusals`. `TextRefusalsAt` is the sentence of the clause `refusals`
+-- on texts that are no calls, since it needs the scripts too.
 use Rattle.std.specs.Prelude.{◌≡◌, ℕ, zero, suc, ◌+◌, ◌==◌, Bool, false, ◌&&◌, ◌||◌, if◌then◌else◌, IsTrue, List, [], ◌∷◌, length, slice_get, Option, Some, None, IfSome, Result, Ok, Err, ◌⊎◌}
 use Rattle.xq_ast.specs.declared.call.Call.{Call}
 use Rattle.xq_ast.specs.declared.call.Call.TheVariants.{Begin, BeginRead, Commit, Rollback}
@@ -68,9 +72,9 @@ ClosesCall call (Ended s) = call ≡ Commit
 ClosesCall call (RolledBack s) = call ≡ Rollback
 ClosesCall call (Refused s name holder asked) = asked ≡ needs call
 ClosesCall call (Answered s reply) = KeepsReading (Ok call) reply
-ClosesCall call (Granted s asked) = Unit {0}
-ClosesCall call (Settled by s stands) = Unit {0}
-ClosesCall call (Left s) = Unit {0}
+ClosesCall call (Granted s asked) = ⊥
+ClosesCall call (Settled by s stands) = ⊥
+ClosesCall call (Left s) = ⊥
 
 -- a text that is no call is closed by an answer alone
 abbrev pub ClosesText : Code → Event → Type 0
@@ -118,10 +122,14 @@ ClosesAt P e past = IsForCall P e past × (has_left (session_of e) past ≡ fals
 abbrev pub ClosesAtEnd : Scripts → List Event → Type 0
 ClosesAtEnd P past = (s : ℕ) → (closed_of s past ≡ length (calls_of P s)) × (is_open (state s past) ≡ false)
 
--- a text that is no call is answered with its refusal; before that a session in doubt is settled
+abbrev pub IsFailure : Says → Type 0
+IsFailure (says.Error (codes.Failed mark)) = Unit {0}
+IsFailure _ = ⊥
+
+-- a text that is no call is answered with its refusal; before that a session in doubt is settled, where the device may fail
 abbrev pub IsTextAnswer : Result Call Code → State → Says → Type 0
 IsTextAnswer (Ok call) state' answer = Unit {0}
-IsTextAnswer (Err code) state' answer = (answer ≡ says.Error code) ⊎ ((answer ≡ says.Error codes.NoMemory) ⊎ (state' ≡ InDoubt))
+IsTextAnswer (Err code) state' answer = (answer ≡ says.Error code) ⊎ ((answer ≡ says.Error codes.NoMemory) ⊎ ((state' ≡ InDoubt) × IsFailure answer))
 
 pub record IsAnswerTo (text : CallText) (state' : State) (answer : Says) : Type 0 where
   pub what : Result Call Code

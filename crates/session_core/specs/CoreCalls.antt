@@ -17,20 +17,22 @@ use Rattle.session_core.specs.States.{state, is_open, is_reading, in_doubt}
 use Rattle.session_core.specs.Locks.{AllFree, IsRefused}
 use Rattle.session_core.specs.Marks.{IsNextMark}
 use Rattle.session_core.specs.Legal.{SoFar}
-use Rattle.session_core.specs.Kept.{Kept, with_event, past, Follows, newest_number, next_number, HasCommitLeft, forest_behind, CanSettle, IsSettled}
+use Rattle.session_core.specs.Kept.{Kept, with_event, past, Follows, forest_behind, CanSettle, IsSettled}
+use Rattle.session_core.specs.Settling.{HasCommitLeft}
+use Rattle.session_core.specs.Transactions.{newest_number, next_number}
 
 -- ---- the events that keep a number
 
 -- a read-only transaction begins at the newest commit
 abbrev pub began_read : ℕ → Kept → Event
-began_read s k = Began s (kinds.Reading (newest_number k.base (past k)))
+began_read s k = Began s (kinds.Reading (newest_number k.base.numbers (past k)))
 
 -- a commit takes the next number
 abbrev pub committed : ℕ → Kept → Event
-committed s k = Committed s (next_number k.base (past k))
+committed s k = Committed s (next_number k.base.numbers (past k))
 
 abbrev pub doubted : ℕ → Mark → Kept → Event
-doubted s mark k = Doubt s (next_number k.base (past k)) mark
+doubted s mark k = Doubt s (next_number k.base.numbers (past k)) mark
 
 -- ---- one call
 
@@ -45,7 +47,7 @@ pub record CanAsk (s : ℕ) (asked : List Need) (k : Kept) : Type 0 where
 pub record CanCommit (s : ℕ) (forest : Forest) (k : Kept) : Type 0 where
   pub updating : state s (past k) ≡ Updating
   pub settled : in_doubt (past k) ≡ None
-  pub left : HasCommitLeft k.base (past k)
+  pub left : HasCommitLeft k.base.numbers (past k)
   pub forest_is : forest ≡ forest_behind k.base s (past k)
 
 -- what the call asks for

@@ -1,5 +1,5 @@
 -- What contracts see of a `Core`, and what its calls ask for and leave.
-use Rattle.std.specs.Prelude.{◌≡◌, ℕ, ◌+◌, ◌-◌, ◌<◌, Bool, List, [], ◌∷◌, ◌++◌, IsSomeAnd, refl}
+use Rattle.std.specs.Prelude.{◌≡◌, ℕ, ◌-◌, Bool, List, [], ◌∷◌, ◌++◌, IsSomeAnd, refl}
 use Rattle.std.specs.Coded.{Coded, code_by, coded×, coded_ℕ, coded_list}
 use Rattle.xq_ast.specs.declared.need.Need.{Need}
 use Rattle.xml_model.specs.Forest.{Forest, forest_code}
@@ -11,10 +11,10 @@ use Rattle.session_core.specs.declared.event.State.TheVariants.{Idle, Updating, 
 use Rattle.session_core.specs.declared.event.Event.{Event}
 use Rattle.session_core.specs.declared.event.Event.TheVariants.{Refused, Settled}
 use Rattle.session_core.specs.History.{past_of, session_of, last_of}
-use Rattle.session_core.specs.Transactions.{Base, open_of, updating, commit_count, serial, after, newest}
+use Rattle.session_core.specs.Transactions.{Base, open_of, updating, serial, after, newest}
 use Rattle.session_core.specs.States.{state, in_doubt}
 use Rattle.session_core.specs.Locks.{IsRefused, IsBehindGrant}
-use Rattle.session_core.specs.Settling.{last_number, MaySettle, IsBehindSettled}
+use Rattle.session_core.specs.Settling.{MaySettle, IsBehindSettled}
 
 -- A journal over its base.
 pub record Kept : Type 0 where
@@ -24,12 +24,12 @@ pub record Kept : Type 0 where
 abbrev pub kept_code : Coded Kept
 kept_code = code_by (((ℕ × ℕ) × Forest) × List Event)
     (coded× (coded× (coded× coded_ℕ coded_ℕ) forest_code) (coded_list the_event.the_row.coded))
-    (λ k. (((k.base.commit, k.base.generation), k.base.forest), k.journal))
-    (λ p. record { base = record { commit = p.0.0.0; generation = p.0.0.1; forest = p.0.1 }; journal = p.1 })
+    (λ k. (((k.base.numbers.commit, k.base.numbers.generation), k.base.forest), k.journal))
+    (λ p. record { base = record { numbers = record { commit = p.0.0.0; generation = p.0.0.1 }; forest = p.0.1 }; journal = p.1 })
     (λ _. refl)
 
 abbrev pub kept_of : ℕ → ℕ → Forest → List Event → Kept
-kept_of commit generation forest journal = record { base = record { commit = commit; generation = generation; forest = forest }; journal = journal }
+kept_of commit generation forest journal = record { base = record { numbers = record { commit = commit; generation = generation }; forest = forest }; journal = journal }
 
 -- one event more, and all else as it is
 abbrev pub with_event : Event → Kept → Kept
@@ -44,25 +44,13 @@ past k = past_of k.journal
 abbrev pub Follows : Event → List Event → Type 0
 Follows e before = IsBehindGrant (last_of (session_of e) before) e × IsBehindSettled (last_of (session_of e) before) e before
 
--- the newest commit number
-abbrev pub newest_number : Base → List Event → ℕ
-newest_number B before = B.commit + commit_count before
-
--- the number that the next commit takes
-abbrev pub next_number : Base → List Event → ℕ
-next_number B before = B.commit + (commit_count before + 1)
-
--- a commit number is left
-abbrev pub HasCommitLeft : Base → List Event → Type 0
-HasCommitLeft B before = B.commit + commit_count before < last_number
-
 -- the documents once the session's transaction has run behind all commits
 abbrev pub forest_behind : Base → ℕ → List Event → Forest
 forest_behind B s before = serial (newest B before) (updating (open_of s before))
 
 -- the documents that a session in this state sees: its snapshot's, or the newest
 abbrev pub forest_in : Base → List Event → State → Forest
-forest_in B before (Reading n) = after B before (n - B.commit)
+forest_in B before (Reading n) = after B before (n - B.numbers.commit)
 forest_in B before Idle = newest B before
 forest_in B before Updating = newest B before
 forest_in B before InDoubt = newest B before

@@ -3,6 +3,7 @@
 use Rattle.std.specs.Prelude.{List}
 use Rattle.session_core.specs.declared.event.Event.{Event}
 use Rattle.session_core.specs.History.{past_of, AtEach}
+use Rattle.session_core.specs.CallOrder.{CallOrderAt}
 use Rattle.session_core.specs.Transactions.{Base}
 use Rattle.session_core.specs.Locks.{LocksAt}
 use Rattle.session_core.specs.Replies.{SerialAt, SnapshotsAt, UnfinishedAt, UnfinishedAtEnd}
@@ -14,6 +15,7 @@ use Rattle.session_core.specs.Closes.{Scripts, ClosesAt, ClosesAtEnd, TextRefusa
 -- The events answer the calls of the scripts, in order.
 pub record IsClosed (P : Scripts) (past : List Event) : Type 0 where
   pub each : AtEach (ClosesAt P) past
+  pub in_order : AtEach CallOrderAt past
   pub at_end : ClosesAtEnd P past
 
 -- Transactions without a commit answer as those with one.
@@ -28,12 +30,13 @@ pub record IsOrdered (P : Scripts) (past : List Event) : Type 0 where
 
 -- The part that holds without scripts: the journal is legal so far.
 pub record SoFar (B : Base) (journal : List Event) : Type 0 where
+  pub in_order : AtEach CallOrderAt (past_of journal)
   pub locks : AtEach LocksAt (past_of journal)
   pub serial : AtEach (SerialAt B) (past_of journal)
   pub snapshots : AtEach (SnapshotsAt B) (past_of journal)
   pub unfinished : IsUnfinished B (past_of journal)
   pub refusals : AtEach RefusalsAt (past_of journal)
-  pub settling : AtEach (SettlingAt B) (past_of journal)
+  pub settling : AtEach (SettlingAt B.numbers) (past_of journal)
   pub marks : AtEach MarksAt (past_of journal)
 
 -- The journal is one legal history of the scripts over the base.
@@ -44,5 +47,5 @@ pub record Legal (journal : List Event) (B : Base) (P : Scripts) : Type 0 where
   pub snapshots : AtEach (SnapshotsAt B) (past_of journal)
   pub unfinished : IsUnfinished B (past_of journal)
   pub refusals : IsOrdered P (past_of journal)
-  pub settling : AtEach (SettlingAt B) (past_of journal)
+  pub settling : AtEach (SettlingAt B.numbers) (past_of journal)
   pub marks : AtEach MarksAt (past_of journal)

@@ -1,4 +1,5 @@
 pub mod History
+pub mod CallOrder
 pub mod Transactions
 pub mod States
 pub mod Locks
@@ -15,4 +16,3 @@ pub mod Ties
 pub mod Unsettled
 pub mod Answering
 pub mod CoreCalls
-pub mod Runs

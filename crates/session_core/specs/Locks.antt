@@ -1,4 +1,8 @@
--- The clause `locks` of a legal history: locks are granted exactly where no other session holds a conflicting one.
+-- The clause `locks` of a legal history: locks are granted exactly where no other session holds a conflicting one. All its
+-- sentences stand here. A call is known by its answer or by the needs that its event keeps; that these are the needs of the
+-- call in the session's script stands in `Closes`. That a refusal comes only for a call in an updating transaction that
+-- passed the state's test is in `IsRefused`; that it comes wherever such a call meets a conflict is in `MeetsNoConflict`,
+-- as what any other answer asks for.
 use Rattle.std.specs.Prelude.{◌≡◌, ℕ, ◌<◌, true, false, List, [], ◌∷◌, ◌++◌, length, Option, Some, None}
 use Rattle.xq_ast.specs.declared.call.Call.{Call}
 use Rattle.xq_ast.specs.declared.code.Code.TheVariants as codes
@@ -14,6 +18,7 @@ use Rattle.session_core.specs.declared.event.Event.TheVariants.{Began, Granted, 
 use Rattle.session_core.specs.History.{session_of, last_of}
 use Rattle.session_core.specs.Transactions.{Ran, ran}
 use Rattle.session_core.specs.States.{state, blocks}
+use Rattle.session_core.specs.Refusals.{refused_in, work_of}
 
 -- no other session holds a lock that conflicts with the need
 abbrev pub IsFree : ℕ → Need → List Event → Type 0
@@ -37,6 +42,7 @@ pub record IsRefused (s : ℕ) (name : List ℕ) (holder : ℕ) (asked : List Ne
   pub updating : state s past ≡ Updating
   pub call : Call
   pub needs_are : needs call ≡ asked
+  pub passes : refused_in Updating (work_of call) ≡ None
   pub before : List Need
   pub blocked : Need
   pub behind : List Need
@@ -56,10 +62,11 @@ abbrev pub RanGranted : ℕ → List Ran → List Event → Type 0
 RanGranted s [] past = Unit {0}
 RanGranted s (r ∷ more) past = AreGranted s (needs r.call) past × RanGranted s more past
 
--- a call that is answered in an updating transaction, and not refused, meets no conflict: but for want of memory
+-- a call that is answered in an updating transaction, where it passed the state's test and was not refused, meets no
+-- conflict: but for want of memory
 abbrev pub MeetsNoConflict : ℕ → Option Call → Says → List Event → Type 0
 MeetsNoConflict s None answer past = Unit {0}
-MeetsNoConflict s (Some call) answer past = (answer ≡ says.Error codes.NoMemory → ⊥) → AllFree s (needs call) past
+MeetsNoConflict s (Some call) answer past = refused_in Updating (work_of call) ≡ None → (answer ≡ says.Error codes.NoMemory → ⊥) → AllFree s (needs call) past
 
 abbrev pub IsAnsweredWithLocks : State → ℕ → Reply → List Event → Type 0
 IsAnsweredWithLocks Updating s reply past = RanGranted s (ran reply) past × MeetsNoConflict s reply.call reply.says past

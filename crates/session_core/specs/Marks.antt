@@ -1,4 +1,5 @@
--- The clause `marks` of a legal history: a failing device raised its count of faults.
+-- The clause `marks` of a legal history: a failing device raised its count of faults. All its sentences stand here but one:
+-- where no commit number is left, a COMMIT fails by settling alone, which stands in `Settling` (`FailsBySettling`).
 use Rattle.std.specs.Prelude.{◌≡◌, ◌<◌, ◌≤◌, Bool, true, false, IsTrue, List, [], ◌∷◌, Option, Some, None, IfSome, ◌⊎◌}
 use Rattle.xq_ast.specs.declared.call.Call.{Call}
 use Rattle.xq_ast.specs.declared.code.Mark.{Mark}

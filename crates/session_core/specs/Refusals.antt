@@ -1,5 +1,9 @@
--- The clause `refusals` of a legal history: each call is answered by the order of refusals, which begins with the
--- session's state.
+-- The clause `refusals` of a legal history: each call is answered by the order of refusals. Here stands what the session's
+-- state and the call tell: that a session in doubt is settled first, that a text that is no call is answered with a refusal
+-- of texts, and the table of states; and that a number at its last value is answered only where the table lets the call
+-- pass. Which texts are refused, and with which refusal, needs the scripts and stands in `Closes` (`TextRefusalsAt`). Whose
+-- locks are not free stands in `Locks`, what the documents tell in `Replies`, when a device may fail in `Marks`, and which
+-- number is at its last value in `Settling`. Want of memory may stand for any answer.
 use Rattle.std.specs.Prelude.{◌≡◌, Bool, true, false, not, ◌||◌, IsTrue, List, Option, Some, None, ◌⊎◌}
 use Rattle.xq_ast.specs.declared.call.Call.{Call}
 use Rattle.xq_ast.specs.declared.call.Call.TheVariants.{Begin, BeginRead, Commit, Rollback, Checkpoint, ShowDocuments, Create, Drop, Load, Export}
@@ -59,12 +63,16 @@ refused_in Updating work = in_updating work
 refused_in (Reading n) work = in_reading work
 refused_in InDoubt work = None
 
--- these answers have rules of their own: want of memory, a failing device and a number at its last value
+-- these answers have rules of their own in each state: want of memory, and a failing device
 abbrev pub is_apart : Says → Bool
 is_apart (says.Error codes.NoMemory) = true
 is_apart (says.Error (codes.Failed mark)) = true
-is_apart (says.Error (codes.Spent kind number)) = true
 is_apart _ = false
+
+-- a number is at its last value
+abbrev pub is_spent : Says → Bool
+is_spent (says.Error (codes.Spent kind number)) = true
+is_spent _ = false
 
 -- the refusals of a text that is no call
 abbrev pub is_text_refusal : Code → Bool
@@ -95,16 +103,17 @@ answers_statement (says.Lines all) = true
 answers_statement (says.Error code) = not (is_text_refusal code || is_state_refusal code)
 answers_statement _ = false
 
--- Done, or whether the checkpoint stands is not known
+-- Done, or whether the checkpoint stands is not known, or a number is at its last value
 abbrev pub is_checkpoint_answer : Says → Bool
 is_checkpoint_answer says.Done = true
 is_checkpoint_answer (says.Error (codes.InDoubt mark)) = true
-is_checkpoint_answer _ = false
+is_checkpoint_answer answer = is_spent answer
 
--- what is answered to a call that the state lets pass; those that begin or end a transaction have other events
+-- what is answered to a call that the state lets pass; where it begins or ends a transaction it has another event, but one
+-- that ends a transaction may find a number at its last value
 abbrev pub passes_with : Work → Says → Bool
 passes_with begins answer = false
-passes_with ends answer = false
+passes_with ends answer = is_spent answer
 passes_with checkpoints answer = is_checkpoint_answer answer
 passes_with reads answer = answers_statement answer
 passes_with shows answer = answers_statement answer

@@ -1,5 +1,9 @@
--- The clause `settling` of a legal history: commits in doubt, checkpoints, and numbers at their last value.
-use Rattle.std.specs.Prelude.{◌≡◌, ℕ, ◌+◌, ◌-◌, ◌^◌, ◌≤◌, ◌==◌, Bool, true, false, IsTrue, List, [], ◌∷◌, Option, Some, None, ◌⊎◌}
+-- The clause `settling` of a legal history: commits in doubt, checkpoints, and numbers at their last value. It takes the
+-- numbers that the journal begins with, and no documents. All its sentences stand here but two: that CHECKPOINT outside of a
+-- transaction is answered Done, Failed, InDoubt or Spent stands in `Refusals` (`is_checkpoint_answer`), and for which call
+-- another session's commit is settled needs the scripts and stands in `Closes` (`SettlesFor`); here stands what the call is
+-- that is closed then (`ClosesForStore`), since the next event of the session closes it.
+use Rattle.std.specs.Prelude.{◌≡◌, ℕ, ◌+◌, ◌-◌, ◌^◌, ◌≤◌, ◌<◌, ◌==◌, Bool, true, false, IsTrue, List, [], ◌∷◌, Option, Some, None, ◌⊎◌}
 use Rattle.xq_ast.specs.declared.call.Call.{Call}
 use Rattle.xq_ast.specs.declared.call.Call.TheVariants.{Begin, BeginRead, Commit, Rollback, Checkpoint, ShowDocuments, Create, Drop, Load, Export}
 use Rattle.xq_ast.specs.declared.code.SpentKind.{SpentKind}
@@ -12,7 +16,7 @@ use Rattle.session_core.specs.declared.event.Says.TheVariants as says
 use Rattle.session_core.specs.declared.event.Event.{Event}
 use Rattle.session_core.specs.declared.event.Event.TheVariants.{Began, Granted, Refused, Answered, Committed, Ended, RolledBack, Doubt, Settled, Left}
 use Rattle.session_core.specs.History.{session_of, last_of}
-use Rattle.session_core.specs.Transactions.{Base, commit_count}
+use Rattle.session_core.specs.Transactions.{Numbers, newest_number}
 use Rattle.session_core.specs.States.{state, in_doubt}
 
 -- the last number of 64 bits
@@ -28,8 +32,12 @@ last_of_kind spent.Slot = 2251799813685246
 last_of_kind spent.Log = 2 ^ 63 - 1
 
 -- no commit number is left
-abbrev pub HasNoCommitLeft : Base → List Event → Type 0
-HasNoCommitLeft B past = last_number ≤ B.commit + commit_count past
+abbrev pub HasNoCommitLeft : Numbers → List Event → Type 0
+HasNoCommitLeft N past = last_number ≤ newest_number N past
+
+-- a commit number is left
+abbrev pub HasCommitLeft : Numbers → List Event → Type 0
+HasCommitLeft N past = newest_number N past < last_number
 
 abbrev pub counts_generation : Option Call → ℕ
 counts_generation (Some Commit) = 1
@@ -76,18 +84,18 @@ makes_pages_in Updating (Some call) = makes_pages call
 makes_pages_in _ _ = false
 
 -- a COMMIT or a CHECKPOINT that has settled first; a COMMIT tests the commit number before the others
-pub record IsStoreSpent (B : Base) (state' : State) (call : Option Call) (past : List Event) : Type 0 where
+pub record IsStoreSpent (N : Numbers) (state' : State) (call : Option Call) (past : List Event) : Type 0 where
   pub writes : IsTrue (writes_store state' call)
   pub settled : in_doubt past ≡ None
-  pub commit_left : IsTrue (commits_in state' call) → HasNoCommitLeft B past → ⊥
+  pub commit_left : IsTrue (commits_in state' call) → HasNoCommitLeft N past → ⊥
 
 -- a number at its last value stands only for the calls that would take the next
-abbrev pub IsSpent : Base → SpentKind → State → Option Call → List Event → Type 0
-IsSpent B spent.Commit state' call past = IsTrue (commits_in state' call) × HasNoCommitLeft B past
-IsSpent B spent.Generation state' call past = IsStoreSpent B state' call past × (last_number ≤ B.generation + generation_calls past)
-IsSpent B spent.Slot state' call past = IsStoreSpent B state' call past
-IsSpent B spent.Log state' call past = IsStoreSpent B state' call past
-IsSpent B spent.Page state' call past = IsTrue (makes_pages_in state' call)
+abbrev pub IsSpent : Numbers → SpentKind → State → Option Call → List Event → Type 0
+IsSpent N spent.Commit state' call past = IsTrue (commits_in state' call) × HasNoCommitLeft N past
+IsSpent N spent.Generation state' call past = IsStoreSpent N state' call past × (last_number ≤ N.generation + generation_calls past)
+IsSpent N spent.Slot state' call past = IsStoreSpent N state' call past
+IsSpent N spent.Log state' call past = IsStoreSpent N state' call past
+IsSpent N spent.Page state' call past = IsTrue (makes_pages_in state' call)
 
 -- a checkpoint is done, or in doubt, only where no commit is in doubt
 abbrev pub IsSettledForCheckpoint : Option Call → List Event → Type 0
@@ -116,37 +124,37 @@ may_doubt_head [] = false
 may_doubt_head (e ∷ past) = head_behind e past (may_doubt_head past)
 
 -- where no commit number is left, a COMMIT fails by settling alone, and then a head is in doubt
-abbrev pub FailsBySettling : Base → State → Option Call → List Event → Type 0
-FailsBySettling B state' call past = IsTrue (commits_in state' call) → HasNoCommitLeft B past → IsTrue (may_doubt_head past)
+abbrev pub FailsBySettling : Numbers → State → Option Call → List Event → Type 0
+FailsBySettling N state' call past = IsTrue (commits_in state' call) → HasNoCommitLeft N past → IsTrue (may_doubt_head past)
 
-abbrev pub SettlingOfAnswer : Base → State → Option Call → Says → List Event → Type 0
-SettlingOfAnswer B state' call (says.Error (codes.Spent kind number)) past = (number ≡ last_of_kind kind) × IsSpent B kind state' call past
-SettlingOfAnswer B state' call (says.Error (codes.Failed mark)) past = FailsBySettling B state' call past
-SettlingOfAnswer B state' call (says.Error (codes.InDoubt mark)) past = IsSettledForCheckpoint call past
-SettlingOfAnswer B state' call (says.Error (codes.Damaged commit ordinal page)) past = ⊥
-SettlingOfAnswer B state' call says.Done past = IsSettledForCheckpoint call past
-SettlingOfAnswer B state' call _ past = Unit {0}
+abbrev pub SettlingOfAnswer : Numbers → State → Option Call → Says → List Event → Type 0
+SettlingOfAnswer N state' call (says.Error (codes.Spent kind number)) past = (number ≡ last_of_kind kind) × IsSpent N kind state' call past
+SettlingOfAnswer N state' call (says.Error (codes.Failed mark)) past = FailsBySettling N state' call past
+SettlingOfAnswer N state' call (says.Error (codes.InDoubt mark)) past = IsSettledForCheckpoint call past
+SettlingOfAnswer N state' call (says.Error (codes.Damaged commit ordinal page)) past = ⊥
+SettlingOfAnswer N state' call says.Done past = IsSettledForCheckpoint call past
+SettlingOfAnswer N state' call _ past = Unit {0}
 
 -- nothing is in doubt, and a commit number is left
-abbrev pub MayCommit : Base → List Event → Type 0
-MayCommit B past = (in_doubt past ≡ None) × (HasNoCommitLeft B past → ⊥)
+abbrev pub MayCommit : Numbers → List Event → Type 0
+MayCommit N past = (in_doubt past ≡ None) × (HasNoCommitLeft N past → ⊥)
 
 -- who settles: the session in doubt, or one that commits or makes a checkpoint
 abbrev pub MaySettle : ℕ → ℕ → State → Type 0
 MaySettle by s state' = (by ≡ s) ⊎ ((state' ≡ Updating) ⊎ (state' ≡ Idle))
 
 -- what an event does to a commit in doubt
-abbrev pub SettlingOf : Base → Event → List Event → Type 0
-SettlingOf B (Settled by s stands) past = (state s past ≡ InDoubt) × MaySettle by s (state by past)
-SettlingOf B (Committed s n) past = MayCommit B past
-SettlingOf B (Doubt s n mark) past = MayCommit B past
-SettlingOf B (Answered s reply) past = SettlingOfAnswer B (state s past) reply.call reply.says past
-SettlingOf B (Began s kind) past = Unit {0}
-SettlingOf B (Granted s needs) past = Unit {0}
-SettlingOf B (Refused s name holder needs) past = Unit {0}
-SettlingOf B (Ended s) past = Unit {0}
-SettlingOf B (RolledBack s) past = Unit {0}
-SettlingOf B (Left s) past = Unit {0}
+abbrev pub SettlingOf : Numbers → Event → List Event → Type 0
+SettlingOf N (Settled by s stands) past = (state s past ≡ InDoubt) × MaySettle by s (state by past)
+SettlingOf N (Committed s n) past = MayCommit N past
+SettlingOf N (Doubt s n mark) past = MayCommit N past
+SettlingOf N (Answered s reply) past = SettlingOfAnswer N (state s past) reply.call reply.says past
+SettlingOf N (Began s kind) past = Unit {0}
+SettlingOf N (Granted s needs) past = Unit {0}
+SettlingOf N (Refused s name holder needs) past = Unit {0}
+SettlingOf N (Ended s) past = Unit {0}
+SettlingOf N (RolledBack s) past = Unit {0}
+SettlingOf N (Left s) past = Unit {0}
 
 -- for want of memory the call may be lost
 abbrev pub IsForStore : State → Option Call → Says → Type 0
@@ -163,6 +171,7 @@ ClosesForStore _ past = ⊥
 -- and one that has settled its own: any call, which is settled once
 abbrev pub ClosesAny : Event → Type 0
 ClosesAny (Settled by s stands) = ⊥
+ClosesAny (Left s) = ⊥
 ClosesAny _ = Unit {0}
 
 abbrev pub ClosesBehind : Bool → Event → List Event → Type 0
@@ -173,5 +182,5 @@ abbrev pub IsBehindSettled : Option Event → Event → List Event → Type 0
 IsBehindSettled (Some (Settled by s stands)) e past = ClosesBehind (by == s) e past
 IsBehindSettled _ e past = Unit {0}
 
-abbrev pub SettlingAt : Base → Event → List Event → Type 0
-SettlingAt B e past = SettlingOf B e past × IsBehindSettled (last_of (session_of e) past) e past
+abbrev pub SettlingAt : Numbers → Event → List Event → Type 0
+SettlingAt N e past = SettlingOf N e past × IsBehindSettled (last_of (session_of e) past) e past

@@ -2,9 +2,8 @@
 use Rattle.std.specs.Prelude.{ℕ, Bool, true, false, ◌||◌, if◌then◌else◌, List, [], ◌∷◌, Option, Some, None}
 use Rattle.std.specs.Str.{bytes_eq}
 use Rattle.xq_ast.specs.declared.need.LockMode.{LockMode}
-use Rattle.xq_ast.specs.declared.need.LockMode.TheVariants.{S, X}
 use Rattle.xq_ast.specs.declared.need.Need.{Need}
-use Rattle.xml_model.specs.Needs.{is_exclusive}
+use Rattle.xq_ast.specs.Modes.{stronger, conflicts}
 use Rattle.session_core.specs.declared.event.BeginKind.{BeginKind}
 use Rattle.session_core.specs.declared.event.BeginKind.TheVariants as kinds
 use Rattle.session_core.specs.declared.event.State.{State}
@@ -38,11 +37,6 @@ is_reading Updating = false
 is_reading (Reading n) = true
 is_reading InDoubt = false
 
-abbrev pub stronger : LockMode → Option LockMode → LockMode
-stronger X other = X
-stronger S None = S
-stronger S (Some mode) = mode
-
 -- the strongest mode that the needs list for the name
 abbrev pub strongest : List ℕ → List Need → Option LockMode
 strongest name [] = None
@@ -59,10 +53,6 @@ held_with name (Some t) = held_in name t t.kind
 -- the mode in which the session holds a lock on the name: its updating transaction, also one in doubt, was granted it
 abbrev pub held : ℕ → List ℕ → List Event → Option LockMode
 held s name past = held_with name (open_of s past)
-
-abbrev pub conflicts : Option LockMode → LockMode → Bool
-conflicts None asked = false
-conflicts (Some mode) asked = is_exclusive mode || is_exclusive asked
 
 -- the session holds a lock that conflicts with the need of another
 abbrev pub blocks : ℕ → Need → List Event → Bool

@@ -6,6 +6,7 @@ use Rattle.xml_model.specs.Forest.{Forest}
 use Rattle.session_core.specs.declared.event.Reply.{Reply}
 use Rattle.session_core.specs.declared.event.Event.{Event}
 use Rattle.session_core.specs.declared.event.Event.TheVariants.{Answered}
+use Rattle.session_core.specs.CallOrder.{CallOrderAt}
 use Rattle.session_core.specs.Transactions.{Base, Transaction, open_of, updating, ran, ran_all, run_calls, newest, AnsweredInTurn}
 use Rattle.session_core.specs.Locks.{LocksAt}
 use Rattle.session_core.specs.Replies.{SerialAt, SnapshotsAt, UnfinishedAt}
@@ -25,11 +26,12 @@ IsNext B _ past = Unit {0}
 
 -- The facts of one event, but for those at the end.
 pub record IsStep (B : Base) (e : Event) (past : List Event) : Type 0 where
+  pub in_order : CallOrderAt e past
   pub locks : LocksAt e past
   pub serial : SerialAt B e past
   pub snapshots : SnapshotsAt B e past
   pub unfinished : UnfinishedAt B e past
   pub refusals : RefusalsAt e past
-  pub settling : SettlingAt B e past
+  pub settling : SettlingAt B.numbers e past
   pub marks : MarksAt e past
   pub next : IsNext B e past

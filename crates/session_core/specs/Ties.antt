@@ -1,7 +1,7 @@
 -- What the type of a `Core` keeps: its journal is legal so far, and all else that it holds is what the journal tells.
 use Rattle.std.specs.Prelude.{◌≡◌, ℕ, ◌+◌, ◌≤◌, ◌<◌, true, List, [], ◌∷◌, length, Option, Some, None}
 use Rattle.std.specs.FinMap as fin
-use Rattle.xml_model.specs.Forest.{Forest}
+use Rattle.xml_model.specs.Forest.{Forest, IsForest}
 use Rattle.doc_locks.specs.Names.{Locks}
 use Rattle.doc_locks.specs.Locks.{mode_held}
 use Rattle.session_core.specs.declared.event.BeginKind.TheVariants as kinds
@@ -26,7 +26,7 @@ pub record IsDoubt (B : Base) (past : List Event) (whose : ℕ) (forest : Forest
   pub kind_is : transaction.kind ≡ kinds.Updating
   pub marked : transaction.in_doubt ≡ true
   pub forest_is : forest ≡ run_calls (newest B past) (ran_all transaction.replies)
-  pub left : B.commit + commit_count past < last_number
+  pub left : B.numbers.commit + commit_count past < last_number
 
 abbrev pub DoubtIs : Base → List Event → Option (ℕ × Forest) → Type 0
 DoubtIs B past None = in_doubt past ≡ None
@@ -39,10 +39,37 @@ pub record Ties (B : Base) (past : List Event) (states : States) (locks : Locks)
   pub forests_are : forests ≡ forests_of B.forest (commits past)
   pub doubt_is : DoubtIs B past doubt
 
+-- all documents are valid: those behind each commit, and those of the commit in doubt
+abbrev pub AllForests : List Forest → Type 0
+AllForests [] = Unit {0}
+AllForests (F ∷ more) = IsForest F × AllForests more
+
+abbrev pub DoubtIsForest : Option (ℕ × Forest) → Type 0
+DoubtIsForest None = Unit {0}
+DoubtIsForest (Some d) = IsForest d.1
+
+-- What a `Core` holds besides its base: its journal and the room for it, the table of states and how many stand in it, the
+-- newest commit number, the locks, the documents before and behind each commit, and the commit in doubt.
+pub record Holdings : Type 0 where
+  pub journal : List Event
+  pub capacity : ℕ
+  pub states : States
+  pub opened : ℕ
+  pub number : ℕ
+  pub locks : Locks
+  pub forests : List Forest
+  pub doubt : Option (ℕ × Forest)
+
+abbrev pub holding : List Event → ℕ → States → ℕ → ℕ → Locks → List Forest → Option (ℕ × Forest) → Holdings
+holding journal capacity states opened number locks forests doubt =
+    record { journal = journal; capacity = capacity; states = states; opened = opened; number = number; locks = locks; forests = forests; doubt = doubt }
+
 -- besides, there is room in the journal for the event that ends each transaction
-pub record IsCore (B : Base) (journal : List Event) (capacity : ℕ) (states : States) (opened : ℕ) (number : ℕ) (locks : Locks) (forests : List Forest) (doubt : Option (ℕ × Forest)) : Type 0 where
-  pub legal : SoFar B journal
-  pub ties : Ties B (past_of journal) states locks forests doubt
-  pub opened_is : opened ≡ fin.len states
-  pub room : length journal + opened ≤ capacity
-  pub number_is : number ≡ B.commit + commit_count (past_of journal)
+pub record IsCore (B : Base) (h : Holdings) : Type 0 where
+  pub legal : SoFar B h.journal
+  pub ties : Ties B (past_of h.journal) h.states h.locks h.forests h.doubt
+  pub opened_is : h.opened ≡ fin.len h.states
+  pub room : length h.journal + h.opened ≤ h.capacity
+  pub number_is : h.number ≡ B.numbers.commit + commit_count (past_of h.journal)
+  pub valid : AllForests h.forests
+  pub doubt_valid : DoubtIsForest h.doubt

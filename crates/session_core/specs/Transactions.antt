@@ -1,6 +1,6 @@
 -- The transactions of a journal: which are open, which are committed, and what the calls that ran in them do to
 -- the documents when whole transactions run one after another.
-use Rattle.std.specs.Prelude.{◌≡◌, ℕ, ◌==◌, Bool, true, false, not, if◌then◌else◌, List, [], ◌∷◌, ◌++◌, length, take, Option, Some, None}
+use Rattle.std.specs.Prelude.{◌≡◌, ℕ, ◌+◌, ◌==◌, Bool, true, false, not, if◌then◌else◌, List, [], ◌∷◌, ◌++◌, length, take, Option, Some, None}
 use Rattle.xq_ast.specs.declared.call.Call.{Call}
 use Rattle.xq_ast.specs.declared.code.Code.{Code}
 use Rattle.xq_ast.specs.declared.code.Code.TheVariants as codes
@@ -15,10 +15,14 @@ use Rattle.session_core.specs.declared.event.Says.TheVariants as says
 use Rattle.session_core.specs.declared.event.Event.{Event}
 use Rattle.session_core.specs.declared.event.Event.TheVariants.{Began, Granted, Refused, Answered, Committed, Ended, RolledBack, Doubt, Settled, Left}
 
--- What a journal begins with: the commit number, the generation and the documents of the store.
-pub record Base : Type 0 where
+-- The numbers that a journal begins with: the commit number and the generation of the store.
+pub record Numbers : Type 0 where
   pub commit : ℕ
   pub generation : ℕ
+
+-- What a journal begins with: its numbers, and the documents of the store.
+pub record Base : Type 0 where
+  pub numbers : Numbers
   pub forest : Forest
 
 -- A transaction so far: its kind, the locks granted to it, the replies to its calls in order, and whether its
@@ -94,6 +98,14 @@ commits (e ∷ past) = commits past ++ committed_by e past
 -- the number of commit events
 abbrev pub commit_count : List Event → ℕ
 commit_count past = length (commits past)
+
+-- the newest commit number
+abbrev pub newest_number : Numbers → List Event → ℕ
+newest_number N past = N.commit + commit_count past
+
+-- the number that the next commit takes
+abbrev pub next_number : Numbers → List Event → ℕ
+next_number N past = N.commit + (commit_count past + 1)
 
 -- these answers say that the call did not run
 abbrev pub is_without_run : Code → Bool

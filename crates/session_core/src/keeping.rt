@@ -6,7 +6,10 @@ ghost use Rattle.session_core.specs.States.{state as state_of, is_open, is_readi
 ghost use Rattle.session_core.specs.Locks.{AllFree};
 ghost use Rattle.session_core.specs.Marks.{IsNextMark};
 ghost use Rattle.session_core.specs.Legal.{SoFar};
-ghost use Rattle.session_core.specs.Kept.{kept_of, with_event, past, Follows, newest_number, next_number, HasCommitLeft, forest_behind, forest_in, AskEnds, CanSettle, IsSettled};
+ghost use Rattle.session_core.specs.Kept.{kept_of, with_event, past, Follows, forest_behind, forest_in, AskEnds, CanSettle, IsSettled};
+ghost use Rattle.session_core.specs.Settling.{HasCommitLeft};
+ghost use Rattle.xml_model.specs.Forest.{IsForest};
+ghost use Rattle.session_core.specs.Transactions.{after, newest_number, next_number};
 
 use crate::event::{BeginKind, Event, Journal, Reply, State};
 use crate::states::StateTable;
@@ -15,7 +18,7 @@ use std::alloc::Global;
 use std::marker::Model;
 use std::snapshot::Snapshot;
 use xml_model::DocMap;
-use xq_ast::{Mark, NeedList, NoMemory, Sequence, copy_needs};
+use xq_ast::{Mark, NeedList, NoMemory, Sequence};
 
 /// A commit in doubt: whose it is, and the documents if it stands.
 #[derive(Drop)]
@@ -47,7 +50,7 @@ impl Model for Core {
     ghost use Rattle.std.specs.Prelude.{vec_capacity};
     ghost use Rattle.session_core.specs.Kept.{Kept, kept_code, kept_of};
     ghost use Rattle.session_core.specs.Unsettled.{pair_of};
-    ghost use Rattle.session_core.specs.Ties.{IsCore};
+    ghost use Rattle.session_core.specs.Ties.{IsCore, holding};
 
     ghost Value = { Kept };
 
@@ -55,7 +58,7 @@ impl Model for Core {
 
     ghost view = { λ a. kept_of a.base_commit a.base_generation a.base_forest.value a.journal.items };
 
-    ghost invariant = { λ a. IsCore (kept_of a.base_commit a.base_generation a.base_forest.value a.journal.items).base a.journal.items (vec_capacity a.journal) a.states a.opened a.newest a.locks a.forests.items (pair_of a.doubt) };
+    ghost invariant = { λ a. IsCore (kept_of a.base_commit a.base_generation a.base_forest.value a.journal.items).base (holding a.journal.items (vec_capacity a.journal) a.states a.opened a.newest a.locks a.forests.items (pair_of a.doubt)) };
 }
 
 impl Core {
@@ -68,6 +71,7 @@ impl Core {
     ) -> Result<Core, NoMemory>
         ensures { IfOk result (λ core. core ≡ kept_of commit generation forest []) }
     {
+        forest.is_forest();
         let base_forest = Snapshot::of(&forest);
         let mut forests = Vec::new(alloc);
         forests.push(forest)?;
@@ -92,6 +96,14 @@ impl Core {
         let _ = &self.opened;
     }
 
+    /// What the type keeps: the documents behind any number of commits are valid, also those that
+    /// it began with.
+    pub fn forests_are_valid(&self)
+        ensures { (n : ℕ) → IsForest (after self.now.base (past self.now) n) }
+    {
+        let _ = &self.forests;
+    }
+
     /// The session's state. Takes no memory.
     pub fn state(&self, session: u32) -> State
         ensures { result ≡ state_of session (past self.now) }
@@ -101,7 +113,7 @@ impl Core {
 
     /// The newest commit number. Takes no memory.
     pub fn newest(&self) -> u64
-        ensures { result ≡ newest_number self.now.base (past self.now) }
+        ensures { result ≡ newest_number self.now.base.numbers (past self.now) }
     {
         self.newest
     }
@@ -124,8 +136,8 @@ impl Core {
     /// Begins a read-only transaction at the newest commit, and answers its number.
     pub fn begin_read(&mut self, session: u32) -> Result<u64, NoMemory>
         requires idle { state_of session (past self.old) ≡ State.Idle }
-        requires follows { Follows (Event.Began session (BeginKind.Reading (newest_number self.old.base (past self.old)))) (past self.old) }
-        ensures number { IfOk result (λ n. n ≡ newest_number self.old.base (past self.old)) }
+        requires follows { Follows (Event.Began session (BeginKind.Reading (newest_number self.old.base.numbers (past self.old)))) (past self.old) }
+        ensures number { IfOk result (λ n. n ≡ newest_number self.old.base.numbers (past self.old)) }
         ensures ok { IfOk result (λ n. self.new ≡ with_event (Event.Began session (BeginKind.Reading n)) self.old) }
         ensures err { OnErr result (self.new ≡ self.old) }
     {
@@ -185,11 +197,10 @@ impl Core {
         ensures granted { OnOk result (self.new ≡ with_event (Event.Granted session needs.now) self.old) }
         ensures refused { IfErr result (AskEnds session needs.now self.old self.new) }
     {
-        let alloc = *self.journal.allocator();
         if self.journal.reserve(self.opened + 1).is_err() {
             return Err(AskEnd::NoMemory);
         }
-        let asked = copy_needs(alloc, needs)?;
+        let asked = needs.copy()?;
         match self.locks.ask(session, needs) {
             Ok(()) => {
                 self.journal.push_reserved(Event::Granted(session, asked));
@@ -223,13 +234,14 @@ impl Core {
     pub fn commit(&mut self, session: u32, forest: DocMap) -> Result<u64, NoMemory>
         requires updating { state_of session (past self.old) ≡ State.Updating }
         requires settled { in_doubt (past self.old) ≡ None }
-        requires left { HasCommitLeft self.old.base (past self.old) }
+        requires left { HasCommitLeft self.old.base.numbers (past self.old) }
         requires forest { forest ≡ forest_behind self.old.base session (past self.old) }
-        requires follows { Follows (Event.Committed session (next_number self.old.base (past self.old))) (past self.old) }
-        ensures number { IfOk result (λ n. n ≡ next_number self.old.base (past self.old)) }
+        requires follows { Follows (Event.Committed session (next_number self.old.base.numbers (past self.old))) (past self.old) }
+        ensures number { IfOk result (λ n. n ≡ next_number self.old.base.numbers (past self.old)) }
         ensures ok { IfOk result (λ n. self.new ≡ with_event (Event.Committed session n) self.old) }
         ensures err { OnErr result (self.new ≡ self.old) }
     {
+        forest.is_forest();
         self.forests.reserve(1)?;
         let number = self.newest + 1;
         self.forests.push_reserved(forest);
@@ -247,14 +259,15 @@ impl Core {
     pub fn doubt(&mut self, session: u32, forest: DocMap, mark: Mark) -> Result<u64, NoMemory>
         requires updating { state_of session (past self.old) ≡ State.Updating }
         requires settled { in_doubt (past self.old) ≡ None }
-        requires left { HasCommitLeft self.old.base (past self.old) }
+        requires left { HasCommitLeft self.old.base.numbers (past self.old) }
         requires forest { forest ≡ forest_behind self.old.base session (past self.old) }
         requires mark { IsNextMark (past self.old) mark }
-        requires follows { Follows (Event.Doubt session (next_number self.old.base (past self.old)) mark) (past self.old) }
-        ensures number { IfOk result (λ n. n ≡ next_number self.old.base (past self.old)) }
+        requires follows { Follows (Event.Doubt session (next_number self.old.base.numbers (past self.old)) mark) (past self.old) }
+        ensures number { IfOk result (λ n. n ≡ next_number self.old.base.numbers (past self.old)) }
         ensures ok { IfOk result (λ n. self.new ≡ with_event (Event.Doubt session n mark) self.old) }
         ensures err { OnErr result (self.new ≡ self.old) }
     {
+        forest.is_forest();
         self.journal.reserve(self.opened + 1)?;
         self.states.set(session, State::InDoubt)?;
         let number = self.newest + 1;

@@ -1,5 +1,6 @@
 -- What a call needs and leaves, by its session's state.
-use Rattle.std.proofs.Common.{◌≡◌, ℕ, ◌<◌, Bool, true, false, not, true≢false, List, [], ◌∷◌, length, Option, None, Some, IsTrue, refl, sym, ap, subst, ◌∙◌, arith}
+use Rattle.std.proofs.Common.{◌≡◌, ℕ, ◌<◌, Bool, true, false, not, true≢false, List, [], ◌∷◌, length, Option, None, Some, IsTrue, Result, OnOk, OnErr, refl, sym, ap, subst, ◌∙◌, arith}
+use mathlib.Core.Logic.{inl, inr}
 use Rattle.std.specs.Prelude.{if◌then◌else◌}
 use Rattle.xq_ast.specs.declared.call.Call.{Call}
 use Rattle.xq_ast.specs.declared.call.Call.TheVariants.{Begin, BeginRead, Commit, Rollback, Checkpoint, ShowDocuments, Create, Drop, Load, Export}
@@ -10,18 +11,19 @@ use Rattle.xml_model.specs.Needs.{needs, AgreeAt}
 use Rattle.xml_model.specs.Statement.{is_statement, stmt}
 use Rattle.session_core.specs.declared.event.BeginKind.{BeginKind}
 use Rattle.session_core.specs.declared.event.BeginKind.TheVariants as kinds
+use Rattle.session_core.specs.declared.event.Says.{Says}
 use Rattle.session_core.specs.declared.event.Says.TheVariants as says
 use Rattle.session_core.specs.declared.event.State.{State}
 use Rattle.session_core.specs.declared.event.State.TheVariants.{Idle, Updating, Reading, InDoubt}
 use Rattle.session_core.specs.declared.event.Event.{Event}
 use Rattle.session_core.specs.declared.event.Event.TheVariants.{Granted}
 use Rattle.session_core.specs.Answering as answers
-use Rattle.session_core.specs.Answering.{IsRightAnswer}
 use Rattle.session_core.specs.History.{last_of}
-use Rattle.session_core.specs.Transactions.{Base, Transaction, open_of, with_locks, updating, where_updating, ran_by, run_calls, serial, newest, says_of, says_run}
+use Rattle.session_core.specs.Transactions.{Base, Transaction, open_of, with_locks, updating, where_updating, ran_by, run_calls, serial, newest, says_of, says_run, newest_number}
 use Rattle.session_core.specs.States.{state, state_with, state_in, is_open, is_reading, in_doubt}
 use Rattle.session_core.specs.Refusals.{refused_in, work_of, begins, ends, checkpoints}
-use Rattle.session_core.specs.Kept.{Kept, with_event, past, newest_number, forest_behind, forest_in}
+use Rattle.session_core.specs.Locks.{AreGranted}
+use Rattle.session_core.specs.Kept.{Kept, with_event, past, Follows, forest_behind, forest_in}
 use Rattle.session_core.specs.Settling.{HasNoCommitLeft}
 use Rattle.session_core.proofs.Covering.{AreHeld, none_ran}
 use Rattle.session_core.proofs.Holding.{locks_by, locks_in}
@@ -29,10 +31,14 @@ use Rattle.session_core.proofs.Turning.{agree_needs}
 use Rattle.session_core.proofs.Growing.{past-more}
 use Rattle.session_core.proofs.Tying.{here, opened, updating_is, state-with_locks}
 use Rattle.session_core.proofs.Beside.{agree_of}
-use Rattle.session_core.proofs.Answering.{stmt_tells, told_runs, one_ran, state_unrun, refused_code, held_behind_grant, granted_as}
+use Rattle.session_core.proofs.Answering.{stmt_told, told_runs, one_ran, state_unrun, refused_code, held_where_granted, granted_as}
 use Rattle.session_run.specs.declared.statement.Effect.{Effect}
 use Rattle.session_run.specs.Answers.{answered}
-use Rattle.session_run.specs.Called.{behind_grant}
+use Rattle.session_run.specs.Calls.{IsAnswerInMemory}
+use Rattle.session_run.proofs.Memory.{ran_right}
+use Rattle.session_run.specs.Called.{AddsClosing, behind_grant, ClosesRead, LeavesRead}
+use Rattle.session_run.proofs.Closing.{on_ok, follows_between, follows_grant}
+use Rattle.session_run.proofs.Texts.{on_err}
 use Rattle.xml_model.specs.Changes.{ChangeMap, no_changes, laid_over}
 use Rattle.session_run.specs.Effects.{with_change, IsEffect}
 use Rattle.session_run.specs.Tied.{AreChangesOf, IsTied, IsReady}
@@ -116,7 +122,7 @@ some_needs (Export name) statement passes = omega arith
 some_needs call statement passes = absurd (true≢false (sym statement))
 
 -- the newest number is the last one
-pub none_left : (B : Base) (before : List Event) (n : ℕ) → n ≡ newest_number B before → n ≡ 18446744073709551615 → HasNoCommitLeft B before
+pub none_left : (B : Base) (before : List Event) (n : ℕ) → n ≡ newest_number B.numbers before → n ≡ 18446744073709551615 → HasNoCommitLeft B.numbers before
 none_left B before n is full = omega arith
 
 -- ---- a reader
@@ -136,15 +142,11 @@ module _ (B : Base) (s : ℕ) (before : List Event) (changes : ChangeMap) (tied 
 
   -- what a reader is answered
   pub read_right : (call : Call) (effect : Effect) (F : Forest) → F ≡ forest_in B before (state s before) → IsTrue (is_reading (state s before)) → IsTrue (is_statement call)
-      → refused_in (state s before) (work_of call) ≡ None → IsEffect call changes F effect → IsRightAnswer B s before (Some call) effect.says
+      → refused_in (state s before) (work_of call) ≡ None → IsEffect call changes F effect → IsAnswerInMemory B s before (Some call) effect.says
   read_right call effect F is reading statement passes so = let at = reading_at (state s before) reading in
-      answers.IsRightAnswer.runs_reading (record {
-        statement = statement;
-        number = at.number;
-        reading = at.is;
-        passes = subst (λ x. refused_in x (work_of call) ≡ None) at.is passes;
-        says_so = so.says ∙ ap (λ G. says_of (stmt G call).says) (ap (λ c. laid_over c F) (none_reading reading) ∙ laid-none F ∙ is ∙ ap (forest_in B before) at.is);
-      })
+      ran_right B s before (Reading at.number) call effect.says at.is statement
+      (λ told. answers.AnswersInOrder.runs_reading (record { statement = statement; number = at.number; reading = at.is; passes = subst (λ x. refused_in x (work_of call) ≡ None) at.is passes; told = told }))
+      (so.says ∙ ap (λ G. says_of (stmt G call).says) (ap (λ c. laid_over c F) (none_reading reading) ∙ laid-none F ∙ is ∙ ap (forest_in B before) at.is))
 
   -- ---- an updating transaction
 
@@ -157,27 +159,23 @@ module _ (B : Base) (s : ℕ) (before : List Event) (changes : ChangeMap) (tied 
       let are : updating (open_of s before) ≡ o.transaction ∷ [] = updating_is (open_of s before) o.transaction o.is o.kind_is in
       ap (serial (newest B before)) are ∙ updating_tied o.transaction are (newest B before) (agree_itself o.transaction.locks (newest B before))
 
-  module _ (call : Call) (effect : Effect) (is : state s before ≡ Updating) (granted : last_of s before ≡ Some (Granted s (needs call))) (statement : IsTrue (is_statement call))
+  module _ (call : Call) (effect : Effect) (is : state s before ≡ Updating) (granted : AreGranted s (needs call) before) (statement : IsTrue (is_statement call))
       (so : IsEffect call changes (newest B before) effect) where
     -- what a statement is answered there
-    pub update_right : refused_in Updating (work_of call) ≡ None → IsRightAnswer B s before (Some call) effect.says
-    update_right passes = answers.IsRightAnswer.runs_updating (record {
-      statement = statement;
-      updating = is;
-      passes = passes;
-      granted = granted_as s (needs call) before granted;
-      says_so = so.says ∙ ap (λ G. says_of (stmt G call).says) (sym (behind_changes is));
-    })
+    pub update_right : refused_in Updating (work_of call) ≡ None → IsAnswerInMemory B s before (Some call) effect.says
+    update_right passes = ran_right B s before Updating call effect.says is statement
+        (λ told. answers.AnswersInOrder.runs_updating (record { statement = statement; updating = is; passes = passes; granted = granted; told = told }))
+        (so.says ∙ ap (λ G. says_of (stmt G call).says) (sym (behind_changes is)))
 
     runs : says_run effect.says ≡ true
-    runs = ap says_run so.says ∙ told_runs (says_of (stmt (laid_over changes (newest B before)) call).says) (stmt_tells (laid_over changes (newest B before)) call)
+    runs = ap says_run so.says ∙ told_runs (says_of (stmt (laid_over changes (newest B before)) call).says) (stmt_told (laid_over changes (newest B before)) call)
 
     ran_alone : ran_by (Some call) effect.says ≡ record { call = call; says = effect.says } ∷ []
     ran_alone = one_ran call effect.says statement runs
 
     agree_call : (t : Transaction) → open_of s before ≡ Some t → t.kind ≡ kinds.Updating → (G : Forest) → AgreeAt t.locks (newest B before) G → AgreeAt (needs call) (newest B before) G
     agree_call t open_is kind_is G agree = agree_needs (needs call) t.locks (newest B before) G
-        (subst (AreHeld (needs call)) (ap locks_in open_is ∙ ap (locks_by t) kind_is) (held_behind_grant before s (needs call) is granted))
+        (subst (AreHeld (needs call)) (ap locks_in open_is ∙ ap (locks_by t) kind_is) (held_where_granted before s (needs call) is granted))
         (agree_of t.locks (newest B before) G agree)
 
     -- and its changes are tied behind the answer
@@ -193,7 +191,8 @@ pub record IsGrantedHere (s : ℕ) (changes : ChangeMap) (call : Call) (k : Kept
   pub tied : IsTied k.base s changes (past k)
   pub settled : in_doubt (past k) ≡ None
   pub updating_is : state s (past k) ≡ Updating
-  pub granted : last_of s (past k) ≡ Some (Granted s (needs call))
+  pub granted : AreGranted s (needs call) (past k)
+  pub follows : (answer : Says) → Follows (answered s (Some call) answer) (past k)
 
 module _ (s : ℕ) (changes : ChangeMap) (call : Call) (old : Kept) (ready : IsReady s changes old) (is : state s (past old) ≡ Updating) where
   granted_at : IsGrantedHere s changes call (behind_grant s call old)
@@ -201,8 +200,40 @@ module _ (s : ℕ) (changes : ChangeMap) (call : Call) (old : Kept) (ready : IsR
     tied = subst (IsTied old.base s changes) (sym more) (tied_granted old.base s (past old) changes (needs call) ready.tied);
     settled = ap in_doubt more ∙ ready.settled;
     updating_is = ap (state s) more ∙ ap state_with (here s (open_of s (past old)) (with_locks (needs call) (open_of s (past old)))) ∙ state-with_locks (needs call) (open_of s (past old)) ∙ is;
-    granted = ap (last_of s) more ∙ here s (last_of s (past old)) (Some e);
+    granted = granted_as s (needs call) (past (behind_grant s call old)) last;
+    follows = λ answer. follows_grant s call answer (past (behind_grant s call old)) last;
   }
+    where
+      last : last_of s (past (behind_grant s call old)) ≡ Some (Granted s (needs call))
+      last = ap (last_of s) (past-more old.journal (Granted s (needs call))) ∙ here s (last_of s (past old)) (Some (Granted s (needs call)))
 
   pub granted_here : (mid : Kept) (asked : List Need) → asked ≡ needs call → mid ≡ with_event (Granted s asked) old → IsGrantedHere s changes call mid
   granted_here mid asked same grown = subst (IsGrantedHere s changes call) (sym (grown ∙ ap (λ l. with_event (Granted s l) old) same)) granted_at
+
+  -- a call that needs no locks is where one is whose locks were granted
+  pub needless_here : (asked : List Need) → asked ≡ needs call → asked ≡ [] → IsGrantedHere s changes call old
+  needless_here asked same none = record {
+    tied = ready.tied;
+    settled = ready.settled;
+    updating_is = is;
+    granted = subst (λ l. AreGranted s l (past old)) (sym none ∙ same) tt;
+    follows = λ answer. follows_between (answered s (Some call) answer) (past old) ready.between;
+  }
+
+-- ---- how a call is closed
+
+-- at once
+pub closed_at_once : {T E : Type 0} (r : Result T E) (s : ℕ) (call : Call) (old new : Kept) → OnOk r (AddsClosing s call old new) → OnOk r (ClosesRead s call old new)
+closed_at_once r s call old new closed = on_ok r inl closed
+
+-- or behind the grant of its locks
+pub closed_granted : {T E : Type 0} (r : Result T E) (s : ℕ) (call : Call) (old mid new : Kept) (asked : List Need) → asked ≡ needs call → 0 < length asked → mid ≡ with_event (Granted s asked) old
+    → OnOk r (AddsClosing s call mid new) → OnOk r (ClosesRead s call old new)
+closed_granted r s call old mid new asked same some grown closed =
+    on_ok r (λ a. inr (record { some = subst (λ l. 0 < length l) same some; closes = subst (λ (k : Kept). AddsClosing s call k new) (grown ∙ ap (λ l. with_event (Granted s l) old) same) a })) closed
+
+-- or not, and then the grant stays
+pub left_granted : {T E : Type 0} (r : Result T E) (s : ℕ) (call : Call) (old mid new : Kept) (asked : List Need) → asked ≡ needs call → 0 < length asked → mid ≡ with_event (Granted s asked) old
+    → OnErr r (new ≡ mid) → OnErr r (LeavesRead s call old new)
+left_granted r s call old mid new asked same some grown left =
+    on_err r (λ is. inr (subst (λ l. 0 < length l) same some, is ∙ grown ∙ ap (λ l. with_event (Granted s l) old) same)) left

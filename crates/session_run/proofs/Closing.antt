@@ -9,7 +9,7 @@ use Rattle.session_core.specs.declared.event.Says.{Says}
 use Rattle.session_core.specs.declared.event.Event.{Event}
 use Rattle.session_core.specs.declared.event.Event.TheVariants.{Began, Granted, Refused, Answered, Committed, Ended, RolledBack, Doubt, Settled, Left}
 use Rattle.session_core.specs.History.{session_of, last_of}
-use Rattle.session_core.specs.Answering.{IsRightAnswer}
+use Rattle.session_run.specs.Calls.{IsAnswerInMemory}
 use Rattle.session_core.specs.Transactions.{ran_by}
 use Rattle.session_core.specs.States.{in_doubt, doubt_behind}
 use Rattle.session_core.specs.Locks.{IsBehindGrant}
@@ -89,7 +89,7 @@ pub ready_unrun : (s : ℕ) (call : Option Call) (says : Says) (old new : Kept) 
 ready_unrun s call says old new grown none settled changes tied =
     ready_behind s changes old new (answered s call says) grown refl tt settled (tied_unrun old.base s (past old) (record { call = call; says = says }) changes none tied)
 
-pub answer_closes : (s : ℕ) (call : Call) (says : Says) (old new : Kept) → IsRightAnswer old.base s (past old) (Some call) says → new ≡ with_event (answered s (Some call) says) old → AddsClosing s call old new
+pub answer_closes : (s : ℕ) (call : Call) (says : Says) (old new : Kept) → IsAnswerInMemory old.base s (past old) (Some call) says → new ≡ with_event (answered s (Some call) says) old → AddsClosing s call old new
 answer_closes s call says old new right grown = record { event = answered s (Some call) says; of_session = refl; closing = refl; closes = inl refl; right = right; grown = grown }
 
 -- what leaves a session ready with any tied changes does so with its own

@@ -1,7 +1,8 @@
+pub mod Memory
 pub mod Statements
 pub mod Lines
 pub mod Tying
 pub mod Closing
-pub mod Calling
 pub mod Texts
+pub mod Calling
 pub mod Untouched

@@ -1,10 +1,13 @@
 -- What the effects of statements make of forests.
-use Rattle.std.proofs.Common.{◌≡◌, ℕ, List, [], Option, None, Some, Result, Ok, Err, IfOk, refl, sym, ap, ◌∙◌}
+use Rattle.std.proofs.Common.{◌≡◌, ℕ, List, [], Option, None, Some, Result, Ok, Err, IfOk, refl, sym, ap, subst, ◌∙◌}
 use Rattle.std.specs.FinMap as map
 use Rattle.xq_ast.specs.declared.call.Call.{Call}
 use Rattle.xq_ast.specs.declared.call.Call.TheVariants.{Create, Drop, Load, Export}
 use Rattle.xq_ast.specs.declared.code.Code.TheVariants.{Exists, FODC0002, Pyx}
 use Rattle.xml_model.specs.declared.node.Doc.{Doc}
+use Rattle.xml_model.specs.declared.node.Node.{Node}
+use Rattle.xml_model.specs.Document.{IsValid}
+use Rattle.xml_model.proofs.ReadIsValid.{read_is_valid}
 use Rattle.xml_model.specs.declared.node.RefusedLine.{RefusedLine}
 use Rattle.xml_model.specs.Forest.{Forest}
 use Rattle.xml_model.specs.Needs.{needs, AgreeAt}
@@ -16,6 +19,10 @@ use Rattle.session_run.specs.declared.statement.Effect.{Effect}
 use Rattle.xml_model.specs.Changes.{ChangeMap, laid_over}
 use Rattle.session_run.specs.Effects.{with_change, IsEffect, IsPut}
 use Rattle.xml_model.proofs.Laying.{laid-one, laid-agree}
+
+-- a document without nodes is valid
+pub empty_is_valid : (kids : List Node) → kids ≡ [] → IsValid (record { kids = kids })
+empty_is_valid kids none = subst (λ ks. IsValid (record { kids = ks })) (sym none) (read_is_valid [] (record { kids = [] }) refl)
 
 pub if_ok : {T E : Type 0} (P Q : T → Type 0) (r : Result T E) → ((x : T) → P x → Q x) → IfOk r P → IfOk r Q
 if_ok P Q (Ok x) f fact = f x fact

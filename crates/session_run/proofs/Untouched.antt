@@ -70,7 +70,7 @@ untouched_grant t s k e differ own its legal = untouched_event t k e (λ same. d
 
 by_events : (t s : ℕ) (text : CallText) (old : Kept) (events : List Event) → (t ≡ s → ⊥) → AreOfCall old.base s text (past old) events → IsLegalBefore (with_events events old) → IsUntouched t old (with_events events old)
 by_events t s text old events differ (calls.AreOfCall.at_once {e} closes) legal = untouched_closing old.base t s text old e (past old) differ closes legal
-by_events t s text old events differ (calls.AreOfCall.behind_grant {asked} {e} needed closes) legal =
+by_events t s text old events differ (calls.AreOfCall.behind_grant {asked} {e} some needed closes) legal =
     let mid : Kept = with_event (Granted s asked) old in
     let flat : with_event e mid ≡ with_events (Granted s asked ∷ e ∷ []) old = λ i. record { base = old.base; journal = append_assoc old.journal (Granted s asked ∷ []) (e ∷ []) i } in
     let legal_flat : IsLegalBefore (with_event e mid) = subst IsLegalBefore (sym flat) legal in

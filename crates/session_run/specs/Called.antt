@@ -1,5 +1,5 @@
 -- What one call of a session adds to the journal, and what it leaves to the other sessions.
-use Rattle.std.specs.Prelude.{◌≡◌, ℕ, List, ◌++◌, true, ◌⊎◌}
+use Rattle.std.specs.Prelude.{◌≡◌, ℕ, ◌<◌, List, ◌++◌, length, true, ◌⊎◌}
 use Rattle.xq_ast.specs.declared.call.Call.{Call}
 use Rattle.xq_ast.specs.declared.call.CallText.{CallText}
 use Rattle.xq_ast.specs.declared.need.Need.{Need}
@@ -26,6 +26,7 @@ pub record IsCalled (s : ℕ) (text : CallText) (old new : Kept) : Type 0 where
 -- locks were granted for the text, and nothing more is added
 pub record IsGrantedAlone (s : ℕ) (text : CallText) (old new : Kept) : Type 0 where
   pub asked : List Need
+  pub some : 0 < length asked
   pub needed : NeedsThese asked text
   pub grown : new ≡ with_event (Granted s asked) old
 
@@ -53,10 +54,15 @@ pub record AddsClosing (s : ℕ) (call : Call) (old new : Kept) : Type 0 where
 abbrev pub behind_grant : ℕ → Call → Kept → Kept
 behind_grant s call old = with_event (Granted s (needs call)) old
 
+-- The call needs locks, and is closed behind their grant.
+pub record ClosesGranted (s : ℕ) (call : Call) (old new : Kept) : Type 0 where
+  pub some : 0 < length (needs call)
+  pub closes : AddsClosing s call (behind_grant s call old) new
+
 -- the call is closed at once, or behind the grant of its locks
 abbrev pub ClosesRead : ℕ → Call → Kept → Kept → Type 0
-ClosesRead s call old new = AddsClosing s call old new ⊎ AddsClosing s call (behind_grant s call old) new
+ClosesRead s call old new = AddsClosing s call old new ⊎ ClosesGranted s call old new
 
 -- it is not closed
 abbrev pub LeavesRead : ℕ → Call → Kept → Kept → Type 0
-LeavesRead s call old new = (new ≡ old) ⊎ (new ≡ behind_grant s call old)
+LeavesRead s call old new = (new ≡ old) ⊎ ((0 < length (needs call)) × (new ≡ behind_grant s call old))

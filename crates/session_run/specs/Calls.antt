@@ -1,5 +1,5 @@
 -- The events of one call of a session.
-use Rattle.std.specs.Prelude.{◌≡◌, ℕ, true, List, [], ◌∷◌}
+use Rattle.std.specs.Prelude.{◌≡◌, ℕ, ◌<◌, true, false, List, [], ◌∷◌, length, Option}
 use Rattle.xq_ast.specs.declared.call.CallText.{CallText}
 use Rattle.xq_ast.specs.declared.need.Need.{Need}
 use Rattle.session_core.specs.declared.event.Event.{Event}
@@ -8,16 +8,22 @@ use Rattle.session_core.specs.History.{session_of, is_closing}
 use Rattle.session_core.specs.Transactions.{Base}
 use Rattle.session_core.specs.States.{state}
 use Rattle.session_core.specs.Closes.{ClosesBy, NeedsThese, IsAnswerTo}
-use Rattle.session_core.specs.Answering.{IsRightAnswer}
+use Rattle.session_core.specs.Answering.{IsRightAnswer, is_of_device}
+use Rattle.session_core.specs.declared.event.Says.{Says}
+use Rattle.xq_ast.specs.declared.call.Call.{Call}
 
 -- an answer is one to the text
 abbrev pub AnswersText : CallText → Event → List Event → Type 0
 AnswersText text (Answered s reply) past = IsAnswerTo text (state s past) reply.says
 AnswersText text _ past = Unit {0}
 
--- an event in which no device takes part: an answer is a right one, and no commit comes into doubt or out of it
+-- a right answer whose cause is in no device
+abbrev pub IsAnswerInMemory : Base → ℕ → List Event → Option Call → Says → Type 0
+IsAnswerInMemory B s past call answer = IsRightAnswer B s past call answer × (is_of_device answer ≡ false)
+
+-- an event in which no device takes part: an answer is such a one, and no commit comes into doubt or out of it
 abbrev pub TakesNoDevice : Base → Event → List Event → Type 0
-TakesNoDevice B (Answered s reply) past = IsRightAnswer B s past reply.call reply.says
+TakesNoDevice B (Answered s reply) past = IsAnswerInMemory B s past reply.call reply.says
 TakesNoDevice B (Doubt s n mark) past = ⊥
 TakesNoDevice B (Settled by s stands) past = ⊥
 TakesNoDevice B (Began s kind) past = Unit {0}
@@ -36,7 +42,7 @@ pub record ClosesText (B : Base) (s : ℕ) (text : CallText) (e : Event) (past :
   pub answers : AnswersText text e past
   pub right : TakesNoDevice B e past
 
--- the events of one call: what closes it, and before that the locks that it was granted
+-- the events of one call: what closes it, and before that the locks that it was granted, where it needs some
 pub data AreOfCall (B : Base) (s : ℕ) (text : CallText) (past : List Event) : List Event → Type 0 where
   at_once : {e : Event} → ClosesText B s text e past → AreOfCall B s text past (e ∷ [])
-  behind_grant : {asked : List Need} {e : Event} → NeedsThese asked text → ClosesText B s text e (Granted s asked ∷ past) → AreOfCall B s text past (Granted s asked ∷ e ∷ [])
+  behind_grant : {asked : List Need} {e : Event} → 0 < length asked → NeedsThese asked text → ClosesText B s text e (Granted s asked ∷ past) → AreOfCall B s text past (Granted s asked ∷ e ∷ [])

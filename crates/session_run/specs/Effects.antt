@@ -1,9 +1,11 @@
 -- What a statement says, and what it changes.
-use Rattle.std.specs.Prelude.{◌≡◌, ℕ, List, Option, None, Some, Result, Ok, Err}
+use Rattle.std.specs.Prelude.{◌≡◌, ℕ, List, Option, None, Some, IsTrue, IfSome, Result, Ok, Err}
 use Rattle.std.specs.FinMap as map
 use Rattle.xq_ast.specs.declared.call.Call.{Call}
 use Rattle.xml_model.specs.declared.node.Doc.{Doc}
 use Rattle.xml_model.specs.declared.node.RefusedLine.{RefusedLine}
+use Rattle.xq_ast.specs.Parsed.{is_document_name}
+use Rattle.xml_model.specs.Document.{IsValid}
 use Rattle.xml_model.specs.Forest.{Forest}
 use Rattle.xml_model.specs.Needs.{needs, AgreeAt}
 use Rattle.xml_model.specs.Statement.{stmt}
@@ -19,6 +21,11 @@ use Rattle.xml_model.specs.Changes.{ChangeMap, laid_over, unshared}
 abbrev pub with_change : Option Change → ChangeMap → ChangeMap
 with_change None changes = changes
 with_change (Some change) changes = map.insert changes change.name (unshared change.after)
+
+-- the change, if there is one, gives a document's name a valid document, or none
+abbrev pub IsValidChange : Option Change → Type 0
+IsValidChange None = Unit {0}
+IsValidChange (Some change) = IsTrue (is_document_name change.name) × IfSome (unshared change.after) IsValid
 
 -- Over this forest with the changes laid over it the call says what the effect says; and on every forest that has the
 -- same documents under the call's needs it leaves what the changes with the effect's make.

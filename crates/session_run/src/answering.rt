@@ -1,6 +1,6 @@
 //! Answers.
 ghost use Rattle.std.specs.Prelude.{◌≡◌, [], Some, None, OnOk, OnErr};
-ghost use Rattle.session_core.specs.Answering.{IsRightAnswer};
+ghost use Rattle.session_run.specs.Calls.{IsAnswerInMemory};
 ghost use Rattle.session_core.specs.Kept.{with_event, past, Follows};
 ghost use Rattle.session_core.specs.States.{in_doubt};
 ghost use Rattle.session_core.specs.Transactions.{ran_by};
@@ -18,7 +18,7 @@ pub(crate) fn answer(
     call: Option<Call>,
     says: Says,
 ) -> Result<(), NoMemory>
-    requires right { IsRightAnswer core.old.base session (past core.old) call says }
+    requires right { IsAnswerInMemory core.old.base session (past core.old) call says }
     requires follows { Follows (answered session call says) (past core.old) }
     ensures ok { OnOk result (core.new ≡ with_event (answered session call says) core.old) }
     ensures err { OnErr result (core.new ≡ core.old) }
@@ -34,7 +34,7 @@ pub(crate) fn answer_unchanged(
     call: Call,
     says: Says,
 ) -> Result<(), NoMemory>
-    requires right { IsRightAnswer core.old.base session (past core.old) (Some call) says }
+    requires right { IsAnswerInMemory core.old.base session (past core.old) (Some call) says }
     requires follows { Follows (answered session (Some call) says) (past core.old) }
     requires unchanged { ran_by (Some call) says ≡ [] }
     requires settled { in_doubt (past core.old) ≡ None }

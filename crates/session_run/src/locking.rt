@@ -2,39 +2,41 @@
 ghost use Rattle.std.specs.Prelude.{◌≡◌, Some, None, IsTrue, OnOk, OnErr};
 ghost use Rattle.xml_model.specs.Needs.{needs as needs_of};
 ghost use Rattle.xml_model.specs.Statement.{is_statement};
-ghost use Rattle.session_core.specs.History.{last_of};
-ghost use Rattle.session_core.specs.Kept.{past};
+ghost use Rattle.session_core.specs.Locks.{AreGranted};
+ghost use Rattle.session_core.specs.Kept.{past, Follows};
+ghost use Rattle.session_core.specs.declared.event.Says.{Says};
+ghost use Rattle.session_run.specs.Answers.{answered};
 ghost use Rattle.session_core.specs.Refusals.{refused_in, work_of};
 ghost use Rattle.session_core.specs.States.{state as state_of, in_doubt, is_open, is_reading};
 ghost use Rattle.session_core.specs.Transactions.{newest};
 ghost use Rattle.session_run.specs.Called.{AddsClosing, ClosesRead, LeavesRead};
-ghost use Rattle.xml_model.specs.Changes.{changes_of_entries};
-ghost use Rattle.session_run.specs.Effects.{IsEffect};
+ghost use Rattle.session_run.specs.Effects.{IsEffect, IsValidChange};
+ghost use Rattle.xq_ast.specs.Parsed.{has_good_names};
 ghost use Rattle.session_run.specs.Tied.{IsTied, IsReady};
-ghost use Rattle.session_core.specs.declared.event.Event.TheVariants as events;
 
 use crate::answering::{answer, answer_unchanged};
-use crate::changes::Changes;
+use crate::changes::Change;
 use crate::statement::{Effect, run};
 use doc_locks::AskEnd;
 use session_core::{Core, Says, State};
 use std::alloc::Global;
-use xml_model::needs;
+use xml_model::{DocChanges, needs};
 use xq_ast::{Call, Code, NoMemory};
 
 fn read(
     alloc: Global,
     core: &mut Core,
     session: u32,
-    changes: &Changes,
+    changes: &DocChanges,
     call: Call,
 ) -> Result<(), NoMemory>
-    requires ready { IsReady session (changes_of_entries changes.now.docs.entries) core.old }
+    requires ready { IsReady session changes.now.changes core.old }
     requires reading { IsTrue (is_reading (state_of session (past core.old))) }
     requires statement { IsTrue (is_statement call) }
+    requires named { IsTrue (has_good_names call) }
     requires passes { refused_in (state_of session (past core.old)) (work_of call) ≡ None }
     ensures closed { OnOk result (AddsClosing session call core.old core.new) }
-    ensures ready { OnOk result (IsReady session (changes_of_entries changes.now.docs.entries) core.new) }
+    ensures ready { OnOk result (IsReady session changes.now.changes core.new) }
     ensures err { OnErr result (core.new ≡ core.old) }
 {
     match run(alloc, core.forest(session), changes, &call) {
@@ -47,21 +49,23 @@ fn read(
 fn keep(
     core: &mut Core,
     session: u32,
-    changes: &mut Changes,
+    changes: &mut DocChanges,
     call: Call,
     effect: Effect,
 ) -> Result<(), NoMemory>
-    requires effect { IsEffect call (changes_of_entries changes.old.docs.entries) (newest core.old.base (past core.old)) effect }
-    requires tied { IsTied core.old.base session (changes_of_entries changes.old.docs.entries) (past core.old) }
+    requires effect { IsEffect call changes.old.changes (newest core.old.base (past core.old)) effect }
+    requires valid { IsValidChange effect.change }
+    requires tied { IsTied core.old.base session changes.old.changes (past core.old) }
     requires settled { in_doubt (past core.old) ≡ None }
     requires updating { state_of session (past core.old) ≡ State.Updating }
-    requires granted { last_of session (past core.old) ≡ Some (events.Granted session (needs_of call)) }
+    requires granted { AreGranted session (needs_of call) (past core.old) }
+    requires follows { (says : Says) → Follows (answered session (Some call) says) (past core.old) }
     requires statement { IsTrue (is_statement call) }
     requires passes { refused_in State.Updating (work_of call) ≡ None }
     ensures closed { OnOk result (AddsClosing session call core.old core.new) }
-    ensures ready { OnOk result (IsReady session (changes_of_entries changes.new.docs.entries) core.new) }
+    ensures ready { OnOk result (IsReady session changes.new.changes core.new) }
     ensures err { OnErr result (core.new ≡ core.old) }
-    ensures same { OnErr result (changes.new.docs.entries ≡ changes.old.docs.entries) }
+    ensures same { OnErr result (changes.new.changes ≡ changes.old.changes) }
 {
     if changes.reserve().is_err() {
         return answer_unchanged(core, session, call, Says::Error(Code::NoMemory));
@@ -69,29 +73,32 @@ fn keep(
     let Effect { says, change } = effect;
     answer(core, session, Some(call), says)?;
     if let Some(change) = change {
-        changes.put(change);
+        let Change { name, after } = change;
+        changes.put(name, after);
     }
     Ok(())
 }
 
-// Runs a statement whose locks were granted.
+// Runs a statement whose locks were granted, or that needs none.
 fn run_granted(
     alloc: Global,
     core: &mut Core,
     session: u32,
-    changes: &mut Changes,
+    changes: &mut DocChanges,
     call: Call,
 ) -> Result<(), NoMemory>
-    requires tied { IsTied core.old.base session (changes_of_entries changes.old.docs.entries) (past core.old) }
+    requires tied { IsTied core.old.base session changes.old.changes (past core.old) }
     requires settled { in_doubt (past core.old) ≡ None }
     requires updating { state_of session (past core.old) ≡ State.Updating }
-    requires granted { last_of session (past core.old) ≡ Some (events.Granted session (needs_of call)) }
+    requires granted { AreGranted session (needs_of call) (past core.old) }
+    requires follows { (says : Says) → Follows (answered session (Some call) says) (past core.old) }
     requires statement { IsTrue (is_statement call) }
+    requires named { IsTrue (has_good_names call) }
     requires passes { refused_in State.Updating (work_of call) ≡ None }
     ensures closed { OnOk result (AddsClosing session call core.old core.new) }
-    ensures ready { OnOk result (IsReady session (changes_of_entries changes.new.docs.entries) core.new) }
+    ensures ready { OnOk result (IsReady session changes.new.changes core.new) }
     ensures err { OnErr result (core.new ≡ core.old) }
-    ensures same { OnErr result (changes.new.docs.entries ≡ changes.old.docs.entries) }
+    ensures same { OnErr result (changes.new.changes ≡ changes.old.changes) }
 {
     match run(alloc, core.forest(session), changes, &call) {
         Ok(effect) => keep(core, session, changes, call, effect),
@@ -99,26 +106,30 @@ fn run_granted(
     }
 }
 
-// Asks for the locks of a statement, and runs it where they are granted.
+// Asks for the locks of a statement, if it needs some, and runs it where they are granted.
 fn update(
     alloc: Global,
     core: &mut Core,
     session: u32,
-    changes: &mut Changes,
+    changes: &mut DocChanges,
     call: Call,
 ) -> Result<(), NoMemory>
-    requires ready { IsReady session (changes_of_entries changes.old.docs.entries) core.old }
+    requires ready { IsReady session changes.old.changes core.old }
     requires updating { state_of session (past core.old) ≡ State.Updating }
     requires statement { IsTrue (is_statement call) }
+    requires named { IsTrue (has_good_names call) }
     requires passes { refused_in State.Updating (work_of call) ≡ None }
     ensures closed { OnOk result (ClosesRead session call core.old core.new) }
-    ensures ready { OnOk result (IsReady session (changes_of_entries changes.new.docs.entries) core.new) }
+    ensures ready { OnOk result (IsReady session changes.new.changes core.new) }
     ensures err { OnErr result (LeavesRead session call core.old core.new) }
-    ensures same { OnErr result (changes.new.docs.entries ≡ changes.old.docs.entries) }
+    ensures same { OnErr result (changes.new.changes ≡ changes.old.changes) }
 {
     let Ok(needed) = needs(alloc, &call) else {
         return answer_unchanged(core, session, call, Says::Error(Code::NoMemory));
     };
+    if needed.is_empty() {
+        return run_granted(alloc, core, session, changes, call);
+    }
     match core.ask(session, &needed) {
         Ok(()) => run_granted(alloc, core, session, changes, call),
         Err(AskEnd::Held { .. }) => Ok(()),
@@ -133,17 +144,18 @@ pub(crate) fn run_statement(
     alloc: Global,
     core: &mut Core,
     session: u32,
-    changes: &mut Changes,
+    changes: &mut DocChanges,
     call: Call,
 ) -> Result<(), NoMemory>
-    requires ready { IsReady session (changes_of_entries changes.old.docs.entries) core.old }
+    requires ready { IsReady session changes.old.changes core.old }
     requires inside { IsTrue (is_open (state_of session (past core.old))) }
     requires statement { IsTrue (is_statement call) }
+    requires named { IsTrue (has_good_names call) }
     requires passes { refused_in (state_of session (past core.old)) (work_of call) ≡ None }
     ensures closed { OnOk result (ClosesRead session call core.old core.new) }
-    ensures ready { OnOk result (IsReady session (changes_of_entries changes.new.docs.entries) core.new) }
+    ensures ready { OnOk result (IsReady session changes.new.changes core.new) }
     ensures err { OnErr result (LeavesRead session call core.old core.new) }
-    ensures same { OnErr result (changes.new.docs.entries ≡ changes.old.docs.entries) }
+    ensures same { OnErr result (changes.new.changes ≡ changes.old.changes) }
 {
     if core.state(session) == State::Updating {
         update(alloc, core, session, changes, call)

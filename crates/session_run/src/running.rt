@@ -1,20 +1,20 @@
 //! A call, by its text and its session's state.
-ghost use Rattle.std.specs.Prelude.{◌≡◌, ◌≢◌, None, OnOk, OnErr};
+ghost use Rattle.std.specs.Prelude.{◌≡◌, ◌≢◌, None, IsTrue, OnOk, OnErr};
+ghost use Rattle.xq_ast.specs.Parsed.{has_good_names};
 ghost use Rattle.session_core.specs.Kept.{past};
 ghost use Rattle.session_core.specs.Refusals.{refused_in, work_of};
 ghost use Rattle.session_core.specs.declared.event.State.TheVariants as states;
 ghost use Rattle.session_core.specs.States.{state as state_of};
 ghost use Rattle.session_run.specs.Called.{ClosesRead, IsCalled, IsUnclosed, LeavesRead};
-ghost use Rattle.xml_model.specs.Changes.{changes_of_entries};
 ghost use Rattle.session_run.specs.Tied.{IsReady};
 
 use crate::answering::{answer, answer_unchanged};
-use crate::changes::Changes;
 use crate::locking::run_statement;
 use crate::table::refusal;
 use crate::transaction::{begin, begin_read, finish};
 use session_core::{Core, Says};
 use std::alloc::Global;
+use xml_model::DocChanges;
 use xq_ast::{Call, CallText, NoMemory};
 use xq_parse::parse_call;
 
@@ -23,16 +23,17 @@ fn run_passed(
     alloc: Global,
     core: &mut Core,
     session: u32,
-    changes: &mut Changes,
+    changes: &mut DocChanges,
     call: Call,
 ) -> Result<(), NoMemory>
-    requires ready { IsReady session (changes_of_entries changes.old.docs.entries) core.old }
+    requires ready { IsReady session changes.old.changes core.old }
+    requires named { IsTrue (has_good_names call) }
     requires certain { state_of session (past core.old) ≢ states.InDoubt }
     requires passes { refused_in (state_of session (past core.old)) (work_of call) ≡ None }
     ensures closed { OnOk result (ClosesRead session call core.old core.new) }
-    ensures ready { OnOk result (IsReady session (changes_of_entries changes.new.docs.entries) core.new) }
+    ensures ready { OnOk result (IsReady session changes.new.changes core.new) }
     ensures err { OnErr result (LeavesRead session call core.old core.new) }
-    ensures same { OnErr result (changes.new.docs.entries ≡ changes.old.docs.entries) }
+    ensures same { OnErr result (changes.new.changes ≡ changes.old.changes) }
 {
     match call {
         Call::Begin => begin(core, session),
@@ -53,15 +54,16 @@ pub(crate) fn run_call(
     alloc: Global,
     core: &mut Core,
     session: u32,
-    changes: &mut Changes,
+    changes: &mut DocChanges,
     call: Call,
 ) -> Result<(), NoMemory>
-    requires ready { IsReady session (changes_of_entries changes.old.docs.entries) core.old }
+    requires ready { IsReady session changes.old.changes core.old }
+    requires named { IsTrue (has_good_names call) }
     requires certain { state_of session (past core.old) ≢ states.InDoubt }
     ensures closed { OnOk result (ClosesRead session call core.old core.new) }
-    ensures ready { OnOk result (IsReady session (changes_of_entries changes.new.docs.entries) core.new) }
+    ensures ready { OnOk result (IsReady session changes.new.changes core.new) }
     ensures err { OnErr result (LeavesRead session call core.old core.new) }
-    ensures same { OnErr result (changes.new.docs.entries ≡ changes.old.docs.entries) }
+    ensures same { OnErr result (changes.new.changes ≡ changes.old.changes) }
 {
     if let Some(code) = refusal(core.state(session), &call) {
         return answer_unchanged(core, session, call, Says::Error(code));
@@ -74,14 +76,14 @@ pub(crate) fn run_text(
     alloc: Global,
     core: &mut Core,
     session: u32,
-    changes: &mut Changes,
+    changes: &mut DocChanges,
     text: &CallText,
 ) -> Result<(), NoMemory>
-    requires ready { IsReady session (changes_of_entries changes.old.docs.entries) core.old }
+    requires ready { IsReady session changes.old.changes core.old }
     ensures closed { OnOk result (IsCalled session text.now core.old core.new) }
-    ensures ready { OnOk result (IsReady session (changes_of_entries changes.new.docs.entries) core.new) }
+    ensures ready { OnOk result (IsReady session changes.new.changes core.new) }
     ensures err { OnErr result (IsUnclosed session text.now core.old core.new) }
-    ensures same { OnErr result (changes.new.docs.entries ≡ changes.old.docs.entries) }
+    ensures same { OnErr result (changes.new.changes ≡ changes.old.changes) }
 {
     core.legal();
     match parse_call(alloc, text) {

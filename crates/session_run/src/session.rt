@@ -4,14 +4,14 @@ ghost use Rattle.session_core.specs.declared.event.Event.TheVariants as events;
 ghost use Rattle.session_core.specs.Kept.{with_event, past};
 ghost use Rattle.session_core.specs.States.{state as state_of, is_open};
 ghost use Rattle.session_run.specs.Called.{IsCalled, IsUnclosed, IsUntouched};
-ghost use Rattle.xml_model.specs.Changes.{no_changes, changes_of_entries};
+ghost use Rattle.xml_model.specs.Changes.{no_changes};
 ghost use Rattle.session_run.specs.Tied.{IsReady};
 
-use crate::changes::Changes;
 use crate::running::run_text;
 use session_core::{Core, State};
 use std::alloc::Global;
 use std::marker::Model;
+use xml_model::DocChanges;
 use xq_ast::{CallText, NoMemory};
 
 /// One session: its number and the changes of its open transaction.
@@ -19,18 +19,17 @@ use xq_ast::{CallText, NoMemory};
 pub struct Session {
     alloc: Global,
     number: u32,
-    changes: Changes,
+    changes: DocChanges,
 }
 
 impl Model for Session {
     ghost use Rattle.session_run.specs.Sessions.{Seat, seat_code, seat_of};
-    ghost use Rattle.xml_model.specs.Changes.{changes_of_entries};
 
     ghost Value = { Seat };
 
     ghost coded = { seat_code };
 
-    ghost view = { λ s. seat_of s.number (changes_of_entries s.changes.docs.entries) };
+    ghost view = { λ s. seat_of s.number s.changes.changes };
 }
 
 impl Session {
@@ -43,7 +42,7 @@ impl Session {
         Session {
             alloc,
             number,
-            changes: Changes::new(alloc),
+            changes: DocChanges::new(alloc),
         }
     }
 

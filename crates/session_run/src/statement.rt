@@ -1,17 +1,18 @@
 //! One statement over the documents that a session sees.
-ghost use Rattle.std.specs.Prelude.{◌≡◌, IfOk, map as list_map, ◌∷◌, length, nat_lt, None};
+ghost use Rattle.std.specs.Prelude.{◌≡◌, IfOk, map as list_map, ◌∷◌, length, nat_lt, None, IsTrue};
 ghost use Rattle.xml_model.specs.Statement.{answer_of};
 ghost use Rattle.xml_model.specs.Pyx.{read, text_of};
 ghost use Rattle.session_core.specs.Transactions.{says_of};
-ghost use Rattle.xml_model.specs.Changes.{changes_of_entries};
-ghost use Rattle.session_run.specs.Effects.{IsEffect, IsPut, Spells};
+ghost use Rattle.xq_ast.specs.Parsed.{is_document_name, has_good_names};
+ghost use Rattle.xml_model.specs.Document.{IsValid};
+ghost use Rattle.session_run.specs.Effects.{IsEffect, IsPut, IsValidChange, Spells};
 
-use crate::changes::{Change, Changes};
+use crate::changes::Change;
 use pyx_text::{PyxFault, PyxReader, lines_of};
 use session_core::Says;
 use std::alloc::Global;
 use std::sync::Arc;
-use xml_model::{Doc, DocMap, REPLY_BYTES_MAX};
+use xml_model::{Doc, DocChanges, DocMap, REPLY_BYTES_MAX};
 use xq_ast::{Call, Code, Items, NoMemory, Sequence, Str, StrList};
 
 /// What a statement says, and the change that it makes, if any.
@@ -70,7 +71,10 @@ fn read_lines(alloc: Global, lines: &StrList) -> Result<Doc, PyxFault>
 
 // The name gets a document.
 fn put(alloc: Global, name: &Str, doc: Doc) -> Result<Effect, NoMemory>
-    ensures { IfOk result (IsPut name.now doc) }
+    requires named { IsTrue (is_document_name name.now) }
+    requires valid { IsValid doc }
+    ensures put { IfOk result (IsPut name.now doc) }
+    ensures valid { IfOk result (λ effect. IsValidChange effect.change) }
 {
     let after = Arc::new(alloc, doc)?;
     Ok(Effect {
@@ -82,8 +86,15 @@ fn put(alloc: Global, name: &Str, doc: Doc) -> Result<Effect, NoMemory>
     })
 }
 
-fn create(alloc: Global, base: &DocMap, changes: &Changes, name: &Str) -> Result<Effect, NoMemory>
-    ensures { IfOk result (IsEffect (Call.Create name.now) (changes_of_entries changes.now.docs.entries) base.now) }
+fn create(
+    alloc: Global,
+    base: &DocMap,
+    changes: &DocChanges,
+    name: &Str,
+) -> Result<Effect, NoMemory>
+    requires named { IsTrue (is_document_name name.now) }
+    ensures effect { IfOk result (IsEffect (Call.Create name.now) changes.now.changes base.now) }
+    ensures valid { IfOk result (λ effect. IsValidChange effect.change) }
 {
     match changes.seen(base, name) {
         Some(_) => Ok(refused(Code::Exists)),
@@ -100,11 +111,13 @@ fn create(alloc: Global, base: &DocMap, changes: &Changes, name: &Str) -> Result
 fn load(
     alloc: Global,
     base: &DocMap,
-    changes: &Changes,
+    changes: &DocChanges,
     name: &Str,
     lines: &StrList,
 ) -> Result<Effect, NoMemory>
-    ensures { IfOk result (IsEffect (Call.Load name.now lines.now) (changes_of_entries changes.now.docs.entries) base.now) }
+    requires named { IsTrue (is_document_name name.now) }
+    ensures effect { IfOk result (IsEffect (Call.Load name.now lines.now) changes.now.changes base.now) }
+    ensures valid { IfOk result (λ effect. IsValidChange effect.change) }
 {
     match changes.seen(base, name) {
         Some(_) => Ok(refused(Code::Exists)),
@@ -119,8 +132,10 @@ fn load(
     }
 }
 
-fn take_away(base: &DocMap, changes: &Changes, name: &Str) -> Result<Effect, NoMemory>
-    ensures { IfOk result (IsEffect (Call.Drop name.now) (changes_of_entries changes.now.docs.entries) base.now) }
+fn take_away(base: &DocMap, changes: &DocChanges, name: &Str) -> Result<Effect, NoMemory>
+    requires named { IsTrue (is_document_name name.now) }
+    ensures effect { IfOk result (IsEffect (Call.Drop name.now) changes.now.changes base.now) }
+    ensures valid { IfOk result (λ effect. IsValidChange effect.change) }
 {
     match changes.seen(base, name) {
         Some(_) => Ok(Effect {
@@ -134,8 +149,14 @@ fn take_away(base: &DocMap, changes: &Changes, name: &Str) -> Result<Effect, NoM
     }
 }
 
-fn export(alloc: Global, base: &DocMap, changes: &Changes, name: &Str) -> Result<Effect, NoMemory>
-    ensures { IfOk result (IsEffect (Call.Export name.now) (changes_of_entries changes.now.docs.entries) base.now) }
+fn export(
+    alloc: Global,
+    base: &DocMap,
+    changes: &DocChanges,
+    name: &Str,
+) -> Result<Effect, NoMemory>
+    ensures effect { IfOk result (IsEffect (Call.Export name.now) changes.now.changes base.now) }
+    ensures valid { IfOk result (λ effect. IsValidChange effect.change) }
 {
     match changes.seen(base, name) {
         Some(doc) => Ok(Effect {
@@ -159,10 +180,11 @@ fn marked(alloc: Global, names: &StrList) -> Result<StrList, NoMemory>
     Ok(lines)
 }
 
-fn show(alloc: Global, base: &DocMap, changes: &Changes) -> Result<Effect, NoMemory>
-    ensures { IfOk result (IsEffect Call.ShowDocuments (changes_of_entries changes.now.docs.entries) base.now) }
+fn show(alloc: Global, base: &DocMap, changes: &DocChanges) -> Result<Effect, NoMemory>
+    ensures effect { IfOk result (IsEffect Call.ShowDocuments changes.now.changes base.now) }
+    ensures valid { IfOk result (λ effect. IsValidChange effect.change) }
 {
-    let names = changes.laid_over(base)?.names()?;
+    let names = base.with_changes(changes)?.names()?;
     Ok(Effect {
         says: answer_with(marked(alloc, &names)?),
         change: None,
@@ -174,10 +196,12 @@ fn show(alloc: Global, base: &DocMap, changes: &Changes) -> Result<Effect, NoMem
 pub(crate) fn run(
     alloc: Global,
     base: &DocMap,
-    changes: &Changes,
+    changes: &DocChanges,
     call: &Call,
 ) -> Result<Effect, NoMemory>
-    ensures { IfOk result (IsEffect call.now (changes_of_entries changes.now.docs.entries) base.now) }
+    requires named { IsTrue (has_good_names call.now) }
+    ensures effect { IfOk result (IsEffect call.now changes.now.changes base.now) }
+    ensures valid { IfOk result (λ effect. IsValidChange effect.change) }
 {
     match call {
         Call::Create { name } => create(alloc, base, changes, name),

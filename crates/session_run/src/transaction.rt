@@ -1,15 +1,16 @@
 //! Calls that begin and end a transaction.
 ghost use Rattle.std.specs.Prelude.{◌≡◌, None, IsTrue, OnOk, OnErr};
-ghost use Rattle.session_core.specs.Kept.{with_event, past, next_number, HasCommitLeft};
+ghost use Rattle.session_core.specs.Kept.{with_event, past};
+ghost use Rattle.session_core.specs.Settling.{HasCommitLeft};
+ghost use Rattle.session_core.specs.Transactions.{next_number};
 ghost use Rattle.session_core.specs.States.{state as state_of, in_doubt, is_open};
 ghost use Rattle.session_run.specs.Called.{AddsClosing};
-ghost use Rattle.xml_model.specs.Changes.{changes_of_entries};
 ghost use Rattle.session_run.specs.Tied.{IsBetweenCalls, IsReady, StaysReady};
 ghost use Rattle.session_core.specs.declared.event.Event.TheVariants as events;
 
 use crate::answering::answer_unchanged;
-use crate::changes::Changes;
 use session_core::{Core, Says, State};
+use xml_model::DocChanges;
 use xq_ast::{Call, Code, NoMemory, SpentKind};
 
 /// BEGIN: an updating transaction.
@@ -43,25 +44,25 @@ pub(crate) fn begin_read(core: &mut Core, session: u32) -> Result<(), NoMemory>
 }
 
 // Commits the newest documents with the changes laid over them.
-fn commit_changes(core: &mut Core, session: u32, changes: &Changes) -> Result<(), NoMemory>
-    requires ready { IsReady session (changes_of_entries changes.now.docs.entries) core.old }
+fn commit_changes(core: &mut Core, session: u32, changes: &DocChanges) -> Result<(), NoMemory>
+    requires ready { IsReady session changes.now.changes core.old }
     requires updating { state_of session (past core.old) ≡ State.Updating }
-    requires left { HasCommitLeft core.old.base (past core.old) }
-    ensures ok { OnOk result (core.new ≡ with_event (events.Committed session (next_number core.old.base (past core.old))) core.old) }
+    requires left { HasCommitLeft core.old.base.numbers (past core.old) }
+    ensures ok { OnOk result (core.new ≡ with_event (events.Committed session (next_number core.old.base.numbers (past core.old))) core.old) }
     ensures err { OnErr result (core.new ≡ core.old) }
 {
-    let docs = changes.laid_over(core.forest(session))?;
+    let docs = core.forest(session).with_changes(changes)?;
     core.commit(session, docs)?;
     Ok(())
 }
 
-fn commit(core: &mut Core, session: u32, changes: &mut Changes) -> Result<(), NoMemory>
-    requires ready { IsReady session (changes_of_entries changes.old.docs.entries) core.old }
+fn commit(core: &mut Core, session: u32, changes: &mut DocChanges) -> Result<(), NoMemory>
+    requires ready { IsReady session changes.old.changes core.old }
     requires updating { state_of session (past core.old) ≡ State.Updating }
     ensures closed { OnOk result (AddsClosing session Call.Commit core.old core.new) }
-    ensures ready { OnOk result (IsReady session (changes_of_entries changes.new.docs.entries) core.new) }
+    ensures ready { OnOk result (IsReady session changes.new.changes core.new) }
     ensures err { OnErr result (core.new ≡ core.old) }
-    ensures same { OnErr result (changes.new.docs.entries ≡ changes.old.docs.entries) }
+    ensures same { OnErr result (changes.new.changes ≡ changes.old.changes) }
 {
     if core.newest() == u64::MAX {
         let spent = Code::Spent {
@@ -80,13 +81,17 @@ fn commit(core: &mut Core, session: u32, changes: &mut Changes) -> Result<(), No
 }
 
 /// Ends the transaction by COMMIT.
-pub(crate) fn finish(core: &mut Core, session: u32, changes: &mut Changes) -> Result<(), NoMemory>
-    requires ready { IsReady session (changes_of_entries changes.old.docs.entries) core.old }
+pub(crate) fn finish(
+    core: &mut Core,
+    session: u32,
+    changes: &mut DocChanges,
+) -> Result<(), NoMemory>
+    requires ready { IsReady session changes.old.changes core.old }
     requires inside { IsTrue (is_open (state_of session (past core.old))) }
     ensures closed { OnOk result (AddsClosing session Call.Commit core.old core.new) }
-    ensures ready { OnOk result (IsReady session (changes_of_entries changes.new.docs.entries) core.new) }
+    ensures ready { OnOk result (IsReady session changes.new.changes core.new) }
     ensures err { OnErr result (core.new ≡ core.old) }
-    ensures same { OnErr result (changes.new.docs.entries ≡ changes.old.docs.entries) }
+    ensures same { OnErr result (changes.new.changes ≡ changes.old.changes) }
 {
     if core.state(session) == State::Updating {
         return commit(core, session, changes);

@@ -79,7 +79,7 @@ next_at_rest (Committed s n ∷ past) turns rests = tt
 next_at_rest (Ended s ∷ past) turns rests = tt
 next_at_rest (RolledBack s ∷ past) turns rests = tt
 next_at_rest (Doubt s n mark ∷ past) turns rests = tt
-next_at_rest (Settled by s stands ∷ past) turns rests = tt
+next_at_rest (Settled by s stands ∷ past) turns rests = absurd rests
 next_at_rest (Left s ∷ past) turns rests = tt
 
 -- nor where more turns are to come
@@ -97,7 +97,7 @@ next_turn-more (Committed s n ∷ past) turns more is = tt
 next_turn-more (Ended s ∷ past) turns more is = tt
 next_turn-more (RolledBack s ∷ past) turns more is = tt
 next_turn-more (Doubt s n mark ∷ past) turns more is = tt
-next_turn-more (Settled by s stands ∷ past) turns more is = tt
+next_turn-more (Settled by s stands ∷ past) turns more is = has_next-more by turns more is
 next_turn-more (Left s ∷ past) turns more is = tt
 
 -- where no call is under way, any event may come next
@@ -111,7 +111,7 @@ follows_rest e (Committed s n ∷ past) rests = tt
 follows_rest e (Ended s ∷ past) rests = tt
 follows_rest e (RolledBack s ∷ past) rests = tt
 follows_rest e (Doubt s n mark ∷ past) rests = tt
-follows_rest e (Settled by s stands ∷ past) rests = tt
+follows_rest e (Settled by s stands ∷ past) rests = absurd rests
 follows_rest e (Left s ∷ past) rests = tt
 
 -- behind the closing of a call none is
@@ -124,7 +124,7 @@ rests_closed (Committed s n) past is = tt
 rests_closed (Ended s) past is = tt
 rests_closed (RolledBack s) past is = tt
 rests_closed (Doubt s n mark) past is = tt
-rests_closed (Settled by s stands) past is = tt
+rests_closed (Settled by s stands) past is = no_grant is
 rests_closed (Left s) past is = tt
 
 pub rests_behind : (s : ℕ) (past : List Event) → IsBehindCall s past → IsAtRest past

@@ -11,7 +11,7 @@ use Rattle.session_core.specs.Closes.{Scripts, calls_of, closed_of, more_closed,
 use Rattle.session_core.proofs.Tying.{elsewhere}
 use Rattle.script_text.specs.declared.session_calls.Script.{Script}
 use Rattle.xdb_top.specs.Turns.{HasNext, IsBehindCall, turns_in}
-use Rattle.xdb_top.specs.Played.{start, IsWholePlay}
+use Rattle.xdb_top.specs.Played.{IsWholePlay}
 use Rattle.xdb_top.specs.Wants.{IsNoWant, HasNoWant}
 use Rattle.xdb_top.proofs.Places.{IsPlace, places}
 use Rattle.xdb_top.proofs.Telling.{IsOfText, of_text, of_text_once}
@@ -170,13 +170,13 @@ module _ (B : Base) (P : Scripts) where
 
 -- ---- a whole play
 
-whole_to_come : (script : Script) (journal : List Event) → IsWholePlay script journal → HasNoWant journal → ToCome start script.sessions [] journal
-whole_to_come script journal whole no_want =
-    let each = places start script.sessions (past_of journal) whole.legal.closes.each whole.legal.refusals.by_text whole.right whole.at_once whole.leaves
+whole_to_come : (B : Base) (script : Script) (journal : List Event) → IsWholePlay B script journal → HasNoWant journal → ToCome B script.sessions [] journal
+whole_to_come B script journal whole no_want =
+    let each = places B script.sessions (past_of journal) whole.legal.closes.each whole.legal.refusals.by_text whole.right whole.at_once whole.leaves
     whole.legal.locks whole.legal.serial whole.legal.snapshots whole.legal.refusals.by_state whole.legal.settling in
-    (to_come start script.sessions journal [] (subst (AtEach (IsPlace start script.sessions)) (past_onto journal) each) no_want
+    (to_come B script.sessions journal [] (subst (AtEach (IsPlace B script.sessions)) (past_onto journal) each) no_want
     (subst (ClosesAtEnd script.sessions) (past_onto journal) whole.legal.closes.at_end)).0
 
-pub one_play : (script : Script) (one other : List Event) → IsWholePlay script one → IsWholePlay script other → HasNoWant one → HasNoWant other → one ≡ other
-one_play script one other whole whole' no_want no_want' =
-    same_events start script.sessions one other [] (whole_to_come script one whole no_want) (whole_to_come script other whole' no_want') (whole.in_turn ∙ sym whole'.in_turn)
+pub one_play : (B : Base) (script : Script) (one other : List Event) → IsWholePlay B script one → IsWholePlay B script other → HasNoWant one → HasNoWant other → one ≡ other
+one_play B script one other whole whole' no_want no_want' =
+    same_events B script.sessions one other [] (whole_to_come B script one whole no_want) (whole_to_come B script other whole' no_want') (whole.in_turn ∙ sym whole'.in_turn)

@@ -22,11 +22,11 @@ pub record IsPlace (B : Base) (P : Scripts) (e : Event) (past : List Event) : Ty
   pub serial : SerialAt B e past
   pub snapshots : SnapshotsAt B e past
   pub refusals : RefusalsAt e past
-  pub settling : SettlingAt B e past
+  pub settling : SettlingAt B.numbers e past
 
 -- of each event, where each of them holds of each
 pub places : (B : Base) (P : Scripts) (past : List Event) → AtEach (ClosesAt P) past → AtEach (TextRefusalsAt P) past → AtEach (TakesNoDevice B) past → AtEach FollowsAtOnce past → AtEach LeavesAtOnce past
-    → AtEach LocksAt past → AtEach (SerialAt B) past → AtEach (SnapshotsAt B) past → AtEach RefusalsAt past → AtEach (SettlingAt B) past → AtEach (IsPlace B P) past
+    → AtEach LocksAt past → AtEach (SerialAt B) past → AtEach (SnapshotsAt B) past → AtEach RefusalsAt past → AtEach (SettlingAt B.numbers) past → AtEach (IsPlace B P) past
 places B P [] closes texts right at_once leaves locks serial snapshots refusals settling = tt
 places B P (e ∷ past) closes texts right at_once leaves locks serial snapshots refusals settling = (
   record {

@@ -92,7 +92,7 @@ up_after P s text old _ played rests next (at_once {e = e} closes) =
       turns = turn_more old.journal e closes.closing ∙ ap (λ u. turns_in old.journal ++ u ∷ []) closes.of_session;
       base = refl;
     }
-up_after P s text old _ played rests next (behind_grant {asked = asked} {e = e} needed closes) =
+up_after P s text old _ played rests next (behind_grant {asked = asked} {e = e} some needed closes) =
     let granted = granted_played old.base P s text asked (past old) played rests next needed in
     let behind : IsUpBehind old.base P s (past old) (past_of (old.journal ++ Granted s asked ∷ e ∷ [])) =
     subst (IsUpBehind old.base P s (past old)) (sym (reverse-append old.journal (Granted s asked ∷ e ∷ [])))

@@ -19,9 +19,10 @@ use Rattle.session_core.specs.declared.event.Event.TheVariants.{Began, Granted, 
 use Rattle.session_core.specs.History.{session_of, is_closing, last_of}
 use Rattle.session_core.specs.Transactions.{Base}
 use Rattle.session_core.specs.States.{state}
-use Rattle.session_core.specs.Closes.{Scripts, next_call, KeepsReading, ClosesCall, Closes, ClosesBy, IsSomeText, NeedsThese, IsTextAnswer, IsAnswerTo}
+use Rattle.session_core.specs.Closes.{Scripts, next_call, KeepsReading, ClosesCall, Closes, ClosesBy, IsSomeText, NeedsThese, IsFailure, IsTextAnswer, IsAnswerTo}
 use Rattle.session_core.specs.Locks.{AllFree, IsRefused, IsBehindGrant, IsAnsweredWithLocks}
-use Rattle.session_core.specs.Answering.{IsRightAnswer, lacks_memory, refuses_text}
+use Rattle.session_core.specs.Answering.{is_of_device}
+use Rattle.session_run.specs.Calls.{IsAnswerInMemory}
 use Rattle.xdb_top.specs.Wants.{IsNoWant}
 use Rattle.xdb_top.proofs.Places.{IsPlace}
 use Rattle.xdb_top.proofs.Verdicts.{never, IsTold, told_where, ended, rolled_back, needing, right_told, told_once}
@@ -61,7 +62,7 @@ module _ (B : Base) (P : Scripts) (past : List Event) where
 
   answer_told : (call : Call) (s : ℕ) (reply : Reply) → KeepsReading (Ok call) reply → IsPlace B P (Answered s reply) past → IsNoWant (Answered s reply) → IsTold B s past call (state s past) (Answered s reply)
   answer_told call s reply (inl is) place no_want =
-      let right : IsRightAnswer B s past (Some call) reply.says = subst (λ c. IsRightAnswer B s past c reply.says) is place.right in
+      let right : IsAnswerInMemory B s past (Some call) reply.says = subst (λ c. IsAnswerInMemory B s past c reply.says) is place.right in
       let locks : IsAnsweredWithLocks (state s past) s (record { call = Some call; says = reply.says }) past =
       subst (λ c. IsAnsweredWithLocks (state s past) s (record { call = c; says = reply.says }) past) is place.locks.0 in
       subst (λ c. IsTold B s past call (state s past) (Answered s (record { call = c; says = reply.says }))) (sym is) (right_told B s past call reply.says right no_want locks)
@@ -95,22 +96,22 @@ module _ (B : Base) (P : Scripts) (past : List Event) where
       })))
 
   -- a text that is no call has one refusal
-  not_in_doubt : (s : ℕ) (answer : Says) → IsRightAnswer B s past None answer → (answer ≡ says.Error codes.NoMemory → ⊥) → state s past ≡ InDoubt → ⊥
-  not_in_doubt s _ lacks_memory no_want doubt = no_want refl
-  not_in_doubt s answer (refuses_text r) no_want doubt = r.not_in_doubt doubt
+  device_failed : (answer : Says) → IsFailure answer → is_of_device answer ≡ true
+  device_failed (says.Error (codes.Failed mark)) failed = refl
+  device_failed answer failed = absurd failed
 
-  refusal_says : (s : ℕ) (code : Code) (answer : Says) → IsTextAnswer (Err code) (state s past) answer → IsRightAnswer B s past None answer → (answer ≡ says.Error codes.NoMemory → ⊥) → answer ≡ says.Error code
-  refusal_says s code answer (inl is) right no_want = is
-  refusal_says s code answer (inr (inl lacks)) right no_want = absurd (no_want lacks)
-  refusal_says s code answer (inr (inr doubt)) right no_want = absurd (not_in_doubt s answer right no_want doubt)
+  refusal_says : (s : ℕ) (code : Code) (answer : Says) → IsTextAnswer (Err code) (state s past) answer → is_of_device answer ≡ false → (answer ≡ says.Error codes.NoMemory → ⊥) → answer ≡ says.Error code
+  refusal_says s code answer (inl is) here no_want = is
+  refusal_says s code answer (inr (inl lacks)) here no_want = absurd (no_want lacks)
+  refusal_says s code answer (inr (inr doubt)) here no_want = never (sym here ∙ device_failed answer doubt.1)
 
   refusal_told : (text : CallText) (code : Code) (s : ℕ) (reply : Reply) → next_call P s past ≡ Some text → Parsed text (Err code) → reply.call ≡ None → IsPlace B P (Answered s reply) past → IsNoWant (Answered s reply)
       → Answered s reply ≡ Answered s (record { call = None; says = says.Error code })
   refusal_told text code s reply next parsed none place no_want =
       let answer : IsAnswerTo text (state s past) reply.says = subst (λ o. IfSome o (λ t. IsAnswerTo t (state s past) reply.says)) next place.texts in
       let same : answer.what ≡ Err code = one_answer text answer.what (Err code) answer.parsed parsed in
-      let right : IsRightAnswer B s past None reply.says = subst (λ c. IsRightAnswer B s past c reply.says) none place.right in
-      let is : reply.says ≡ says.Error code = refusal_says s code reply.says (subst (λ w. IsTextAnswer w (state s past) reply.says) same answer.answers) right no_want in
+      let right : IsAnswerInMemory B s past None reply.says = subst (λ c. IsAnswerInMemory B s past c reply.says) none place.right in
+      let is : reply.says ≡ says.Error code = refusal_says s code reply.says (subst (λ w. IsTextAnswer w (state s past) reply.says) same answer.answers) right.1 no_want in
       ap (λ c. Answered s (record { call = c; says = reply.says })) none ∙ ap (λ a. Answered s (record { call = None; says = a })) is
 
   text_told : (text : CallText) (what : Result Call Code) (e : Event) → is_closing e ≡ true → next_call P (session_of e) past ≡ Some text → Parsed text what → Closes what e → IsPlace B P e past → IsNoWant e

@@ -23,7 +23,10 @@ use Rattle.session_core.specs.Locks.{IsFree, AllFree, IsRefused, AreGranted, IsB
 use Rattle.session_core.specs.Refusals.{refused_in, work_of}
 use Rattle.session_core.specs.Settling.{last_number, HasNoCommitLeft}
 use Rattle.session_core.specs.Kept.{forest_behind}
-use Rattle.session_core.specs.Answering.{IsRightAnswer, lacks_memory, refuses_call, makes_checkpoint, finds_no_number, runs_updating, runs_reading}
+use Rattle.session_core.specs.Answering.{AnswersInOrder, IsToldBy, is_of_device, lacks_memory, refuses_call, makes_checkpoint, finds_no_number, runs_updating, runs_reading, fails, finds_no_page, finds_damage}
+use Rattle.session_core.proofs.Answering.{told_by}
+use Rattle.session_run.specs.Calls.{IsAnswerInMemory}
+use Rattle.session_run.proofs.Memory.{undamaged}
 
 -- no test holds and does not
 pub never : {A : Type 0} → false ≡ true → A
@@ -42,7 +45,7 @@ answered s call answer = Answered s (record { call = Some call; says = answer })
 
 abbrev pub in_idle : Base → ℕ → List Event → Call → Verdict
 in_idle B s past Begin = only (Began s kinds.Updating)
-in_idle B s past BeginRead = only (Began s (kinds.Reading (B.commit + commit_count past)))
+in_idle B s past BeginRead = only (Began s (kinds.Reading (B.numbers.commit + commit_count past)))
 in_idle B s past call = only (answered s call says.Done)
 
 abbrev pub in_updating : ℕ → Call → Verdict
@@ -53,7 +56,7 @@ in_updating s call = runs
 abbrev pub in_reading : Base → ℕ → List Event → ℕ → Call → Verdict
 in_reading B s past n Commit = only (Ended s)
 in_reading B s past n Rollback = only (RolledBack s)
-in_reading B s past n call = only (answered s call (says_of (stmt (after B past (n - B.commit)) call).says))
+in_reading B s past n call = only (answered s call (says_of (stmt (after B past (n - B.numbers.commit)) call).says))
 
 -- of a call that the state lets pass; in doubt there is none
 abbrev pub passing : Base → ℕ → List Event → Call → State → Verdict
@@ -88,8 +91,8 @@ pub record Runs (B : Base) (s : ℕ) (call : Call) (e : Event) (past : List Even
 
 -- the transaction is committed, or no number is left for it
 abbrev pub Commits : Base → ℕ → Event → List Event → Type 0
-Commits B s e past = ((e ≡ Committed s (B.commit + (commit_count past + 1))) × (HasNoCommitLeft B past → ⊥))
-    ⊎ ((e ≡ answered s Commit (says.Error (codes.Spent spent.Commit last_number))) × HasNoCommitLeft B past)
+Commits B s e past = ((e ≡ Committed s (B.numbers.commit + (commit_count past + 1))) × (HasNoCommitLeft B.numbers past → ⊥))
+    ⊎ ((e ≡ answered s Commit (says.Error (codes.Spent spent.Commit last_number))) × HasNoCommitLeft B.numbers past)
 
 -- the event is one of these
 abbrev pub Is : Base → ℕ → List Event → Call → Verdict → Event → Type 0
@@ -148,7 +151,7 @@ module _ (B : Base) (s : ℕ) (past : List Event) where
   running (Load name pyx) e statement passes is = inr (inr is)
   running (Export name) e statement passes is = inr (inr is)
 
-  reading : (call : Call) (n : ℕ) (answer : Says) → IsTrue (is_statement call) → refused_in (Reading n) (work_of call) ≡ None → answer ≡ says_of (stmt (after B past (n - B.commit)) call).says
+  reading : (call : Call) (n : ℕ) (answer : Says) → IsTrue (is_statement call) → refused_in (Reading n) (work_of call) ≡ None → answer ≡ says_of (stmt (after B past (n - B.numbers.commit)) call).says
       → IsTold B s past call (Reading n) (answered s call answer)
   reading Begin n answer statement passes is = never statement
   reading BeginRead n answer statement passes is = never statement
@@ -161,18 +164,27 @@ module _ (B : Base) (s : ℕ) (past : List Event) where
   reading (Load name pyx) n answer statement passes is = cc
   reading (Export name) n answer statement passes is = ap (answered s (Export name)) is
 
-  pub right_told : (call : Call) (answer : Says) → IsRightAnswer B s past (Some call) answer → (answer ≡ says.Error codes.NoMemory → ⊥) → IsAnsweredWithLocks (state s past) s (record { call = Some call; says = answer }) past
-      → IsTold B s past call (state s past) (answered s call answer)
-  right_told call _ lacks_memory no_want locks = absurd (no_want refl)
-  right_told call answer (refuses_call r) no_want locks = subst (λ o. Is B s past call (by_refusal B s past call (state s past) o) (answered s call answer)) (sym r.refused) (ap (answered s call) r.says_so)
-  right_told call answer (makes_checkpoint m) no_want locks = told_where call Checkpoint (state s past) Idle (answered s call answer) m.is m.idle (ap (λ c. answered s c answer) m.is ∙ ap (answered s Checkpoint) m.says_so)
-  right_told call answer (finds_no_number f) no_want locks =
+  by_step : (call : Call) (answer : Says) → AnswersInOrder B.numbers s past (Some call) answer → IsToldBy B s past (Some call) answer → is_of_device answer ≡ false → (answer ≡ says.Error codes.NoMemory → ⊥)
+      → IsAnsweredWithLocks (state s past) s (record { call = Some call; says = answer }) past → IsTold B s past call (state s past) (answered s call answer)
+  by_step call _ lacks_memory by here no_want locks = absurd (no_want refl)
+  by_step call answer (refuses_call r) by here no_want locks = subst (λ o. Is B s past call (by_refusal B s past call (state s past) o) (answered s call answer)) (sym r.refused) (ap (answered s call) r.says_so)
+  by_step call answer (makes_checkpoint m) by here no_want locks = told_where call Checkpoint (state s past) Idle (answered s call answer) m.is m.idle (ap (λ c. answered s c answer) m.is ∙ ap (answered s Checkpoint) m.says_so)
+  by_step call answer (finds_no_number f) by here no_want locks =
       told_where call Commit (state s past) Updating (answered s call answer) f.is f.updating (inr (ap (λ c. answered s c answer) f.is ∙ ap (answered s Commit) f.says_so, f.none_left))
-  right_told call answer (runs_updating r) no_want locks =
+  by_step call answer (runs_updating r) by here no_want locks =
       let with_locks = subst (λ x. IsAnsweredWithLocks x s (record { call = Some call; says = answer }) past) r.updating locks in
       told_where call call (state s past) Updating (answered s call answer) refl r.updating
-      (running call (answered s call answer) r.statement r.passes (record { is = ap (answered s call) r.says_so; granted = r.granted; free = with_locks.1 no_want }))
-  right_told call answer (runs_reading r) no_want locks = told_where call call (state s past) (Reading r.number) (answered s call answer) refl r.reading (reading call r.number answer r.statement r.passes r.says_so)
+      (running call (answered s call answer) r.statement r.passes (record { is = ap (answered s call) (told_by B s past Updating call answer r.updating r.statement r.told by); granted = r.granted; free = with_locks.1 r.passes no_want }))
+  by_step call answer (runs_reading r) by here no_want locks = told_where call call (state s past) (Reading r.number) (answered s call answer) refl r.reading
+      (reading call r.number answer r.statement r.passes (told_by B s past (Reading r.number) call answer r.reading r.statement r.told by))
+  by_step call answer (fails f) by here no_want locks = never (sym here ∙ ap is_of_device f.says_so)
+  by_step call answer (finds_no_page f) by here no_want locks = never (sym here ∙ ap is_of_device f.says_so)
+  by_step call answer (finds_damage f) by here no_want locks = never (sym (undamaged answer here) ∙ f.damaged)
+
+  -- an answer in which no device takes part is told
+  pub right_told : (call : Call) (answer : Says) → IsAnswerInMemory B s past (Some call) answer → (answer ≡ says.Error codes.NoMemory → ⊥)
+      → IsAnsweredWithLocks (state s past) s (record { call = Some call; says = answer }) past → IsTold B s past call (state s past) (answered s call answer)
+  right_told call answer right no_want locks = by_step call answer right.0.in_order right.0.by_documents right.1 no_want locks
 
 -- ---- what is told is told once
 

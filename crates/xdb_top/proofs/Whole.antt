@@ -18,7 +18,7 @@ use Rattle.xdb_top.proofs.Closing.{next_at_rest}
 pub all_closed : (B : Base) (P : Scripts) (journal : List Event) → SoFar B journal → IsPlayed B P (past_of journal)
     → ((s : ℕ) → closed_of s (past_of journal) ≡ length (calls_of P s)) → Legal journal B P
 all_closed B P journal so_far played all = record {
-  closes = record { each = played.closes; at_end = λ s. (all s, played.ends s (all s)) };
+  closes = record { each = played.closes; in_order = so_far.in_order; at_end = λ s. (all s, played.ends s (all s)) };
   locks = so_far.locks;
   serial = so_far.serial;
   snapshots = so_far.snapshots;
@@ -32,7 +32,7 @@ played_from_start : (script : Script) (k : Kept) → IsPlayedWhole script k → 
 played_from_start script k whole = subst (λ B. IsPlayed B script.sessions (past k)) whole.base whole.played
 
 -- a script that was played whole
-pub whole_play : (script : Script) (k : Kept) → IsPlayedWhole script k → SoFar k.base k.journal → IsWholePlay script k.journal
+pub whole_play : (script : Script) (k : Kept) → IsPlayedWhole script k → SoFar k.base k.journal → IsWholePlay start script k.journal
 whole_play script k whole so_far = record {
   legal = all_closed start script.sessions k.journal (subst (λ B. SoFar B k.journal) whole.base so_far) (played_from_start script k whole)
       (λ s. closed_by_turns s k.journal ∙ ap (turns_of s) whole.in_turn ∙ all_had script.sessions script.order s);
@@ -43,22 +43,22 @@ whole_play script k whole so_far = record {
 }
 
 pub whole_where_ok : {T E : Type 0} (r : Result T E) (script : Script) (k : Kept) (journal : List Event) → OnOk r (IsPlayedWhole script k) → SoFar k.base k.journal → journal ≡ k.journal
-    → IsTrue (is_ok r) → IsWholePlay script journal
-whole_where_ok (Ok x) script k journal whole so_far same ok = subst (IsWholePlay script) (sym same) (whole_play script k whole so_far)
+    → IsTrue (is_ok r) → IsWholePlay start script journal
+whole_where_ok (Ok x) script k journal whole so_far same ok = subst (IsWholePlay start script) (sym same) (whole_play script k whole so_far)
 whole_where_ok (Err e) script k journal whole so_far same ok = absurd (search rules)
 
 -- ---- a part of a script
 
 -- nothing of it
-pub nothing_of_it : (script : Script) (journal : List Event) → journal ≡ [] → IsPartPlay script journal
-nothing_of_it script journal none = subst (IsPartPlay script) (sym none)
+pub nothing_of_it : (script : Script) (journal : List Event) → journal ≡ [] → IsPartPlay start script journal
+nothing_of_it script journal none = subst (IsPartPlay start script) (sym none)
     (record { legal = begins start; played = nothing_played_yet start script.sessions; rest = all_turns script.sessions script.order; in_turn = refl; under_way = tt })
 
 module _ (script : Script) (k : Kept) (so_far : SoFar k.base k.journal) (base : k.base ≡ start) where
   from_start : SoFar start k.journal
   from_start = subst (λ B. SoFar B k.journal) base so_far
 
-  part_of_whole : IsPlayedWhole script k → IsPartPlay script k.journal
+  part_of_whole : IsPlayedWhole script k → IsPartPlay start script k.journal
   part_of_whole whole = record {
     legal = from_start;
     played = played_from_start script k whole;
@@ -67,11 +67,11 @@ module _ (script : Script) (k : Kept) (so_far : SoFar k.base k.journal) (base : 
     under_way = next_at_rest (past k) [] whole.at_rest;
   }
 
-  part_off : HasBrokenOff script.sessions (script.order ++ one_by_one 1 script.sessions) start_kept k → IsPartPlay script k.journal
+  part_off : HasBrokenOff script.sessions (script.order ++ one_by_one 1 script.sessions) start_kept k → IsPartPlay start script k.journal
   part_off off = record { legal = from_start; played = subst (λ B. IsPlayed B script.sessions (past k)) base off.played; rest = off.rest; in_turn = off.turns; under_way = off.under_way }
 
   -- what was played is a part of the script, however the play ended
   pub part_play : {T E : Type 0} (r : Result T E) (journal : List Event) → OnOk r (IsPlayedWhole script k) → OnErr r (HasBrokenOff script.sessions (script.order ++ one_by_one 1 script.sessions) start_kept k)
-      → journal ≡ k.journal → IsPartPlay script journal
-  part_play (Ok x) journal whole off same = subst (IsPartPlay script) (sym same) (part_of_whole whole)
-  part_play (Err e) journal whole off same = subst (IsPartPlay script) (sym same) (part_off off)
+      → journal ≡ k.journal → IsPartPlay start script journal
+  part_play (Ok x) journal whole off same = subst (IsPartPlay start script) (sym same) (part_of_whole whole)
+  part_play (Err e) journal whole off same = subst (IsPartPlay start script) (sym same) (part_off off)

@@ -13,7 +13,7 @@ use Rattle.script_text.specs.declared.session_calls.Script.{Script}
 use Rattle.xdb_top.specs.Turns.{LeavesAtOnce, FollowsAtOnce, IsOfNextTurn, IsBehindCall, turns_in, all_turns}
 
 -- each event is for a call of its session, in order, and no device takes part in it; what closes a call comes directly
--- behind the grant of its locks; a session leaves only behind its last call, and its transaction is then not open
+-- behind the grant of its locks, or behind what was settled for it; a session leaves only behind its last call, and its transaction is then not open
 pub record IsPlayed (B : Base) (P : Scripts) (past : List Event) : Type 0 where
   pub closes : AtEach (ClosesAt P) past
   pub texts : AtEach (TextRefusalsAt P) past
@@ -35,25 +35,25 @@ pub record IsUpTo (B : Base) (P : Scripts) (s : ℕ) (past : List Event) : Type 
   pub not_left : has_left s past ≡ false
   pub ends : (t : ℕ) → (s ≡ t → ⊥) → closed_of t past ≡ length (calls_of P t) → is_open (state t past) ≡ false
 
--- scripts are played from a store without documents
+-- the program plays from a store without documents
 abbrev pub start : Base
-start = record { commit = 0; generation = 1; forest = no_documents }
+start = record { numbers = record { commit = 0; generation = 1 }; forest = no_documents }
 
 -- A script was played whole: the journal is one legal history of its sessions' calls, which are closed in the order of
 -- their turns. Each answer is a right one, as told by the session's state and by the documents that it sees. No other
--- event comes between the grant of a call's locks and what closes the call, nor between a session's last call and its end.
-pub record IsWholePlay (script : Script) (journal : List Event) : Type 0 where
-  pub legal : Legal journal start script.sessions
+-- event comes between the events of one call, nor between a session's last call and its end.
+pub record IsWholePlay (B : Base) (script : Script) (journal : List Event) : Type 0 where
+  pub legal : Legal journal B script.sessions
   pub in_turn : turns_in journal ≡ all_turns script.sessions script.order
-  pub right : AtEach (TakesNoDevice start) (past_of journal)
+  pub right : AtEach (TakesNoDevice B) (past_of journal)
   pub at_once : AtEach FollowsAtOnce (past_of journal)
   pub leaves : AtEach LeavesAtOnce (past_of journal)
 
 -- A script was played in part: the journal is legal so far, its events are for the script's calls as above, and the calls
--- that are closed are the first ones in the order of their turns. The last event may be the grant of the next call's locks.
-pub record IsPartPlay (script : Script) (journal : List Event) : Type 0 where
-  pub legal : SoFar start journal
-  pub played : IsPlayed start script.sessions (past_of journal)
+-- that are closed are the first ones in the order of their turns. The last event may be one of the next call, before what closes it.
+pub record IsPartPlay (B : Base) (script : Script) (journal : List Event) : Type 0 where
+  pub legal : SoFar B journal
+  pub played : IsPlayed B script.sessions (past_of journal)
   pub rest : List ℕ
   pub in_turn : turns_in journal ++ rest ≡ all_turns script.sessions script.order
   pub under_way : IsOfNextTurn (past_of journal) rest

@@ -108,7 +108,7 @@ IsCanonical doc text = text ≡ text_of (pyx doc)
 
 -- the text of the journal of a script that was played whole
 abbrev pub IsPlayedText : List Event → Script → List ℕ → Type 0
-IsPlayedText journal script text = IsWholePlay script journal × (text ≡ journals.text journal)
+IsPlayedText journal script text = IsWholePlay start script journal × (text ≡ journals.text journal)
 
 -- where memory was wanting nothing is said of a document
 abbrev pub LacksForDocument : List ℕ → Option (List ℕ) → Type 0
@@ -119,7 +119,7 @@ pub record IsPlayedInPart (journal : List Event) (input : List ℕ) (rest : Opti
   pub whole : IsWhole input rest
   pub script : Script
   pub is : spelled_script input ≡ Ok script
-  pub part : IsPartPlay script journal
+  pub part : IsPartPlay start script journal
 
 -- where memory was wanting there are no events, or the script was played in part
 abbrev pub LacksForPlay : List Event → List ℕ → Option (List ℕ) → Type 0

@@ -1,9 +1,10 @@
 -- The order in which calls are played on one thread: first the sessions that an order names, one call each, and then
 -- session by session the calls that are left.
-use Rattle.std.specs.Prelude.{◌≡◌, ℕ, ◌+◌, ◌==◌, nat_lt, Bool, true, if◌then◌else◌, List, [], ◌∷◌, ◌++◌, length, replicate}
+use Rattle.std.specs.Prelude.{◌≡◌, ℕ, ◌+◌, ◌==◌, ◌||◌, nat_lt, Bool, true, if◌then◌else◌, List, [], ◌∷◌, ◌++◌, length, replicate}
 use Rattle.session_core.specs.declared.event.Event.{Event}
-use Rattle.session_core.specs.declared.event.Event.TheVariants.{Granted, Left}
+use Rattle.session_core.specs.declared.event.Event.TheVariants.{Granted, Settled, Left}
 use Rattle.session_core.specs.History.{session_of, is_closing}
+use Rattle.session_core.specs.CallOrder.{is_grant}
 use Rattle.session_core.specs.Closes.{Scripts, calls_of}
 
 abbrev pub one_where : Bool → ℕ
@@ -47,14 +48,16 @@ abbrev pub LeavesAtOnce : Event → List Event → Type 0
 LeavesAtOnce (Left s) past = IsBehindCall s past
 LeavesAtOnce _ past = Unit {0}
 
--- directly behind the grant of a session's locks comes what closes its call
+-- directly behind the grant of a session's locks comes what closes its call, and behind a settling that or the grant
 abbrev pub FollowsAtOnce : Event → List Event → Type 0
 FollowsAtOnce e (Granted s asked ∷ past) = (session_of e ≡ s) × (is_closing e ≡ true)
+FollowsAtOnce e (Settled by s stands ∷ past) = (session_of e ≡ by) × ((is_closing e || is_grant e) ≡ true)
 FollowsAtOnce e _ = Unit {0}
 
--- no call is under way: the newest event is no grant
+-- no call is under way: the newest event is no grant and no settling
 abbrev pub IsAtRest : List Event → Type 0
 IsAtRest (Granted s asked ∷ past) = ⊥
+IsAtRest (Settled by s stands ∷ past) = ⊥
 IsAtRest _ = Unit {0}
 
 -- the session has the next of these turns
@@ -62,7 +65,9 @@ abbrev pub HasNext : ℕ → List ℕ → Type 0
 HasNext s [] = ⊥
 HasNext s (t ∷ turns) = t ≡ s
 
--- a call that is under way, for which locks were granted, is that of the session that has the next turn
+-- a call that is under way, for which locks were granted or a commit was settled, is that of the session that has the
+-- next turn
 abbrev pub IsOfNextTurn : List Event → List ℕ → Type 0
 IsOfNextTurn (Granted s asked ∷ past) turns = HasNext s turns
+IsOfNextTurn (Settled by s stands ∷ past) turns = HasNext by turns
 IsOfNextTurn _ turns = Unit {0}

@@ -1,6 +1,6 @@
 use script_text::ScriptRefusal;
 use thiserror::Error;
-use xq_ast::{PyxRefusal, name_of_refusal};
+use xq_ast::PyxRefusal;
 
 /// The most bytes of an input.
 pub const INPUT_BYTES_MAX: usize = 67_108_864;
@@ -11,7 +11,7 @@ pub enum InputRefusal {
     /// The line of a document has a byte that begins or continues no character.
     #[error("NotUtf8")]
     NotUtf8,
-    #[error("{}", name_of_refusal(*.0))]
+    #[error("{}", .0.name())]
     Pyx(PyxRefusal),
     /// A refusal of a script, with its own `NotUtf8`.
     #[error("{:?}", .0)]

@@ -24,5 +24,5 @@ pub fn played_scripts_are_legal()
 
 /// The journal of a script that was played whole is a function of the script, where no call was answered for want of memory.
 pub fn plays_without_want_are_one()
-    ensures { (script : Script) (one other : List Event) → IsWholePlay script one → IsWholePlay script other → HasNoWant one → HasNoWant other → one ≡ other }
+    ensures { (B : Base) (script : Script) (one other : List Event) → IsWholePlay B script one → IsWholePlay B script other → HasNoWant one → HasNoWant other → one ≡ other }
 {}

@@ -171,8 +171,8 @@ fn play_on(alloc: Global, core: &mut Core, script: &Script) -> Result<(), NoMemo
 /// part of the script.
 pub(crate) fn play(alloc: Global, script: &Script) -> Played
     requires { length script.now.sessions < 2 ^ 32 }
-    ensures whole { IsTrue result.is_whole → IsWholePlay script.now result.journal }
-    ensures part { IsPartPlay script.now result.journal }
+    ensures whole { IsTrue result.is_whole → IsWholePlay start script.now result.journal }
+    ensures part { IsPartPlay start script.now result.journal }
 {
     let Ok(mut core) = Core::new(alloc, 0, 1, DocMap::new(alloc)) else {
         return Played {

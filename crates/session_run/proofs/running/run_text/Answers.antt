@@ -1,20 +1,22 @@
 use Rattle.std.proofs.Common.{None, refl, subst, sym, ap, ◌∙◌}
 use Rattle.session_core.specs.declared.event.Says.TheVariants as says
-use Rattle.session_core.specs.Answering.{IsRightAnswer}
+use Rattle.session_run.specs.Calls.{IsAnswerInMemory}
 use Rattle.session_core.specs.Kept.{past, with_event}
 use Rattle.session_core.proofs.Beside.{none_in_doubt}
 use Rattle.session_run.specs.Answers.{answered}
-use Rattle.xml_model.specs.Changes.{changes_of_entries}
 use Rattle.session_run.proofs.Closing.{on_ok, ready_unrun}
-use Rattle.session_run.proofs.Texts.{called_read, called_end, right_end}
+use Rattle.session_run.proofs.Texts.{good_names, called_read, called_end, right_end}
 use Rattle.session_run.proofs.running.run_text.Goals as goal
 
 pub run_call-requires-clause-certain : goal.run_call-requires-clause-certain
 run_call-requires-clause-certain c = none_in_doubt c.args.core.now.base (past c.args.core.now) c.legal.ensures.settling c.requires.ready.settled c.args.session
 
+pub run_call-requires-clause-named : goal.run_call-requires-clause-named
+run_call-requires-clause-named c = good_names c.args.text.now c.in-Ok.call c.in-Ok.ensures.found
+
 pub answer-requires-clause-right : goal.answer-requires-clause-right
 answer-requires-clause-right c =
-    subst (λ code. IsRightAnswer c.args.core.now.base c.args.session (past c.args.core.now) None (says.Error code)) (sym c.code.ensures)
+    subst (λ code. IsAnswerInMemory c.args.core.now.base c.args.session (past c.args.core.now) None (says.Error code)) (sym c.code.ensures)
     (right_end c.args.core.now.base c.args.session (past c.args.core.now) c.in-Err.end (none_in_doubt c.args.core.now.base (past c.args.core.now) c.legal.ensures.settling c.requires.ready.settled c.args.session))
 
 pub returns-in-Ok-clause-closed : goal.returns-in-Ok-clause-closed
@@ -30,4 +32,4 @@ returns-in-Err-clause-closed c =
 pub returns-in-Err-clause-ready : goal.returns-in-Err-clause-ready
 returns-in-Err-clause-ready c =
     on_ok c.answer.result (λ grown. ready_unrun c.args.session None (says.Error c.code.result) c.args.core.now c.answer.new.core grown refl c.requires.ready.settled
-    (changes_of_entries c.args.changes.now.docs.entries) c.requires.ready.tied) c.answer.ensures.ok
+    c.args.changes.now.changes c.requires.ready.tied) c.answer.ensures.ok

@@ -1,15 +1,15 @@
-use Rattle.std.proofs.Common.{OnOk, refl, subst}
+use Rattle.std.proofs.Common.{Some, OnOk, refl, subst}
 use Rattle.session_core.specs.declared.event.BeginKind.TheVariants as kinds
 use Rattle.session_core.specs.declared.event.Event.TheVariants as events
-use Rattle.session_core.specs.Answering as answers
 use Rattle.session_core.specs.Kept.{Kept, past}
 use Rattle.session_run.specs.Tied.{StaysReady}
 use Rattle.session_run.proofs.Tying.{tied_began}
 use Rattle.session_run.proofs.Closing.{ready_behind}
+use Rattle.session_run.proofs.Memory.{lacking}
 use Rattle.session_run.proofs.transaction.begin.Goals as goal
 
 pub answer_unchanged-requires-clause-right : goal.answer_unchanged-requires-clause-right
-answer_unchanged-requires-clause-right c = answers.IsRightAnswer.lacks_memory
+answer_unchanged-requires-clause-right c = lacking c.begin_update.new.self.base c.args.session (past c.begin_update.new.self) (Some _)
 
 pub returns-in-Ok-clause-ready : goal.returns-in-Ok-clause-ready
 returns-in-Ok-clause-ready c = λ changes tied.

@@ -4,7 +4,8 @@ use Rattle.session_core.specs.declared.event.Event.TheVariants as events
 use Rattle.session_core.specs.declared.event.BeginKind.TheVariants as kinds
 use Rattle.session_core.specs.declared.event.State.TheVariants as states
 use Rattle.session_core.specs.States.{state}
-use Rattle.session_core.specs.Kept.{Kept, past, Follows, newest_number}
+use Rattle.session_core.specs.Kept.{Kept, past, Follows}
+use Rattle.session_core.specs.Transactions.{newest_number}
 use Rattle.session_core.proofs.Cores.{core_began_read}
 use Rattle.session_core.proofs.keeping.Core.begin_read.Goals as goal
 
@@ -15,5 +16,5 @@ invariant_of-self-2 c =
     let room : length c.push_reserved.new.self.items + (f.opened + 1) ≤ vec_capacity c.push_reserved.new.self = search rules in
     core_began_read _ _ _ _ _ _ _ _ _ c.self.invariant c.args.session
     (subst (λ (k : Kept). state c.args.session (past k) ≡ states.Idle) (sym c.self.view_is) c.requires.idle)
-    (subst (λ (k : Kept). Follows (events.Began c.args.session (kinds.Reading (newest_number k.base (past k)))) (past k)) (sym c.self.view_is) c.requires.follows)
+    (subst (λ (k : Kept). Follows (events.Began c.args.session (kinds.Reading (newest_number k.base.numbers (past k)))) (past k)) (sym c.self.view_is) c.requires.follows)
     _ _ _ more c.in_ok-set.ensures.ok room
