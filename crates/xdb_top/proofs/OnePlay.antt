@@ -9,7 +9,7 @@ use Rattle.session_core.specs.Transactions.{Base, Transaction, open_of, open_beh
 use Rattle.session_core.specs.States.{state, state_with, is_open}
 use Rattle.session_core.specs.Closes.{Scripts, calls_of, closed_of, more_closed, ClosesAtEnd}
 use Rattle.session_core.proofs.Tying.{elsewhere}
-use Rattle.script_text.specs.declared.session_calls.Script.{Script}
+use Rattle.script_text.specs.declared.scripts.session_calls.Script.{Script}
 use Rattle.xdb_top.specs.Turns.{HasNext, IsBehindCall, turns_in}
 use Rattle.xdb_top.specs.Played.{IsWholePlay}
 use Rattle.xdb_top.specs.Wants.{IsNoWant, HasNoWant}

@@ -7,7 +7,7 @@ use Rattle.session_core.specs.Closes.{Scripts, calls_of, closed_of}
 use Rattle.session_core.specs.Legal.{Legal, SoFar}
 use Rattle.session_core.specs.Kept.{Kept, past}
 use Rattle.session_core.proofs.Growing.{begins}
-use Rattle.script_text.specs.declared.session_calls.Script.{Script}
+use Rattle.script_text.specs.declared.scripts.session_calls.Script.{Script}
 use Rattle.xdb_top.specs.Turns.{turns_of, turns_in, one_by_one, all_turns}
 use Rattle.xdb_top.specs.Played.{start, IsPlayed, IsWholePlay, IsPartPlay}
 use Rattle.xdb_top.specs.Playing.{HasBrokenOff, start_kept, IsPlayedWhole}

@@ -4,8 +4,8 @@ use Rattle.std.specs.Str.Lossy.{utf8_valid_len}
 use Rattle.xml_model.specs.declared.node.Doc.{Doc}
 use Rattle.xml_model.specs.declared.node.RefusedLine.{RefusedLine}
 use Rattle.xml_model.specs.Pyx.{Reading, start, after, read, split_lines, split_ended_lines}
-use Rattle.script_text.specs.declared.fault.RefusedScript.{RefusedScript}
-use Rattle.script_text.specs.declared.session_calls.Script.{Script}
+use Rattle.script_text.specs.declared.scripts.fault.RefusedScript.{RefusedScript}
+use Rattle.script_text.specs.declared.scripts.session_calls.Script.{Script}
 use Rattle.script_text.specs.Scripts.{script}
 use Rattle.xdb_top.specs.declared.fault.InputFault.{InputFault}
 use Rattle.xdb_top.specs.declared.fault.InputRefusal.TheVariants.{NotUtf8, Pyx, Script as ScriptWhy}

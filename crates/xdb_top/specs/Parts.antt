@@ -3,8 +3,8 @@ use Rattle.std.specs.Prelude.{◌≡◌, ℕ, ◌+◌, ◌<◌, ◌≤◌, List,
 use Rattle.std.specs.Io.KnownBytes.{prepend_known}
 use Rattle.byte_edge.specs.declared.reading.ReadEnd.{ReadEnd}
 use Rattle.byte_edge.specs.declared.reading.ReadEnd.TheVariants as reads
-use Rattle.script_text.specs.declared.fault.ScriptFault.{ScriptFault}
-use Rattle.script_text.specs.declared.fault.ScriptFault.TheVariants as scripts
+use Rattle.script_text.specs.declared.scripts.fault.ScriptFault.{ScriptFault}
+use Rattle.script_text.specs.declared.scripts.fault.ScriptFault.TheVariants as scripts
 use Rattle.xdb_top.specs.declared.fault.InputFault.{InputFault}
 use Rattle.xdb_top.specs.declared.fault.InputRefusal.TheVariants.{Script}
 use Rattle.xdb_top.specs.declared.fault.TopFault.{TopFault}

@@ -9,7 +9,7 @@ use Rattle.session_core.specs.States.{state, is_open}
 use Rattle.session_core.specs.Closes.{Scripts, calls_of, closed_of, has_left, ClosesAt, TextRefusalsAt}
 use Rattle.session_core.specs.Legal.{SoFar, Legal}
 use Rattle.session_run.specs.Calls.{TakesNoDevice}
-use Rattle.script_text.specs.declared.session_calls.Script.{Script}
+use Rattle.script_text.specs.declared.scripts.session_calls.Script.{Script}
 use Rattle.xdb_top.specs.Turns.{LeavesAtOnce, FollowsAtOnce, IsOfNextTurn, IsBehindCall, turns_in, all_turns}
 
 -- each event is for a call of its session, in order, and no device takes part in it; what closes a call comes directly

@@ -8,7 +8,7 @@ use Rattle.session_run.specs.Called.{IsUntouched}
 use Rattle.xml_model.specs.Changes.{no_changes}
 use Rattle.session_run.specs.Sessions.{seat_of}
 use Rattle.xdb_top.specs.declared.play.Seat.{Seat}
-use Rattle.script_text.specs.declared.session_calls.Script.{Script}
+use Rattle.script_text.specs.declared.scripts.session_calls.Script.{Script}
 use Rattle.xdb_top.specs.Turns.{IsAtRest, turns_in, ordered, all_turns, IsOfNextTurn}
 use Rattle.xdb_top.specs.Played.{start, IsPlayed}
 

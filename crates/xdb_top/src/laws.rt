@@ -7,7 +7,7 @@ ghost use Rattle.session_core.specs.Transactions.{Base};
 ghost use Rattle.session_core.specs.Closes.{Scripts, calls_of};
 ghost use Rattle.session_core.specs.Legal.{Legal, SoFar};
 ghost use Rattle.xdb_top.specs.Turns.{turns_of, turns_in, all_turns};
-ghost use Rattle.script_text.specs.declared.session_calls.Script.{Script};
+ghost use Rattle.script_text.specs.declared.scripts.session_calls.Script.{Script};
 ghost use Rattle.xdb_top.specs.Played.{IsPlayed, IsWholePlay};
 ghost use Rattle.xdb_top.specs.Wants.{HasNoWant};
 
