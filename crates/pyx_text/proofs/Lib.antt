@@ -2,6 +2,5 @@ pub mod Forms
 pub mod Nodes
 pub mod Replaced
 pub mod Escapes
-pub mod Sent
 pub mod LineText
 pub mod Tied

@@ -2,4 +2,3 @@ pub mod Cuts
 pub mod Progress
 pub mod Reader
 pub mod Replacing
-pub mod Sending

@@ -14,7 +14,6 @@ mod fault;
 mod lines;
 mod listing;
 mod open_tag;
-mod pending;
 mod progress;
 mod reader;
 mod room;

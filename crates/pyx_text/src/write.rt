@@ -6,10 +6,9 @@ ghost use Rattle.byte_edge.specs.Faults.{HasCause};
 ghost use Rattle.byte_edge.specs.Took.{AppendedPrefix};
 ghost use Rattle.xml_model.specs.Pyx.{attribute_line, behind_target, pyx, pyx_node, pyx_of, text_of};
 ghost use Rattle.xml_model.specs.Values.{escaped};
-ghost use Rattle.pyx_text.specs.Sending.{Sends, stage};
+ghost use Rattle.byte_edge.specs.Sending.{Sends, stage};
 
-use crate::pending::{Pending, flush, send_byte, send_bytes};
-use byte_edge::{Sink, WriteFault};
+use byte_edge::{Pending, Sink, WriteFault, flush, send_byte, send_bytes};
 use xml_model::{Attr, AttrList, Doc, Node, NodeList};
 use xq_ast::Str;
 

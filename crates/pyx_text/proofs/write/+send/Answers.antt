@@ -1,7 +1,7 @@
 use Rattle.std.proofs.Common.{rules, ◌∷◌, [], ◌++◌, map}
 use Rattle.xml_model.specs.Pyx.{attribute_line, pyx_node, pyx_of, text_of}
 use Rattle.pyx_text.proofs.LineText.{attributes_text, nodes_text, nodes_text-append, nodes_text-one, element_text}
-use Rattle.pyx_text.proofs.Sent.{failed, broke_before, broke_then, broke_as, sends_as, sends_then, sent_none, sent_next, broke_next}
+use Rattle.byte_edge.proofs.Sent.{failed, broke_before, broke_then, broke_as, sends_as, sends_then, sent_none, sent_next, broke_next}
 use Rattle.pyx_text.proofs.write.+send.Goals as goal
 
 pub send_element-returns : goal.send_element-returns

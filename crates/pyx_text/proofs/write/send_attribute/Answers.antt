@@ -1,7 +1,7 @@
 use Rattle.std.proofs.Common.{◌++◌, ◌∷◌, []}
 use Rattle.xml_model.specs.Values.{escaped}
 use Rattle.pyx_text.proofs.LineText.{marked_line}
-use Rattle.pyx_text.proofs.Sent.{failed, broke_before, broke_as, sends_as, sends_then}
+use Rattle.byte_edge.proofs.Sent.{failed, broke_before, broke_as, sends_as, sends_then}
 use Rattle.pyx_text.proofs.write.send_attribute.Goals as goal
 
 pub returns-in_err-send_mark : goal.returns-in_err-send_mark

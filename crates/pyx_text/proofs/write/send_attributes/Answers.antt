@@ -1,7 +1,7 @@
 use Rattle.std.proofs.Common.{refl, rules, ◌∷◌, []}
 use Rattle.xml_model.specs.Pyx.{attribute_line, text_of}
 use Rattle.pyx_text.proofs.LineText.{attributes_text, attributes_text-append}
-use Rattle.pyx_text.proofs.Sent.{failed, sent_next, broke_next}
+use Rattle.byte_edge.proofs.Sent.{failed, sent_next, broke_next}
 use Rattle.pyx_text.proofs.write.send_attributes.Goals as goal
 
 pub returns-in_err-send_attribute : goal.returns-in_err-send_attribute

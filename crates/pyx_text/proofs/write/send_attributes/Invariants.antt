@@ -1,5 +1,5 @@
 use Rattle.std.proofs.Common.{take}
-use Rattle.pyx_text.specs.Sending.{Sent, stage}
+use Rattle.byte_edge.specs.Sending.{Sent, stage}
 use Rattle.pyx_text.proofs.LineText.{attributes_text}
 use Rattle.pyx_text.proofs.write.send_attributes.Given as goal
 

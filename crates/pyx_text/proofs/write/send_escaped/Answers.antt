@@ -1,5 +1,5 @@
 use Rattle.std.proofs.Common.{sym, [], ◌∷◌}
-use Rattle.pyx_text.proofs.Sent.{failed, broke_before, broke_as, sends_as, sends_then}
+use Rattle.byte_edge.proofs.Sent.{failed, broke_before, broke_as, sends_as, sends_then}
 use Rattle.pyx_text.proofs.write.send_escaped.Goals as goal
 
 pub returns-in-None : goal.returns-in-None

@@ -1,7 +1,7 @@
 use Rattle.std.proofs.Common.{◌++◌, ◌∷◌, []}
 use Rattle.xml_model.specs.Pyx.{behind_target}
 use Rattle.pyx_text.proofs.LineText.{marked_line}
-use Rattle.pyx_text.proofs.Sent.{failed, broke_before, broke_as, sends_as, sends_then}
+use Rattle.byte_edge.proofs.Sent.{failed, broke_before, broke_as, sends_as, sends_then}
 use Rattle.pyx_text.proofs.write.send_instruction.Goals as goal
 
 pub returns-in_err-send_mark : goal.returns-in_err-send_mark

@@ -1,4 +1,4 @@
-use Rattle.pyx_text.proofs.Sent.{failed, broke_before, sends_as, sends_then}
+use Rattle.byte_edge.proofs.Sent.{failed, broke_before, sends_as, sends_then}
 use Rattle.pyx_text.proofs.write.send_mark.Goals as goal
 
 pub returns-in_err-send_byte : goal.returns-in_err-send_byte

@@ -1,6 +1,6 @@
 use Rattle.std.proofs.Common.{ap, ◌++◌, ◌∷◌, []}
 use Rattle.xml_model.specs.Values.{escaped}
-use Rattle.pyx_text.proofs.Sent.{failed, broke_before, broke_as, broke_then, sent_as, sent_then, sends_then}
+use Rattle.byte_edge.proofs.Sent.{failed, broke_before, broke_as, broke_then, sent_as, sent_then, sends_then}
 use Rattle.pyx_text.proofs.write.send_rest.Goals as goal
 
 pub returns-in_err-send_byte : goal.returns-in_err-send_byte

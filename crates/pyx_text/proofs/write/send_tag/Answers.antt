@@ -1,5 +1,5 @@
 use Rattle.std.proofs.Common.{◌∷◌, []}
-use Rattle.pyx_text.proofs.Sent.{failed, broke_before, sends_then}
+use Rattle.byte_edge.proofs.Sent.{failed, broke_before, sends_then}
 use Rattle.pyx_text.proofs.write.send_tag.Goals as goal
 
 pub returns-in_err-send_mark : goal.returns-in_err-send_mark

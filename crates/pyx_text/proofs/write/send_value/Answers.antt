@@ -1,7 +1,7 @@
 use Rattle.std.proofs.Common.{refl, ◌∷◌, []}
 use Rattle.xml_model.specs.Values.{escaped}
 use Rattle.pyx_text.proofs.LineText.{escaped-append}
-use Rattle.pyx_text.proofs.Sent.{failed, sent_none, sent_next, broke_next}
+use Rattle.byte_edge.proofs.Sent.{failed, sent_none, sent_next, broke_next}
 use Rattle.pyx_text.proofs.write.send_value.Goals as goal
 
 pub loop-byte-init : goal.loop-byte-init

@@ -1,6 +1,6 @@
 use Rattle.std.proofs.Common.{take}
 use Rattle.xml_model.specs.Values.{escaped}
-use Rattle.pyx_text.specs.Sending.{Sent, stage}
+use Rattle.byte_edge.specs.Sending.{Sent, stage}
 use Rattle.pyx_text.proofs.write.send_value.Given as goal
 
 abbrev pub invariant-loop-byte : goal.invariant-loop-byte

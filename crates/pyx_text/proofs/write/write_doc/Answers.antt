@@ -1,6 +1,6 @@
 use Rattle.std.proofs.Common.{append-nil}
 use Rattle.xml_model.specs.Pyx.{pyx, text_of}
-use Rattle.pyx_text.proofs.Sent.{failed, sends_then, sends_as, sends_prefix}
+use Rattle.byte_edge.proofs.Sent.{failed, sends_then, sends_as, sends_prefix}
 use Rattle.pyx_text.proofs.write.write_doc.Goals as goal
 
 pub returns-in_err-send_nodes-clause-prefix : goal.returns-in_err-send_nodes-clause-prefix
