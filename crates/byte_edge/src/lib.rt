@@ -16,8 +16,6 @@ mod reading;
 mod sink;
 mod source;
 mod std_edge;
-#[cfg(test)]
-mod tests;
 mod writing;
 
 pub use mem_sink::MemSink;

@@ -17,5 +17,3 @@ mod table;
 pub use end::AskEnd;
 pub use table::LockTable;
 
-#[cfg(test)]
-mod tests;

@@ -23,5 +23,3 @@ pub use pass::Pass;
 pub use story::Storied;
 pub use view::Kept;
 
-#[cfg(test)]
-mod tests;

@@ -19,5 +19,3 @@ mod writing;
 pub use laws::frame_law;
 pub use map::{add, change, find, remove};
 
-#[cfg(test)]
-mod tests;

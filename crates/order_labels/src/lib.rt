@@ -19,8 +19,6 @@ mod list;
 mod neighbours;
 mod order;
 mod reading;
-#[cfg(test)]
-mod tests;
 
 pub use error::NoMemory;
 pub use key::{INTEGER_BOUND, Key, LEAST_INTEGER, cmp_keys};

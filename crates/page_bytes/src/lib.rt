@@ -39,7 +39,3 @@ pub use schema::schema_entry;
 pub use texts::{ByteList, TextRef, text_at};
 pub use workspace::Workspace;
 
-#[cfg(test)]
-mod link_tests;
-#[cfg(test)]
-mod tests;

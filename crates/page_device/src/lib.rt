@@ -28,5 +28,3 @@ pub use plan::{CallKind, Fail, FailList};
 pub use text::Str;
 pub use through::write_and_sync;
 
-#[cfg(test)]
-mod tests;

@@ -26,5 +26,3 @@ pub use spaces::SpaceList;
 pub use version::{Image, Version};
 pub use versions::Versions;
 
-#[cfg(test)]
-mod tests;

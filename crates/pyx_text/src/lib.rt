@@ -17,8 +17,6 @@ mod open_tag;
 mod progress;
 mod reader;
 mod room;
-#[cfg(test)]
-mod tests;
 mod write;
 
 pub use fault::PyxFault;

@@ -39,5 +39,3 @@ pub use laws::{record_laws, scan_laws};
 pub use names::{is_name, text_of};
 pub use scanning::{LogBase, ScanEnd, Scanned, scan};
 
-#[cfg(test)]
-mod tests;

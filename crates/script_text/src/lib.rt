@@ -21,5 +21,3 @@ pub use scripts::by_lines::read_script;
 pub use scripts::fault::{RefusedScript, ScriptFault, ScriptRefusal};
 pub use scripts::session_calls::{CallTextList, CallTextListList, NumberList, Script};
 
-#[cfg(test)]
-mod tests;

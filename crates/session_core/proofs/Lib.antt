@@ -19,5 +19,5 @@ mod ReaderBesideLoader
 mod RefusedLock
 mod SettledYes
 mod SettledNo
-mod MadeHistories
+pub mod MadeHistories
 mod NotLegal

@@ -34,5 +34,3 @@ pub use laws::{
     a_legal_journal_grows, an_empty_journal_is_legal, right_answers_keep_a_journal_legal,
 };
 
-#[cfg(test)]
-mod tests;

@@ -18,8 +18,6 @@ mod running;
 mod session;
 mod statement;
 mod table;
-#[cfg(test)]
-mod tests;
 mod transaction;
 
 pub use session::Session;

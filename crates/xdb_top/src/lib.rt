@@ -16,8 +16,6 @@ mod fault;
 mod input;
 mod laws;
 mod play;
-#[cfg(test)]
-mod tests;
 
 pub use commands::{TopEnd, end_of, tool};
 pub use fault::{INPUT_BYTES_MAX, InputFault, InputRefusal, TopFault};

@@ -21,8 +21,6 @@ mod limits;
 mod measure;
 mod node;
 mod place;
-#[cfg(test)]
-mod tests;
 mod text_lines;
 mod valid;
 

@@ -55,5 +55,3 @@ pub use update::Update;
 /// A list of texts.
 pub type StrList = Sequence<Str>;
 
-#[cfg(test)]
-mod tests;

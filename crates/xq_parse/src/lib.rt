@@ -22,8 +22,6 @@ mod piece;
 mod rows;
 mod string;
 mod symbol;
-#[cfg(test)]
-mod tests;
 
 pub use answer::ParseEnd;
 pub use laws::{any_bound_gives_the_tokens, text_has_one_answer, tokens_are_one_call};
