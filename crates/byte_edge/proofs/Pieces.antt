@@ -6,7 +6,8 @@ use Rattle.byte_edge.specs.Took.{Took}
 use Rattle.byte_edge.proofs.Known.{prepend_more}
 
 -- the bytes so far, and then a piece that a source hands over, within the limit and one more
-module _ (limit len count : ℕ) (old now new : Option (List ℕ)) (bytes chunk : List ℕ) (counted : len ≡ length bytes) (within : len ≤ limit) (piece : count ≤ length chunk)
+module _ (limit len count : ℕ) (old now new : Option (List ℕ)) (bytes chunk : List ℕ) (counted : len ≡ length bytes) (within : len ≤ limit)
+    (piece : count ≤ length chunk)
     (first : old ≡ prepend_known bytes now) (second : now ≡ prepend_known (take count chunk) new) where
   length-more : length (bytes ++ take count chunk) ≡ len + count
   length-more = omega (arith, length-append bytes (take count chunk), length-take count chunk)

@@ -55,7 +55,8 @@ broke_before {bytes} {a} {b} more t = record {
 }
 
 -- sent, and then an answer
-pub sends_then : {T E : Type 0} {bytes : List ℕ} {a b : Stage} → (r : Result T E) → (more : List ℕ) → (c : Stage) → Sent bytes a b → Sends r more b c → Sends r (bytes ++ more) a c
+pub sends_then : {T E : Type 0} {bytes : List ℕ} {a b : Stage} → (r : Result T E) → (more : List ℕ) → (c : Stage) → Sent bytes a b → Sends r more b c
+    → Sends r (bytes ++ more) a c
 sends_then (Ok x) more c s t = sent_then s t
 sends_then (Err e) more c s t = broke_then s t
 
@@ -65,7 +66,8 @@ failed (Ok x) h t = absurd (cc h)
 failed (Err e) h t = t
 
 -- of what waits, a front was written
-pub broke_waiting : (bytes : List ℕ) (a b : Stage) → bytes ≡ a.waiting → AppendedPrefix bytes a.written b.written → a.faults ≤ b.faults → Rose a.faults b.faults → Broke [] a b
+pub broke_waiting : (bytes : List ℕ) (a b : Stage) → bytes ≡ a.waiting → AppendedPrefix bytes a.written b.written → a.faults ≤ b.faults → Rose a.faults b.faults
+    → Broke [] a b
 broke_waiting bytes a b all front later rose = record {
   put = take front.count bytes;
   lost = drop front.count bytes;
@@ -94,21 +96,26 @@ pub sent_none : (a : Stage) → Sent [] a a
 sent_none a = record { put = []; written = append_known-nil a.written; waiting = append-nil a.waiting; kept = refl }
 
 -- what is sent item by item
-module _ {A : Type 0} (f : List A → List ℕ) (g : A → List ℕ) (together : (xs ys : List A) → f (xs ++ ys) ≡ f xs ++ f ys) (alone : (x : A) → f (x ∷ []) ≡ g x) where
+module _ {A : Type 0} (f : List A → List ℕ) (g : A → List ℕ) (together : (xs ys : List A) → f (xs ++ ys) ≡ f xs ++ f ys) (alone : (x : A)
+    → f (x ∷ []) ≡ g x) where
   -- one item more
   one_more : (xs : List A) (i : ℕ) (d : A) → i < length xs → f (take (i + 1) xs) ≡ f (take i xs) ++ g (get_or xs i d)
   one_more xs i d within = ap f (take_more xs i d within) ∙ (together (take i xs) (get_or xs i d ∷ []) ∙ ap (λ l. f (take i xs) ++ l) (alone (get_or xs i d)))
 
-  pub sent_next : {a b c : Stage} (xs : List A) (i : ℕ) (d x : A) → i < length xs → x ≡ get_or xs i d → Sent (f (take i xs)) a b → Sent (g x) b c → Sent (f (take (i + 1) xs)) a c
+  pub sent_next : {a b c : Stage} (xs : List A) (i : ℕ) (d x : A) → i < length xs → x ≡ get_or xs i d → Sent (f (take i xs)) a b → Sent (g x) b c
+      → Sent (f (take (i + 1) xs)) a c
   sent_next xs i d x within at s t = sent_as _ _ (ap (λ y. f (take i xs) ++ g y) at ∙ sym (one_more xs i d within)) (sent_then s t)
 
-  pub broke_next : {a b c : Stage} (xs : List A) (i : ℕ) (d x : A) → i < length xs → x ≡ get_or xs i d → Sent (f (take i xs)) a b → Broke (g x) b c → Broke (f xs) a c
+  pub broke_next : {a b c : Stage} (xs : List A) (i : ℕ) (d x : A) → i < length xs → x ≡ get_or xs i d → Sent (f (take i xs)) a b → Broke (g x) b c
+      → Broke (f xs) a c
   broke_next xs i d x within at s t =
-      broke_as _ _ (ap (λ l. l ++ f (drop (i + 1) xs)) (ap (λ y. f (take i xs) ++ g y) at ∙ sym (one_more xs i d within)) ∙ (sym (together (take (i + 1) xs) (drop (i + 1) xs)) ∙ ap f (take-append-drop (i + 1) xs)))
+      broke_as _ _ (ap (λ l. l ++ f (drop (i + 1) xs)) (ap (λ y. f (take i xs) ++ g y) at ∙ sym (one_more xs i d within))
+      ∙ (sym (together (take (i + 1) xs) (drop (i + 1) xs)) ∙ ap f (take-append-drop (i + 1) xs)))
       (broke_before (f (drop (i + 1) xs)) (broke_then s t))
 
 -- what was sent from an empty buffer to an empty one was written
-pub sends_all : {T E : Type 0} (r : Result T E) (bytes : List ℕ) (a b : Stage) → a.waiting ≡ [] → Sends r bytes a b → OnOk r (b.waiting ≡ []) → OnOk r (b.written ≡ append_known a.written bytes)
+pub sends_all : {T E : Type 0} (r : Result T E) (bytes : List ℕ) (a b : Stage) → a.waiting ≡ [] → Sends r bytes a b → OnOk r (b.waiting ≡ [])
+    → OnOk r (b.written ≡ append_known a.written bytes)
 sends_all (Ok x) bytes a b none s done =
     s.written ∙ ap (append_known a.written) (sym (append-nil s.put) ∙ (ap (λ l. s.put ++ l) (sym done) ∙ (sym s.waiting ∙ ap (λ l. l ++ bytes) none)))
 sends_all (Err e) bytes a b none s done = tt
@@ -121,7 +128,8 @@ prefix bytes put lost old new split written = record {
 }
 
 -- from an empty buffer a prefix was written
-pub sends_prefix : {T E : Type 0} (r : Result T E) (bytes : List ℕ) (a b : Stage) → a.waiting ≡ [] → Sends r bytes a b → AppendedPrefix bytes a.written b.written
+pub sends_prefix : {T E : Type 0} (r : Result T E) (bytes : List ℕ) (a b : Stage) → a.waiting ≡ [] → Sends r bytes a b
+    → AppendedPrefix bytes a.written b.written
 sends_prefix (Ok x) bytes a b none s = prefix bytes s.put b.waiting a.written b.written (sym (ap (λ l. l ++ bytes) none) ∙ s.waiting) s.written
 sends_prefix (Err e) bytes a b none s = prefix bytes s.put s.lost a.written b.written (sym (ap (λ l. l ++ bytes) none) ∙ s.waiting) s.written
 

@@ -32,7 +32,8 @@ holds_nothing None b need is =
 holds_nothing (Some names) b need is = refl
 
 -- so who holds a lock in conflict is among the sessions of the table
-pub blocked_among : (es : List (ℕ × Names)) (session : ℕ) (need : Need) (h : ℕ) → is_blocked_by (map_of es) session need h ≡ true → list_any (nat_eq h) (keys_of es) ≡ true
+pub blocked_among : (es : List (ℕ × Names)) (session : ℕ) (need : Need) (h : ℕ) → is_blocked_by (map_of es) session need h ≡ true
+    → list_any (nat_eq h) (keys_of es) ≡ true
 blocked_among es session need h is =
     sym (among_keys h es) ∙ ap is_some (sym (get-map_of es h)) ∙ holds_nothing (fin.get (map_of es) h) (not (h == session)) need is
 
@@ -47,7 +48,8 @@ module _ (es : List (ℕ × Names)) (session : ℕ) (need : Need) where
   blocked = is_blocked_by (map_of es) session need
 
   -- a session is looked at
-  pub looked : (place : ℕ) (least : Option ℕ) (holder : ℕ) (held : Names) (b : Bool) → slice_get es place ≡ Some (holder, held) → fin.get (map_of es) holder ≡ Some held
+  pub looked : (place : ℕ) (least : Option ℕ) (holder : ℕ) (held : Names) (b : Bool) → slice_get es place ≡ Some (holder, held)
+      → fin.get (map_of es) holder ≡ Some held
       → b ≡ (not (holder == session) && conflicts (fin.get held need.name) need.mode)
       → least_in blocked (keys_of (drop (place + 1) es)) (least_with least holder b) ≡ least_in blocked (keys_of (drop place es)) least
   looked place least holder held b there has is =
@@ -75,7 +77,8 @@ first_conflict t session needs place holder need is before least =
     record { before = before; there = subst (λ o. IsSomeAnd o (λ n. IsLeastHolder t session n holder)) (sym is) least }
 
 -- is what a refusal says
-pub refused : (t : Locks) (session : ℕ) (needs : List Need) (place holder : ℕ) (r : AskEnd) → IsFirstConflict t session needs place holder → NamesConflict needs place holder r
+pub refused : (t : Locks) (session : ℕ) (needs : List Need) (place holder : ℕ) (r : AskEnd) → IsFirstConflict t session needs place holder
+    → NamesConflict needs place holder r
     → IsRefusal t session needs r
 refused t session needs place holder (Held name by) first names = (place, holder, first, names)
 refused t session needs place holder NoMemory first names = tt

@@ -37,7 +37,8 @@ module _ (test : ℕ → Bool) where
   with_none : (before : Option ℕ) (k : ℕ) (b : Bool) → least_with before k b ≡ None → (b ≡ false) × (before ≡ None)
   with_none None k true is = cc
   with_none None k false is = (refl, refl)
-  with_none (Some l) k true is = elim (nat_le l k) as (λ v. cond v (Some l) (Some k) ≡ None → (true ≡ false) × (Some l ≡ None)) [ true ↦ λ e. cc | false ↦ λ e. cc ] is
+  with_none (Some l) k true is =
+      elim (nat_le l k) as (λ v. cond v (Some l) (Some k) ≡ None → (true ≡ false) × (Some l ≡ None)) [ true ↦ λ e. cc | false ↦ λ e. cc ] is
   with_none (Some l) k false is = cc
 
   -- where none is found none passes
@@ -47,7 +48,8 @@ module _ (test : ℕ → Bool) where
       let rest = none_passes ks (least_with before k (test k)) is in let first = with_none before k (test k) rest.0 in
       (first.1, (first.0, rest.1))
 
-  with_passes : (before : Option ℕ) (k : ℕ) (b : Bool) → test k ≡ b → ((x : ℕ) → before ≡ Some x → test x ≡ true) → (x : ℕ) → least_with before k b ≡ Some x → test x ≡ true
+  with_passes : (before : Option ℕ) (k : ℕ) (b : Bool) → test k ≡ b → ((x : ℕ) → before ≡ Some x → test x ≡ true) → (x : ℕ) → least_with before k b ≡ Some x
+      → test x ≡ true
   with_passes None k true is ok x e = let same : k ≡ x = cc in subst (λ y. test y ≡ true) same is
   with_passes None k false is ok x e = cc
   with_passes (Some l) k true is ok x e =
@@ -62,11 +64,13 @@ module _ (test : ℕ → Bool) where
   found_passes [] before ok h is = ok h is
   found_passes (k ∷ ks) before ok h is = found_passes ks (least_with before k (test k)) (with_passes before k (test k) refl ok) h is
 
-  with_least : (before : Option ℕ) (k : ℕ) (b : Bool) (h : ℕ) → ((x : ℕ) → least_with before k b ≡ Some x → h ≤ x) → ((x : ℕ) → before ≡ Some x → h ≤ x) × (b ≡ true → h ≤ k)
+  with_least : (before : Option ℕ) (k : ℕ) (b : Bool) (h : ℕ) → ((x : ℕ) → least_with before k b ≡ Some x → h ≤ x)
+      → ((x : ℕ) → before ≡ Some x → h ≤ x) × (b ≡ true → h ≤ k)
   with_least None k true h below = (λ x e. cc, λ _. below k refl)
   with_least None k false h below = (below, λ e. cc)
   with_least (Some l) k true h below =
-      elim (nat_le l k) as (λ v. nat_le l k ≡ v → ((x : ℕ) → cond v (Some l) (Some k) ≡ Some x → h ≤ x) → ((x : ℕ) → Some l ≡ Some x → h ≤ x) × (true ≡ true → h ≤ k)) [
+      elim (nat_le l k) as (λ v. nat_le l k ≡ v → ((x : ℕ) → cond v (Some l) (Some k) ≡ Some x → h ≤ x)
+      → ((x : ℕ) → Some l ≡ Some x → h ≤ x) × (true ≡ true → h ≤ k)) [
         | true ↦ λ v f. (f, λ _. let at_l : h ≤ l = f l refl in grind (arith, nat_tests))
         | false ↦ λ v f. (λ x e. let at_k : h ≤ k = f k refl in let same : l ≡ x = cc in subst (λ y. h ≤ y) same (grind (arith, nat_tests)), λ _. f k refl)
       ] refl below

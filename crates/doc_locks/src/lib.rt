@@ -16,4 +16,3 @@ mod table;
 
 pub use end::AskEnd;
 pub use table::LockTable;
-

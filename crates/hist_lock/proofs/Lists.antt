@@ -20,7 +20,8 @@ module _ {E : Type 0} where
   events_of-append session by (x ∷ xs) ys = step (eqb (session x) by) (events_of-append session by xs ys)
     where
       step : (b : Bool) → events_of session by (xs ++ ys) ≡ events_of session by xs ++ events_of session by ys
-          → (if b then x ∷ events_of session by (xs ++ ys) else events_of session by (xs ++ ys)) ≡ (if b then x ∷ events_of session by xs else events_of session by xs) ++ events_of session by ys
+          → (if b then x ∷ events_of session by (xs ++ ys) else events_of session by (xs ++ ys))
+          ≡ (if b then x ∷ events_of session by xs else events_of session by xs) ++ events_of session by ys
       step true ih = ap (λ (l : List E). x ∷ l) ih
       step false ih = ih
 
@@ -34,8 +35,10 @@ module _ {E : Type 0} where
   events_of_own session id (x ∷ xs) all = rw (eq-eqb (session x) id all.0) (ap (λ (l : List E). x ∷ l) (events_of_own session id xs all.1))
 
   -- another session's events stay
-  pub events_of_same : (session : E → ℕ) (by id : ℕ) (log new : List E) → AllOf session id new → (by ≡ id → ⊥) → events_of session by (log ++ new) ≡ events_of session by log
-  events_of_same session by id log new all n = events_of-append session by log new ∙ (ap (λ (l : List E). events_of session by log ++ l) (events_of_others session by id new all n) ∙ append-nil (events_of session by log))
+  pub events_of_same : (session : E → ℕ) (by id : ℕ) (log new : List E) → AllOf session id new → (by ≡ id → ⊥)
+      → events_of session by (log ++ new) ≡ events_of session by log
+  events_of_same session by id log new all n = events_of-append session by log new
+      ∙ (ap (λ (l : List E). events_of session by log ++ l) (events_of_others session by id new all n) ∙ append-nil (events_of session by log))
 
   -- what follows a beginning is one list
   pub same_rest : (xs ys zs : List E) → xs ++ ys ≡ xs ++ zs → ys ≡ zs
@@ -43,5 +46,7 @@ module _ {E : Type 0} where
   same_rest (x ∷ xs) ys zs e = same_rest xs ys zs (ap (drop 1) e)
 
   -- how many events are new
-  pub more_events : (log seen new : List E) (found total : ℕ) → log ≡ seen ++ new → found ≡ length seen → total ≡ length log → (found ≤ total) × (total - found ≡ length new)
-  more_events log seen new found total is at all = let e : length log ≡ length seen + length new = ap length is ∙ length-append seen new in (omega arith, omega arith)
+  pub more_events : (log seen new : List E) (found total : ℕ) → log ≡ seen ++ new → found ≡ length seen → total ≡ length log
+      → (found ≤ total) × (total - found ≡ length new)
+  more_events log seen new found total is at all = let e : length log ≡ length seen + length new = ap length is ∙ length-append seen new in
+      (omega arith, omega arith)

@@ -22,7 +22,8 @@ snoc_place : {A : Type 0} (vs : List A) (w u : A) (j : ℕ) → get_elem? (vs ++
 snoc_place [] w u zero e = inr (refl, some-injective w u e)
 snoc_place [] w u (suc j) e = absurd (some-ne-none u (sym e))
 snoc_place {A} (x ∷ xs) w u zero e = inl e
-snoc_place {A} (x ∷ xs) w u (suc j) e = ⊎_elim (λ (old : get_elem? xs j ≡ some u). inl old) (λ (t : (j ≡ length xs) × (w ≡ u)). inr (ap suc t.0, t.1)) (snoc_place xs w u j e)
+snoc_place {A} (x ∷ xs) w u (suc j) e =
+    ⊎_elim (λ (old : get_elem? xs j ≡ some u). inl old) (λ (t : (j ≡ length xs) × (w ≡ u)). inr (ap suc t.0, t.1)) (snoc_place xs w u j e)
 
 -- the two tries: one takes a turn that is free, the other also says that it waits
 pub one_held : (n : ℕ) → either (eqb n 0) 1 n ≡ 0 → ⊥
@@ -46,8 +47,10 @@ module _ {T E O : Type 0} (events : T → List E) (session : E → ℕ) (origin 
   Rule = IsKept events session origin o
 
   -- what is kept of a pass stays true while the list goes on with another's events
-  keeps_more : (log new more : List E) (made : ℕ) (x : Kept E) → more ≡ log ++ new → events_of session x.id more ≡ events_of session x.id log → Keeps session log made x → Keeps session more made x
-  keeps_more log new more made x is same k = record { own = k.own ∙ sym same; begun = subst (λ (z : List E). Begins z x.seen) (sym is) (begins_more log x.seen new k.begun); numbered = k.numbered }
+  keeps_more : (log new more : List E) (made : ℕ) (x : Kept E) → more ≡ log ++ new → events_of session x.id more ≡ events_of session x.id log
+      → Keeps session log made x → Keeps session more made x
+  keeps_more log new more made x is same k =
+      record { own = k.own ∙ sym same; begun = subst (λ (z : List E). Begins z x.seen) (sym is) (begins_more log x.seen new k.begun); numbered = k.numbered }
 
   -- and while one more pass is made
   keeps_later : (log : List E) (made : ℕ) (x : Kept E) → Keeps session log made x → Keeps session log (made + 1) x
@@ -61,7 +64,8 @@ module _ {T E O : Type 0} (events : T → List E) (session : E → ℕ) (origin 
     id : old.id ≡ u.id
     kept : old.kept ≡ u.kept
 
-  was : (vs : List (View E O)) (id : ℕ) (v w : View E O) → get_elem? vs id ≡ some v → v.live ≡ w.live → v.id ≡ w.id → v.kept ≡ w.kept → (j : ℕ) (u : View E O) → get_elem? (set vs id w) j ≡ some u → Was vs j u
+  was : (vs : List (View E O)) (id : ℕ) (v w : View E O) → get_elem? vs id ≡ some v → v.live ≡ w.live → v.id ≡ w.id → v.kept ≡ w.kept → (j : ℕ) (u : View E O)
+      → get_elem? (set vs id w) j ≡ some u → Was vs j u
   was vs id v w at a b c j u e = ⊎_elim
       (λ (t : (j ≡ id) × (w ≡ u)). record {
         old = v;
@@ -74,7 +78,8 @@ module _ {T E O : Type 0} (events : T → List E) (session : E → ℕ) (origin 
       (at_set vs id j w u e)
 
   -- what holds of each view holds after one has changed
-  each_set : (P : ℕ → View E O → Type 0) (vs : List (View E O)) (id : ℕ) (w : View E O) → P id w → ((j : ℕ) (u : View E O) → j ≢ id → get_elem? vs j ≡ some u → P j u)
+  each_set : (P : ℕ → View E O → Type 0) (vs : List (View E O)) (id : ℕ) (w : View E O) → P id w
+      → ((j : ℕ) (u : View E O) → j ≢ id → get_elem? vs j ≡ some u → P j u)
       → (j : ℕ) (u : View E O) → get_elem? (set vs id w) j ≡ some u → P j u
   each_set P vs id w mine others j u e = ⊎_elim
       (λ (t : (j ≡ id) × (w ≡ u)). subst (λ (x : ℕ × View E O). P x.0 x.1) (λ i. (sym t.0 i, t.1 i)) mine)
@@ -120,11 +125,13 @@ module _ {T E O : Type 0} (events : T → List E) (session : E → ℕ) (origin 
       first (suc j) v e = absurd (some-ne-none v (sym e))
 
   -- a step of the seat id, whose list may go on with events of its own
-  moved : (s : St) (r : Rule s) (ws : List ℕ) (hs : List _) (id : ℕ) (v w : View E O) (new log : List E) → log ≡ r.log ++ new → get_elem? s.views id ≡ some v → v.live ≡ true → v.live ≡ w.live → v.id ≡ w.id → v.kept ≡ w.kept
+  moved : (s : St) (r : Rule s) (ws : List ℕ) (hs : List _) (id : ℕ) (v w : View E O) (new log : List E) → log ≡ r.log ++ new → get_elem? s.views id ≡ some v
+      → v.live ≡ true → v.live ≡ w.live → v.id ≡ w.id → v.kept ≡ w.kept
       → length log < 2 ^ 64 → AllOf session v.id new
       → Knows session o log r.made w
       → ((j : ℕ) (u : View E O) → j ≢ id → get_elem? s.views j ≡ some u → u.live ≡ true → u.inside ≡ true → u.seen ≡ log)
-      → (IsFree events session origin o log record { words = ws; homes = hs; views = set s.views id w } ⊎ IsHeld events session origin log record { words = ws; homes = hs; views = set s.views id w })
+      → (IsFree events session origin o log record { words = ws; homes = hs; views = set s.views id w }
+      ⊎ IsHeld events session origin log record { words = ws; homes = hs; views = set s.views id w })
       → Rule record { words = ws; homes = hs; views = set s.views id w }
   moved s r ws hs id v w new log is at lives a b c small all mine others phase =
       let back = was s.views id v w at a b c in
@@ -146,7 +153,8 @@ module _ {T E O : Type 0} (events : T → List E) (session : E → ℕ) (origin 
               sole = k.sole;
               now = others j u n e l;
             });
-        apart = λ j k x y e f l m same. let p = back j x e in let q = back k y f in r.apart j k p.old q.old p.there q.there (p.live ∙ l) (q.live ∙ m) (p.id ∙ (same ∙ sym q.id));
+        apart = λ j k x y e f l m same. let p = back j x e in let q = back k y f in
+            r.apart j k p.old q.old p.there q.there (p.live ∙ l) (q.live ∙ m) (p.id ∙ (same ∙ sym q.id));
         kept_apart = λ j k i x y z e f l m g same. let p = back j x e in let q = back k y f in
             r.kept_apart j k i p.old q.old z p.there q.there (p.live ∙ l) (q.live ∙ m) (ap (λ (h : List (Kept E)). get_elem? h i) p.kept ∙ g) (same ∙ sym q.id);
         phase = phase;
@@ -155,13 +163,26 @@ module _ {T E O : Type 0} (events : T → List E) (session : E → ℕ) (origin 
   -- a try to take the turn, which leaves a word that is not 0, by what it was
   module _ (next : ℕ → ℕ) (busy : (n : ℕ) → next n ≡ 0 → ⊥) where
     -- where the turn is free
-    takes_free : (s : St) (r : Rule s) (f : IsFree events session origin o r.log s) (id : ℕ) (v : View E O) (cs : List (ℕ × Option T)) → get_elem? s.views id ≡ some v → v.live ≡ true
+    takes_free : (s : St) (r : Rule s) (f : IsFree events session origin o r.log s) (id : ℕ) (v : View E O) (cs : List (ℕ × Option T))
+        → get_elem? s.views id ≡ some v → v.live ≡ true
         → Rule (stepped s 1 (next (get_or s.words 1 0)) id cs (entered v (events f.value)) (takes 0 (Some f.value)))
     takes_free s r f id v cs at l =
         let w = entered v (events f.value) in let me = r.each id v at l in
         let small : length (events f.value) < 2 ^ 64 = subst (λ (z : List E). length z < 2 ^ 64) (sym f.list) r.small in
         moved s r _ _ id v w [] (events f.value) (f.list ∙ sym (append-nil r.log)) at l refl refl refl small tt
-        record { from = me.from; begun = begins_same (events f.value); own = me.own ∙ ap (events_of session v.id) (sym f.list); numbered = me.numbered; opens = me.opens; others = λ i x g. subst (λ (z : List E). Keeps session z r.made x) (sym f.list) (me.others i x g); once = me.once; sole = me.sole; now = λ _. refl }
+        record {
+          from = me.from;
+          begun = begins_same (events f.value);
+          own = me.own ∙ ap (events_of session v.id) (sym f.list);
+          numbered = me.numbered;
+          opens =
+              me.opens;
+          others = λ i x g. subst (λ (z : List E). Keeps session z r.made x) (sym f.list) (me.others i x g);
+          once = me.once;
+          sole = me.sole;
+          now =
+              λ _. refl;
+        }
         (λ j u n e m is_in. absurd (true≢false (sym is_in ∙ f.nobody j u e m)))
         (inr record {
           away = ap (λ (h : List _). set h 0 none) f.at_home;
@@ -173,7 +194,8 @@ module _ {T E O : Type 0} (events : T → List E) (session : E → ℕ) (origin 
           there = put_at s.views id v w at;
           is_live = l;
           is_in = refl;
-          alone = each_set (λ j u. u.live ≡ true → u.inside ≡ true → j ≡ id) s.views id w (λ _ _. refl) (λ j u n e m is_in. absurd (true≢false (sym is_in ∙ f.nobody j u e m)));
+          alone = each_set (λ j u. u.live ≡ true → u.inside ≡ true → j ≡ id) s.views id w (λ _ _. refl)
+              (λ j u n e m is_in. absurd (true≢false (sym is_in ∙ f.nobody j u e m)));
         })
       where
         put_at : (vs : List (View E O)) (i : ℕ) (v w : View E O) → get_elem? vs i ≡ some v → get_elem? (set vs i w) i ≡ some w
@@ -182,7 +204,8 @@ module _ {T E O : Type 0} (events : T → List E) (session : E → ℕ) (origin 
         put_at (x ∷ xs) (suc i) v w e = put_at xs i v w e
 
     -- where it is held
-    stays_held : (s : St) (r : Rule s) (h : IsHeld events session origin r.log s) (id : ℕ) (me : M) → get_elem? s.views id ≡ some me.0 → Rule (stepped s 1 (next (get_or s.words 1 0)) id me.1 me.0 keeps)
+    stays_held : (s : St) (r : Rule s) (h : IsHeld events session origin r.log s) (id : ℕ) (me : M) → get_elem? s.views id ≡ some me.0
+        → Rule (stepped s 1 (next (get_or s.words 1 0)) id me.1 me.0 keeps)
     stays_held s r h id me at =
         let ws : List ℕ = set s.words 1 (next (get_or s.words 1 0)) in
         let held : Rule record { words = ws; homes = s.homes; views = s.views } = record {
@@ -208,7 +231,8 @@ module _ {T E O : Type 0} (events : T → List E) (session : E → ℕ) (origin 
         } in
         subst (λ (z : List (View E O)). Rule record { words = ws; homes = s.homes; views = z }) (sym (set_again s.views id me.0 at)) held
 
-    pub takes_turn : (slots id : ℕ) (me : M) (st : Step (Option T)) → me.0.live ≡ true → me.1 ≡ [] → Allows Rule slots id me 1 next (taken events session origin st me)
+    pub takes_turn : (slots id : ℕ) (me : M) (st : Step (Option T)) → me.0.live ≡ true → me.1 ≡ []
+        → Allows Rule slots id me 1 next (taken events session origin st me)
     takes_turn slots id me st l none_held s r long at small = ⊎_elim
         (λ (f : IsFree events session origin o r.log s).
         let know = r.each id me.0 at l in let none_out : get_or s.words 1 0 ≡ 0 = ap (λ (z : List ℕ). get_or z 1 0) f.words in (
@@ -217,7 +241,19 @@ module _ {T E O : Type 0} (events : T → List E) (session : E → ℕ) (origin 
           ap (λ (h : List _). get_elem? h 0) f.at_home,
           takes_free s r f id me.0 me.1 at l,
           (
-            (λ _. (f.value, refl, ap (λ (c : List (ℕ × Option T)). (0, Some f.value) ∷ c) none_held, record { begun = subst (λ (z : List E). Begins z me.0.seen) (sym f.list) know.begun; own = know.own ∙ ap (events_of session me.0.id) (sym f.list); from = f.from ∙ sym know.from; small = subst (λ (z : List E). length z < 2 ^ 64) (sym f.list) r.small })),
+            (λ _. (
+              f.value,
+              refl,
+              ap (λ (c : List (ℕ × Option T)). (0, Some f.value) ∷ c) none_held,
+              record {
+                begun =
+                    subst (λ (z : List E). Begins z me.0.seen) (sym f.list) know.begun;
+                own = know.own ∙ ap (events_of session me.0.id) (sym f.list);
+                from = f.from
+                    ∙ sym know.from;
+                small = subst (λ (z : List E). length z < 2 ^ 64) (sym f.list) r.small;
+              },
+            )),
             (λ n. absurd (n none_out)),
           ),
         ))
@@ -241,16 +277,21 @@ module _ {T E O : Type 0} (events : T → List E) (session : E → ℕ) (origin 
   inner d (c ∷ cs) = inner_or d c.1
 
   -- the holder, known by its view
-  held_by : (s : St) (r : Rule s) (id : ℕ) (v : View E O) → get_elem? s.views id ≡ some v → v.live ≡ true → v.inside ≡ true → IsHeld events session origin r.log s
-  held_by s r id v at l is_in = ⊎_elim (λ (f : IsFree events session origin o r.log s). absurd (true≢false (sym is_in ∙ f.nobody id v at l))) (λ (h : IsHeld events session origin r.log s). h) r.phase
+  held_by : (s : St) (r : Rule s) (id : ℕ) (v : View E O) → get_elem? s.views id ≡ some v → v.live ≡ true → v.inside ≡ true
+      → IsHeld events session origin r.log s
+  held_by s r id v at l is_in =
+      ⊎_elim (λ (f : IsFree events session origin o r.log s). absurd (true≢false (sym is_in ∙ f.nobody id v at l)))
+      (λ (h : IsHeld events session origin r.log s). h) r.phase
 
   set_at : (vs : List (View E O)) (i : ℕ) (v w : View E O) → get_elem? vs i ≡ some v → get_elem? (set vs i w) i ≡ some w
   set_at [] i v w e = absurd (some-ne-none v (sym e))
   set_at (x ∷ xs) zero v w e = refl
   set_at (x ∷ xs) (suc i) v w e = set_at xs i v w e
 
-  pub raises_count : (slots id : ℕ) (me : M) (x : T) (new : List E) (k : ℕ) → me.0.live ≡ true → me.0.inside ≡ true → me.1 ≡ (0, Some x) ∷ [] → events x ≡ me.0.seen ++ new → AllOf session me.0.id new
-      → length (events x) < 2 ^ 64 → k ≡ length new → Allows Rule slots id me 0 (λ n. (n + k) % 2 ^ 64) (raised events session origin (step slots 0 k 0 none) me)
+  pub raises_count : (slots id : ℕ) (me : M) (x : T) (new : List E) (k : ℕ) → me.0.live ≡ true → me.0.inside ≡ true → me.1 ≡ (0, Some x) ∷ []
+      → events x ≡ me.0.seen ++ new → AllOf session me.0.id new
+      → length (events x) < 2 ^ 64 → k ≡ length new
+      → Allows Rule slots id me 0 (λ n. (n + k) % 2 ^ 64) (raised events session origin (step slots 0 k 0 none) me)
   raises_count slots id me x new k l is_in has list all small is s r long at word =
       let h = held_by s r id me.0 at l is_in in let know = r.each id me.0 at l in
       let grown : events x ≡ r.log ++ new = list ∙ ap (λ (z : List E). z ++ new) (know.now is_in) in
@@ -267,7 +308,8 @@ module _ {T E O : Type 0} (events : T → List E) (session : E → ℕ) (origin 
               own = refl;
               numbered = know.numbered;
               opens = know.opens;
-              others = λ i y g. keeps_more r.log new (events x) r.made y grown (ap (events_of session y.id) grown ∙ events_of_same session y.id me.0.id r.log new all (r.kept_apart id id i me.0 me.0 y at at l l g)) (know.others i y g);
+              others = λ i y g. keeps_more r.log new (events x) r.made y grown (ap (events_of session y.id) grown
+                  ∙ events_of_same session y.id me.0.id r.log new all (r.kept_apart id id i me.0 me.0 y at at l l g)) (know.others i y g);
               once = know.once;
               sole = know.sole;
               now = λ _. refl;
@@ -287,13 +329,16 @@ module _ {T E O : Type 0} (events : T → List E) (session : E → ℕ) (origin 
             }),
         (λ y more has' list' all'. let same : x ≡ y = ap (inner x) (sym has ∙ has') in
             ap (λ (z : T). (added me.0 (events z) (events_of session me.0.id (events z)), me.1)) same
-            ∙ ap (λ (z : List E). (added me.0 (events y) z, me.1)) (ap (events_of session me.0.id) (list' ∙ ap (λ (z : List E). z ++ more) (know.now is_in)) ∙ (events_of-append session me.0.id r.log more ∙ (λ i. sym know.own i ++ events_of_own session me.0.id more all' i)))),
+            ∙ ap (λ (z : List E). (added me.0 (events y) z, me.1)) (ap (events_of session me.0.id) (list' ∙ ap (λ (z : List E). z ++ more) (know.now is_in))
+            ∙ (events_of-append session me.0.id r.log more ∙ (λ i. sym know.own i ++ events_of_own session me.0.id more all' i)))),
       )
     where
       counted : (log new all : List E) (k : ℕ) → all ≡ log ++ new → k ≡ length new → length all < 2 ^ 64 → (length log + k) % 2 ^ 64 ≡ length all
-      counted log new all k grown is small = let e : length all ≡ length log + k = ap length grown ∙ (length-append log new ∙ ap (λ (n : ℕ). length log + n) (sym is)) in omega arith
+      counted log new all k grown is small = let e : length all ≡ length log + k = ap length grown
+          ∙ (length-append log new ∙ ap (λ (n : ℕ). length log + n) (sym is)) in omega arith
 
-  pub frees_turn : (slots id : ℕ) (me : M) (x : T) → me.0.live ≡ true → me.0.inside ≡ true → me.1 ≡ (0, Some x) ∷ [] → events x ≡ me.0.seen → origin x ≡ me.0.origin
+  pub frees_turn : (slots id : ℕ) (me : M) (x : T) → me.0.live ≡ true → me.0.inside ≡ true → me.1 ≡ (0, Some x) ∷ [] → events x ≡ me.0.seen
+      → origin x ≡ me.0.origin
       → Allows Rule slots id me 1 (λ _. 0) (freed events session origin (step slots 1 0 0 none) me)
   frees_turn slots id me x l is_in has list from s r long at word =
       let h = held_by s r id me.0 at l is_in in let know = r.each id me.0 at l in
@@ -303,7 +348,18 @@ module _ {T E O : Type 0} (events : T → List E) (session : E → ℕ) (origin 
         gives,
         tt,
         moved s r _ _ id me.0 w [] r.log (sym (append-nil r.log)) at l refl refl refl r.small tt
-            record { from = know.from; begun = know.begun; own = know.own; numbered = know.numbered; opens = know.opens; others = know.others; once = know.once; sole = know.sole; now = λ e. absurd (true≢false (sym e)) }
+            record {
+              from = know.from;
+              begun = know.begun;
+              own = know.own;
+              numbered = know.numbered;
+              opens = know.opens;
+              others = know.others;
+              once =
+                  know.once;
+              sole = know.sole;
+              now = λ e. absurd (true≢false (sym e));
+            }
             (λ j u n e m u_in. absurd (n (h.alone j u e m u_in ∙ sym mine)))
             (inl record {
               value = x;
@@ -311,7 +367,8 @@ module _ {T E O : Type 0} (events : T → List E) (session : E → ℕ) (origin 
               list = list ∙ know.now is_in;
               from = from ∙ know.from;
               words = ap (λ (z : List ℕ). set z 1 0) h.words;
-              nobody = each_set (λ j u. u.live ≡ true → u.inside ≡ false) s.views id w (λ _. refl) (λ j u n e m. off u.inside (λ u_in. n (h.alone j u e m u_in ∙ sym mine)));
+              nobody = each_set (λ j u. u.live ≡ true → u.inside ≡ false) s.views id w (λ _. refl)
+                  (λ j u n e m. off u.inside (λ u_in. n (h.alone j u e m u_in ∙ sym mine)));
             }),
         ap (λ (c : List (ℕ × Option T)). (left me.0, rest c)) has,
       )
@@ -326,7 +383,8 @@ module _ {T E O : Type 0} (events : T → List E) (session : E → ℕ) (origin 
   each_snoc P vs w new old j u e = ⊎_elim (old j u) (λ (t : w ≡ u). subst (P j) t (new j)) (at_snoc vs w u j e)
 
   -- no event that the opener has seen has the number of the next pass
-  pub looks_on : (slots id : ℕ) (me : M) → me.0.live ≡ true → me.0.id ≡ 0 → Allows Rule slots id me 0 (λ n. n) (looked events session origin (step slots 0 0 0 none) me)
+  pub looks_on : (slots id : ℕ) (me : M) → me.0.live ≡ true → me.0.id ≡ 0
+      → Allows Rule slots id me 0 (λ n. n) (looked events session origin (step slots 0 0 0 none) me)
   looks_on slots id me l first s r long at small =
       let know = r.each id me.0 at l in
       let log_is : r.log ≡ me.0.seen ++ know.begun.0 = know.begun.1 in
@@ -334,11 +392,13 @@ module _ {T E O : Type 0} (events : T → List E) (session : E → ℕ) (origin 
         me.0,
         keeps,
         tt,
-        subst (λ (z : List ℕ × List (View E O)). Rule record { words = z.0; homes = s.homes; views = z.1 }) (λ i. (sym (same_words s r) i, sym (set_again s.views id me.0 at) i)) r,
+        subst (λ (z : List ℕ × List (View E O)). Rule record { words = z.0; homes = s.homes; views = z.1 })
+            (λ i. (sym (same_words s r) i, sym (set_again s.views id me.0 at) i)) r,
         (
           refl,
           nothing (events_of session (me.0.made + 1) me.0.seen) (events_of session (me.0.made + 1) know.begun.0)
-              (sym (events_of-append session (me.0.made + 1) me.0.seen know.begun.0) ∙ (ap (events_of session (me.0.made + 1)) (sym log_is) ∙ r.no_other (me.0.made + 1) (omega arith))),
+              (sym (events_of-append session (me.0.made + 1) me.0.seen know.begun.0)
+              ∙ (ap (events_of session (me.0.made + 1)) (sym log_is) ∙ r.no_other (me.0.made + 1) (omega arith))),
         ),
       )
     where
@@ -400,7 +460,8 @@ module _ {T E O : Type 0} (events : T → List E) (session : E → ℕ) (origin 
             }));
         apart = λ j k x y e f a b same. ⊎_elim
             (λ (e' : get_elem? vs j ≡ some x). ⊎_elim
-            (λ (f' : get_elem? vs k ≡ some y). let p = back j x e' in let q = back k y f' in r.apart j k p.old q.old p.there q.there (p.live ∙ a) (q.live ∙ b) (p.id ∙ (same ∙ sym q.id)))
+            (λ (f' : get_elem? vs k ≡ some y). let p = back j x e' in let q = back k y f' in
+            r.apart j k p.old q.old p.there q.there (p.live ∙ a) (q.live ∙ b) (p.id ∙ (same ∙ sym q.id)))
             (λ (t : (k ≡ length vs) × (newcomer v ≡ y)). absurd (new_id j x e' a (same ∙ ap (λ (z : View E O). z.id) (sym t.1))))
             (snoc_place vs (newcomer v) y k f))
             (λ (t : (j ≡ length vs) × (newcomer v ≡ x)). ⊎_elim
@@ -409,9 +470,12 @@ module _ {T E O : Type 0} (events : T → List E) (session : E → ℕ) (origin 
             (snoc_place vs (newcomer v) y k f))
             (snoc_place vs (newcomer v) x j e);
         kept_apart = λ j k i x y z e f a b g same. ⊎_elim
-            (λ (e' : get_elem? vs j ≡ some x). let p = back j x e' in let g' : get_elem? p.old.kept i ≡ some z = ap (λ (h : List (Kept E)). get_elem? h i) p.kept ∙ g in ⊎_elim
-            (λ (f' : get_elem? vs k ≡ some y). let q = back k y f' in r.kept_apart j k i p.old q.old z p.there q.there (p.live ∙ a) (q.live ∙ b) g' (same ∙ sym q.id))
-            (λ (t : (k ≡ length vs) × (newcomer v ≡ y)). let n = ((r.each j p.old p.there (p.live ∙ a)).others i z g').numbered in let is : z.id ≡ v.made + 1 = same ∙ ap (λ (z : View E O). z.id) (sym t.1) in omega arith)
+            (λ (e' : get_elem? vs j ≡ some x). let p = back j x e' in let g' : get_elem? p.old.kept i ≡ some z =
+            ap (λ (h : List (Kept E)). get_elem? h i) p.kept ∙ g in ⊎_elim
+            (λ (f' : get_elem? vs k ≡ some y). let q = back k y f' in
+            r.kept_apart j k i p.old q.old z p.there q.there (p.live ∙ a) (q.live ∙ b) g' (same ∙ sym q.id))
+            (λ (t : (k ≡ length vs) × (newcomer v ≡ y)). let n = ((r.each j p.old p.there (p.live ∙ a)).others i z g').numbered in let is : z.id ≡ v.made + 1 =
+            same ∙ ap (λ (z : View E O). z.id) (sym t.1) in omega arith)
             (snoc_place vs (newcomer v) y k f))
             (λ (t : (j ≡ length vs) × (newcomer v ≡ x)). some-ne-none z (sym (ap (λ (h : View E O). get_elem? h.kept i) t.1 ∙ g)))
             (snoc_place vs (newcomer v) x j e);
@@ -422,10 +486,13 @@ module _ {T E O : Type 0} (events : T → List E) (session : E → ℕ) (origin 
               list = f.list;
               from = f.from;
               words = f.words;
-              nobody = each_snoc (λ j u. u.live ≡ true → u.inside ≡ false) vs (newcomer v) (λ j _. refl) (each_set (λ j u. u.live ≡ true → u.inside ≡ false) s.views id (parted v) (λ _. out) (λ j u _ e m. f.nobody j u e m));
+              nobody = each_snoc (λ j u. u.live ≡ true → u.inside ≡ false) vs (newcomer v) (λ j _. refl)
+                  (each_set (λ j u. u.live ≡ true → u.inside ≡ false) s.views id (parted v) (λ _. out) (λ j u _ e m. f.nobody j u e m));
             })
             (λ (h : IsHeld events session origin r.log s).
-            let other : h.holder ≢ id = λ e. true≢false (sym h.is_in ∙ (ap (λ (z : View E O). z.inside) (some-injective _ _ (sym h.there ∙ (ap (get_elem? s.views) e ∙ at))) ∙ out)) in inr record {
+            let other : h.holder ≢ id =
+            λ e. true≢false (sym h.is_in ∙ (ap (λ (z : View E O). z.inside) (some-injective _ _ (sym h.there ∙ (ap (get_elem? s.views) e ∙ at))) ∙ out)) in
+            inr record {
               away = h.away;
               turn = h.turn;
               busy = h.busy;
@@ -436,13 +503,16 @@ module _ {T E O : Type 0} (events : T → List E) (session : E → ℕ) (origin 
               is_live = h.is_live;
               is_in = h.is_in;
               alone = each_snoc (λ j u. u.live ≡ true → u.inside ≡ true → j ≡ h.holder) vs (newcomer v) (λ j _ e. absurd (true≢false (sym e)))
-                  (each_set (λ j u. u.live ≡ true → u.inside ≡ true → j ≡ h.holder) s.views id (parted v) (λ _ e. absurd (true≢false (sym e ∙ out))) (λ j u _ e m i. h.alone j u e m i));
+                  (each_set (λ j u. u.live ≡ true → u.inside ≡ true → j ≡ h.holder) s.views id (parted v) (λ _ e. absurd (true≢false (sym e ∙ out)))
+                  (λ j u _ e m i. h.alone j u e m i));
             })
             r.phase;
       }
     where
       new_id : (j : ℕ) (u : View E O) → get_elem? (set s.views id (parted v)) j ≡ some u → u.live ≡ true → u.id ≡ v.made + 1 → ⊥
-      new_id j u e m is = let p = was s.views id v (parted v) at refl refl refl j u e in let n : p.old.id ≤ r.made = (r.each j p.old p.there (p.live ∙ m)).numbered in let same : p.old.id ≡ u.id = p.id in let made_is : v.made ≡ r.made = (r.each id v at l).opens first in omega arith
+      new_id j u e m is = let p = was s.views id v (parted v) at refl refl refl j u e in let n : p.old.id ≤ r.made =
+          (r.each j p.old p.there (p.live ∙ m)).numbered in let same : p.old.id ≡ u.id = p.id in let made_is : v.made ≡ r.made =
+          (r.each id v at l).opens first in omega arith
 
   begins_longer : (log xs ys : List E) → Begins log xs → Begins log ys → Begins log (longer xs ys)
   begins_longer log xs ys a b = pick (nat_lt (length xs) (length ys))
@@ -477,7 +547,8 @@ module _ {T E O : Type 0} (events : T → List E) (session : E → ℕ) (origin 
       (at_set vs id j (joined v w) u t.1))
       (at_set (set vs id (joined v w)) other j (gone nowhere) u e)
 
-  pub joins_pass : (id : ℕ) (v : View E O) (other : ℕ) (w : View E O) (nowhere : O) → v.live ≡ true → w.live ≡ true → v.id ≡ 0 → v.inside ≡ false → w.inside ≡ false
+  pub joins_pass : (id : ℕ) (v : View E O) (other : ℕ) (w : View E O) (nowhere : O) → v.live ≡ true → w.live ≡ true → v.id ≡ 0 → v.inside ≡ false
+      → w.inside ≡ false
       → Joins Rule id v other w (joined v w) (gone nowhere)
   joins_pass id v other w nowhere l lw first out out' s r at n there =
       let both = joined v w in
@@ -491,7 +562,9 @@ module _ {T E O : Type 0} (events : T → List E) (session : E → ℕ) (origin 
         own = me.own;
         numbered = me.numbered;
         opens = me.opens;
-        others = λ i x e. ⊎_elim (me.others i x) (λ (t : kept_of w ≡ x). subst (Keeps session r.log r.made) t record { own = them.own; begun = them.begun; numbered = them.numbered }) (at_snoc v.kept (kept_of w) x i e);
+        others = λ i x e. ⊎_elim (me.others i x)
+            (λ (t : kept_of w ≡ x). subst (Keeps session r.log r.made) t record { own = them.own; begun = them.begun; numbered = them.numbered })
+            (at_snoc v.kept (kept_of w) x i e);
         once = λ i k x y e f q. ⊎_elim
             (λ (e' : get_elem? v.kept i ≡ some x). ⊎_elim
             (λ (f' : get_elem? v.kept k ≡ some y). me.once i k x y e' f' q)
@@ -514,10 +587,12 @@ module _ {T E O : Type 0} (events : T → List E) (session : E → ℕ) (origin 
         no_other = r.no_other;
         each = each_set (λ j u. u.live ≡ true → Knows session o r.log r.made u) vs other (gone nowhere) (λ e. absurd (true≢false (sym e)))
             (λ j u _. each_set (λ j u. u.live ≡ true → Knows session o r.log r.made u) s.views id both (λ _. joined_knows) (λ j u _. r.each j u) j u);
-        apart = λ j k x y e f a b same. let p = place j x e a in let q = place k y f b in r.apart j k p.old q.old p.there q.there p.live q.live (p.same ∙ (same ∙ sym q.same));
+        apart = λ j k x y e f a b same. let p = place j x e a in let q = place k y f b in
+            r.apart j k p.old q.old p.there q.there p.live q.live (p.same ∙ (same ∙ sym q.same));
         kept_apart = λ j k i x y z e f a b g same. let p = place j x e a in let q = place k y f b in ⊎_elim
             (λ (was_kept : get_elem? p.old.kept i ≡ some z). r.kept_apart j k i p.old q.old z p.there q.there p.live q.live was_kept (same ∙ sym q.same))
-            (λ (is_w : kept_of w ≡ z). q.not_other (r.apart k other q.old w q.there at_w q.live lw (q.same ∙ (sym same ∙ ap (λ (h : Kept E). h.id) (sym is_w)))))
+            (λ (is_w : kept_of w ≡ z). q.not_other
+            (r.apart k other q.old w q.there at_w q.live lw (q.same ∙ (sym same ∙ ap (λ (h : Kept E). h.id) (sym is_w)))))
             (p.kept i z g);
         phase = ⊎_elim
             (λ (f : IsFree events session origin o r.log s). inl record {
@@ -526,11 +601,15 @@ module _ {T E O : Type 0} (events : T → List E) (session : E → ℕ) (origin 
               list = f.list;
               from = f.from;
               words = f.words;
-              nobody = each_set (λ j u. u.live ≡ true → u.inside ≡ false) vs other (gone nowhere) (λ _. refl) (λ j u _. each_set (λ j u. u.live ≡ true → u.inside ≡ false) s.views id both (λ _. out) (λ j u _. f.nobody j u) j u);
+              nobody = each_set (λ j u. u.live ≡ true → u.inside ≡ false) vs other (gone nowhere) (λ _. refl)
+                  (λ j u _. each_set (λ j u. u.live ≡ true → u.inside ≡ false) s.views id both (λ _. out) (λ j u _. f.nobody j u) j u);
             })
             (λ (h : IsHeld events session origin r.log s).
-            let not_me : h.holder ≢ id = λ e. true≢false (sym h.is_in ∙ (ap (λ (z : View E O). z.inside) (some-injective _ _ (sym h.there ∙ (ap (get_elem? s.views) e ∙ at))) ∙ out)) in
-            let not_them : h.holder ≢ other = λ e. true≢false (sym h.is_in ∙ (ap (λ (z : View E O). z.inside) (some-injective _ _ (sym h.there ∙ (ap (get_elem? s.views) e ∙ at_w))) ∙ out')) in inr record {
+            let not_me : h.holder ≢ id =
+            λ e. true≢false (sym h.is_in ∙ (ap (λ (z : View E O). z.inside) (some-injective _ _ (sym h.there ∙ (ap (get_elem? s.views) e ∙ at))) ∙ out)) in
+            let not_them : h.holder ≢ other =
+            λ e. true≢false (sym h.is_in
+            ∙ (ap (λ (z : View E O). z.inside) (some-injective _ _ (sym h.there ∙ (ap (get_elem? s.views) e ∙ at_w))) ∙ out')) in inr record {
               away = h.away;
               turn = h.turn;
               busy = h.busy;
@@ -541,13 +620,15 @@ module _ {T E O : Type 0} (events : T → List E) (session : E → ℕ) (origin 
               is_live = h.is_live;
               is_in = h.is_in;
               alone = each_set (λ j u. u.live ≡ true → u.inside ≡ true → j ≡ h.holder) vs other (gone nowhere) (λ e. absurd (true≢false (sym e)))
-                  (λ j u _. each_set (λ j u. u.live ≡ true → u.inside ≡ true → j ≡ h.holder) s.views id both (λ _ e. absurd (true≢false (sym e ∙ out))) (λ j u _. h.alone j u) j u);
+                  (λ j u _. each_set (λ j u. u.live ≡ true → u.inside ≡ true → j ≡ h.holder) s.views id both (λ _ e. absurd (true≢false (sym e ∙ out)))
+                  (λ j u _. h.alone j u) j u);
             })
             r.phase;
       }
 
   -- the opener closes the lock: the value is at home, since whoever had it would not have been joined
-  pub closes_lock : (lock : TableId) (id : ℕ) (v : View E O) (ws : List ℕ) (xs : List (Option T)) → v.live ≡ true → v.id ≡ 0 → v.inside ≡ false → AllJoined (known_of lock v) → Final (Seen Rule id v) ws xs
+  pub closes_lock : (lock : TableId) (id : ℕ) (v : View E O) (ws : List ℕ) (xs : List (Option T)) → v.live ≡ true → v.id ≡ 0 → v.inside ≡ false
+      → AllJoined (known_of lock v) → Final (Seen Rule id v) ws xs
       → (x : T) × (get_elem? xs 0 ≡ some (Some x)) × (origin x ≡ v.origin) × ClosedAs session (events x) (known_of lock v)
   closes_lock lock id v ws xs l first out all final =
       let s = final.0 in let r : Rule s = final.1.0 in let at = final.1.1 in let me = r.each id v at l in
@@ -565,7 +646,8 @@ module _ {T E O : Type 0} (events : T → List E) (session : E → ℕ) (origin 
         },
       ))
       (λ (h : IsHeld events session origin r.log s).
-      let not_me : h.holder ≢ id = λ e. true≢false (sym h.is_in ∙ (ap (λ (z : View E O). z.inside) (some-injective _ _ (sym h.there ∙ (ap (get_elem? s.views) e ∙ at))) ∙ out)) in
+      let not_me : h.holder ≢ id =
+      λ e. true≢false (sym h.is_in ∙ (ap (λ (z : View E O). z.inside) (some-injective _ _ (sym h.there ∙ (ap (get_elem? s.views) e ∙ at))) ∙ out)) in
       let k = r.each h.holder h.view h.there h.is_live in
       let some_id : h.view.id ≢ 0 = λ e. not_me (r.apart h.holder id h.view v h.there at h.is_live l (e ∙ sym first)) in
       let numbered : h.view.id ≤ r.made = k.numbered in
@@ -574,12 +656,14 @@ module _ {T E O : Type 0} (events : T → List E) (session : E → ℕ) (origin 
       r.phase
 
   -- the steps that give the value back, one after another
-  pub left_as : (old : View E O) (x : T) (new : List E) (a b c : M) → a ≡ (old, (0, Some x) ∷ []) → b ≡ (added a.0 (events x) (a.0.mine ++ new), a.1) → c ≡ (left b.0, [])
+  pub left_as : (old : View E O) (x : T) (new : List E) (a b c : M) → a ≡ (old, (0, Some x) ∷ []) → b ≡ (added a.0 (events x) (a.0.mine ++ new), a.1)
+      → c ≡ (left b.0, [])
       → c ≡ (left (added old (events x) (old.mine ++ new)), [])
   left_as old x new a b c p q r = r ∙ ap (λ (m : M). (left m.0, [])) (q ∙ ap (λ (m : M). (added m.0 (events x) (m.0.mine ++ new), m.1)) p)
 
 -- what contracts see of a pass that has left
-pub left_known : {E O : Type 0} (lock lock' : TableId) (p : Known E O) (v w : View E O) (log own : List E) → known_of lock v ≡ p → lock' ≡ lock → w ≡ left (added v log own)
+pub left_known : {E O : Type 0} (lock lock' : TableId) (p : Known E O) (v w : View E O) (log own : List E) → known_of lock v ≡ p → lock' ≡ lock
+    → w ≡ left (added v log own)
     → known_of lock' w ≡ record p { inside = false; seen = log; mine = w.mine }
 left_known {E} {O} lock lock' p v w log own known same is =
     (λ i. known_of (same i) (is i))

@@ -40,7 +40,8 @@ module _ {E O : Type 0} where
   abbrev pub AllJoined : Known E O → Type 0
   AllJoined p = (k : ℕ) → 0 < k → k ≤ p.made → (i : ℕ) × (x : Kept E) × (get_elem? p.kept i ≡ some x) × (x.id ≡ k)
 
-  -- what the list says to the opener in the end: it begins with what each pass saw, has of each number exactly what its pass had, and no event of a number that was not given
+  -- what the list says to the opener in the end: it begins with what each pass saw, has of each number exactly what its
+  -- pass had, and no event of a number that was not given
   pub record ClosedAs (session : E → ℕ) (log : List E) (p : Known E O) : Type 0 where
     pub begins : Begins log p.seen
     pub own : events_of session 0 log ≡ p.mine

@@ -82,7 +82,8 @@ module _ {T E O : Type 0} (events : T → List E) (session : E → ℕ) (origin 
 
   -- the seat has seen the events of the value that it holds
   abbrev pub raised : Step (Option T) → Mine → ℕ → Mine → Type 0
-  raised st m found m' = (x : T) (new : List E) → m.1 ≡ (0, Some x) ∷ [] → events x ≡ m.0.seen ++ new → AllOf session m.0.id new → m' ≡ (added m.0 (events x) (m.0.mine ++ new), m.1)
+  raised st m found m' = (x : T) (new : List E) → m.1 ≡ (0, Some x) ∷ [] → events x ≡ m.0.seen ++ new → AllOf session m.0.id new
+      → m' ≡ (added m.0 (events x) (m.0.mine ++ new), m.1)
 
   -- nothing changes, and no event that the opener has seen has the number of the next pass
   abbrev pub looked : Step (Option T) → Mine → ℕ → Mine → Type 0

@@ -35,7 +35,17 @@ module _ {E O : Type 0} where
 
   -- another view was joined to it
   abbrev pub joined : View E O → View E O → View E O
-  joined v w = record { live = v.live; inside = v.inside; id = v.id; made = v.made; origin = v.origin; seen = longer v.seen w.seen; mine = v.mine; kept = v.kept ++ kept_of w ∷ [] }
+  joined v w = record {
+    live = v.live;
+    inside = v.inside;
+    id = v.id;
+    made = v.made;
+    origin = v.origin;
+    seen = longer v.seen w.seen;
+    mine = v.mine;
+    kept =
+        v.kept ++ kept_of w ∷ [];
+  }
 
   -- a spent view
   abbrev pub gone : O → View E O

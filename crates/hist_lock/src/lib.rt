@@ -22,4 +22,3 @@ pub use lock::{HistLock, NoMemory};
 pub use pass::Pass;
 pub use story::Storied;
 pub use view::Kept;
-

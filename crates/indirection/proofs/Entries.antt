@@ -40,11 +40,15 @@ module _ (i page place : ℕ) (leaf : List ℕ) (fits : i < 340) (long : length 
   pub entry_page-apart : (j : ℕ) → j < 340 → j ≢ i → entry_page j (with_entry i page place leaf) ≡ entry_page j leaf
   entry_page-apart j below differ =
       let h = long_half in
-      field_apart 8 (entry_at j) 4 (with_field 8 leaf (entry_at i) page) (entry_at i + 8) place (⊎_elim (λ less. inl (omega (arith, less))) (λ past. inr (omega (arith, past))) (order j i differ)) (omega (arith, fits, h))
-      ∙ field_apart 8 (entry_at j) 8 leaf (entry_at i) page (⊎_elim (λ less. inl (omega (arith, less))) (λ past. inr (omega (arith, past))) (order j i differ)) (omega (arith, fits, long))
+      field_apart 8 (entry_at j) 4 (with_field 8 leaf (entry_at i) page) (entry_at i + 8) place
+      (⊎_elim (λ less. inl (omega (arith, less))) (λ past. inr (omega (arith, past))) (order j i differ)) (omega (arith, fits, h))
+      ∙ field_apart 8 (entry_at j) 8 leaf (entry_at i) page (⊎_elim (λ less. inl (omega (arith, less))) (λ past. inr (omega (arith, past))) (order j i differ))
+      (omega (arith, fits, long))
 
   pub entry_place-apart : (j : ℕ) → j < 340 → j ≢ i → entry_place j (with_entry i page place leaf) ≡ entry_place j leaf
   entry_place-apart j below differ =
       let h = long_half in
-      field_apart 4 (entry_at j + 8) 4 (with_field 8 leaf (entry_at i) page) (entry_at i + 8) place (⊎_elim (λ less. inl (omega (arith, less))) (λ past. inr (omega (arith, past))) (order j i differ)) (omega (arith, fits, h))
-      ∙ field_apart 4 (entry_at j + 8) 8 leaf (entry_at i) page (⊎_elim (λ less. inl (omega (arith, less))) (λ past. inr (omega (arith, past))) (order j i differ)) (omega (arith, fits, long))
+      field_apart 4 (entry_at j + 8) 4 (with_field 8 leaf (entry_at i) page) (entry_at i + 8) place
+      (⊎_elim (λ less. inl (omega (arith, less))) (λ past. inr (omega (arith, past))) (order j i differ)) (omega (arith, fits, h))
+      ∙ field_apart 4 (entry_at j + 8) 8 leaf (entry_at i) page
+      (⊎_elim (λ less. inl (omega (arith, less))) (λ past. inr (omega (arith, past))) (order j i differ)) (omega (arith, fits, long))

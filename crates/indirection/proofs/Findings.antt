@@ -47,7 +47,8 @@ module _ (k : Known) (all : PageId → Option (List ℕ)) (space : Space) where
       → Gives k all space (linked k space kind from n) (bytes (seen k all space) n) (IsTrue (is_there k (page_in space n)))
   linked-is kind from n positive past page =
       let id = page_in space n in let source = page_in space from in let b = bytes (seen k all space) n in let long = page.1 in
-      subst (λ t. Gives k all space (if t then Err (Damaged source) else and_then (asked k source id) (λ b. tested id (slice_index b 0 == kind) b)) b (IsTrue (is_there k id))) (sym (not_zero n past))
+      subst (λ t. Gives k all space (if t then Err (Damaged source) else and_then (asked k source id) (λ b. tested id (slice_index b 0 == kind) b)) b
+      (IsTrue (is_there k id))) (sym (not_zero n past))
       (gives_then k all space (asked k source id) (λ b. tested id (slice_index b 0 == kind) b) b b (asked-is k all space source n (omega (arith, long)))
       (λ there. inl (ap (λ t. tested id t b) (eq-eqb (slice_index b 0) kind page.0), there)))
     where
@@ -56,86 +57,129 @@ module _ (k : Known) (all : PageId → Option (List ℕ)) (space : Space) where
 
   -- what the head says
   pub numbers_seen : Numbers
-  numbers_seen = record { root = root_number (seen k all space); first_free = first_free (bytes (seen k all space) 0); highest = highest (bytes (seen k all space) 0) }
+  numbers_seen = record {
+    root = root_number (seen k all space);
+    first_free = first_free (bytes (seen k all space) 0);
+    highest =
+        highest (bytes (seen k all space) 0);
+  }
 
   pub numbers-is : IsPage (seen k all space) 2 0 → 0 < next_page (bytes (seen k all space) 0) → highest (bytes (seen k all space) 0) ≤ MOST_NUMBERS
-      → Gives k all space (numbers_in k space) (record { root = root_number (seen k all space); first_free = first_free (bytes (seen k all space) 0); highest = highest (bytes (seen k all space) 0) }) (IsTrue (is_there k (page_in space 0)))
+      → Gives k all space (numbers_in k space)
+      (record {
+        root = root_number (seen k all space);
+        first_free = first_free (bytes (seen k all space) 0);
+        highest =
+            highest (bytes (seen k all space) 0);
+      }) (IsTrue (is_there k (page_in space 0)))
   unfolding root_number
-  numbers-is page next most = gives_then k all space (numbers_head k space) _ (bytes (seen k all space) 0) _ (head-is page next most) (λ there. inl (refl, there))
+  numbers-is page next most =
+      gives_then k all space (numbers_head k space) _ (bytes (seen k all space) 0) _ (head-is page next most) (λ there. inl (refl, there))
 
   module _ (roots directories leaves : ℕ) (t : IsTable (seen k all space) roots directories leaves) (rooted : 0 < roots) where
     root_past : root_number (seen k all space) ≢ 0
     root_past = kinds_apart (seen k all space) DIRECTORY_KIND 2 (root_number (seen k all space)) 0 (λ is. absurd (omega (arith, is))) (t.root rooted).0 t.head
 
     directory_past : (d : ℕ) → d < directories → directory_number (seen k all space) d ≢ 0
-    directory_past d below = kinds_apart (seen k all space) DIRECTORY_KIND 2 (directory_number (seen k all space) d) 0 (λ is. absurd (omega (arith, is))) (t.directory d below).0 t.head
+    directory_past d below =
+        kinds_apart (seen k all space) DIRECTORY_KIND 2 (directory_number (seen k all space) d) 0 (λ is. absurd (omega (arith, is)))
+        (t.directory d below).0 t.head
 
     leaf_past : (l : ℕ) → l < leaves → leaf_number (seen k all space) l ≢ 0
-    leaf_past l below = kinds_apart (seen k all space) LEAF_KIND 2 (leaf_number (seen k all space) l) 0 (λ is. absurd (omega (arith, is))) (t.leaf l below).0 t.head
+    leaf_past l below = kinds_apart (seen k all space) LEAF_KIND 2 (leaf_number (seen k all space) l) 0 (λ is. absurd (omega (arith, is)))
+        (t.leaf l below).0 t.head
 
-    pub root-is : Gives k all space (linked k space DIRECTORY_KIND 0 (root_number (seen k all space))) (bytes (seen k all space) (root_number (seen k all space))) (IsTrue (is_there k (page_in space (root_number (seen k all space)))))
+    pub root-is : Gives k all space (linked k space DIRECTORY_KIND 0 (root_number (seen k all space)))
+        (bytes (seen k all space) (root_number (seen k all space))) (IsTrue (is_there k (page_in space (root_number (seen k all space)))))
     root-is = linked-is DIRECTORY_KIND 0 (root_number (seen k all space)) (omega arith) root_past (t.root rooted).0
 
     pub directory-is : (from d : ℕ) → d < directories
-        → Gives k all space (linked k space DIRECTORY_KIND from (directory_number (seen k all space) d)) (bytes (seen k all space) (directory_number (seen k all space) d)) (IsTrue (is_there k (page_in space (directory_number (seen k all space) d))))
-    directory-is from d below = linked-is DIRECTORY_KIND from (directory_number (seen k all space) d) (omega arith) (directory_past d below) (t.directory d below).0
+        → Gives k all space (linked k space DIRECTORY_KIND from (directory_number (seen k all space) d))
+        (bytes (seen k all space) (directory_number (seen k all space) d)) (IsTrue (is_there k (page_in space (directory_number (seen k all space) d))))
+    directory-is from d below =
+        linked-is DIRECTORY_KIND from (directory_number (seen k all space) d) (omega arith) (directory_past d below) (t.directory d below).0
 
     pub leaf-is : (from l : ℕ) → l < leaves
-        → Gives k all space (linked k space LEAF_KIND from (leaf_number (seen k all space) l)) (bytes (seen k all space) (leaf_number (seen k all space) l)) (IsTrue (is_there k (page_in space (leaf_number (seen k all space) l))))
+        → Gives k all space (linked k space LEAF_KIND from (leaf_number (seen k all space) l)) (bytes (seen k all space) (leaf_number (seen k all space) l))
+        (IsTrue (is_there k (page_in space (leaf_number (seen k all space) l))))
     leaf-is from l below = linked-is LEAF_KIND from (leaf_number (seen k all space) l) (omega arith) (leaf_past l below) (t.leaf l below).0
 
-    pub directory_in-is : (leaf : ℕ) → leaf / 511 < directories → Gives k all space (directory_in k space (root_number (seen k all space)) leaf) (directory_number (seen k all space) (leaf / 511)) (Unit {0})
+    pub directory_in-is : (leaf : ℕ) → leaf / 511 < directories
+        → Gives k all space (directory_in k space (root_number (seen k all space)) leaf) (directory_number (seen k all space) (leaf / 511)) (Unit {0})
     unfolding directory_number
-    directory_in-is leaf below = gives_then k all space (linked k space DIRECTORY_KIND 0 (root_number (seen k all space))) (λ b. Ok (link (leaf / 511) b)) (bytes (seen k all space) (root_number (seen k all space))) _ root-is (λ there. inl (refl, tt))
+    directory_in-is leaf below =
+        gives_then k all space (linked k space DIRECTORY_KIND 0 (root_number (seen k all space))) (λ b. Ok (link (leaf / 511) b))
+        (bytes (seen k all space) (root_number (seen k all space))) _ root-is (λ there. inl (refl, tt))
 
     pub leaf_in-is : (leaf : ℕ) → leaf / 511 < directories
-        → Gives k all space (leaf_in k space (root_number (seen k all space)) (directory_number (seen k all space) (leaf / 511)) leaf) (leaf_number (seen k all space) leaf) (Unit {0})
+        → Gives k all space (leaf_in k space (root_number (seen k all space)) (directory_number (seen k all space) (leaf / 511)) leaf)
+        (leaf_number (seen k all space) leaf) (Unit {0})
     unfolding leaf_number
     leaf_in-is leaf below =
-        gives_then k all space (linked k space DIRECTORY_KIND (root_number (seen k all space)) (directory_number (seen k all space) (leaf / 511))) (λ b. Ok (link (leaf % 511) b)) (bytes (seen k all space) (directory_number (seen k all space) (leaf / 511))) _
+        gives_then k all space (linked k space DIRECTORY_KIND (root_number (seen k all space)) (directory_number (seen k all space) (leaf / 511)))
+        (λ b. Ok (link (leaf % 511) b)) (bytes (seen k all space) (directory_number (seen k all space) (leaf / 511))) _
         (directory-is (root_number (seen k all space)) (leaf / 511) below) (λ there. inl (refl, tt))
 
     pub entry_seen : ℕ → ℕ → Entry
     entry_seen page place = if page == 0 then Free place else Taken (record { layer = page / 256; page = page % 256; at = place })
 
-    entry_of-is : (leaf page place : ℕ) → (page ≡ 0) ⊎ (place < 65536) → entry_of space leaf page place ≡ Ok (if page == 0 then Free place else Taken (record { layer = page / 256; page = page % 256; at = place }))
+    entry_of-is : (leaf page place : ℕ) → (page ≡ 0) ⊎ (place < 65536)
+        → entry_of space leaf page place ≡ Ok (if page == 0 then Free place else Taken (record { layer = page / 256; page = page % 256; at = place }))
     entry_of-is leaf page place sound = at (page == 0) (nat_lt place 65536) refl refl
       where
         at : (z s : Bool) → (page == 0) ≡ z → nat_lt place 65536 ≡ s
-            → (if z then Ok (Free place) else if s then Ok (Taken (record { layer = page / 256; page = page % 256; at = place })) else Err (Damaged (page_in space leaf))) ≡ Ok (if z then Free place else Taken (record { layer = page / 256; page = page % 256; at = place }))
+            → (if z then Ok (Free place) else if s then Ok (Taken (record { layer = page / 256; page = page % 256; at = place })) else Err
+            (Damaged (page_in space leaf))) ≡ Ok (if z then Free place else Taken (record { layer = page / 256; page = page % 256; at = place }))
         at true s z_is s_is = refl
         at false true z_is s_is = refl
-        at false false z_is s_is = let past = ltb-false place 65536 s_is in absurd (⊎_elim (λ zero_is. true≢false (sym (eq-eqb page 0 zero_is) ∙ z_is)) (λ small. absurd (omega (arith, past, small))) sound)
+        at false false z_is s_is = let past = ltb-false place 65536 s_is in
+            absurd (⊎_elim (λ zero_is. true≢false (sym (eq-eqb page 0 zero_is) ∙ z_is)) (λ small. absurd (omega (arith, past, small))) sound)
 
-    pub found-is : (h : ℕ) → leaf_index h < leaves → leaf_index h / 511 < directories → (page_at (seen k all space) h ≡ 0) ⊎ (place_at (seen k all space) h < 65536)
+    pub found-is : (h : ℕ) → leaf_index h < leaves → leaf_index h / 511 < directories
+        → (page_at (seen k all space) h ≡ 0) ⊎ (place_at (seen k all space) h < 65536)
         → Gives k all space (found_in k space (root_number (seen k all space)) h)
-        (record { number = leaf_number (seen k all space) (leaf_index h); entry = if page_at (seen k all space) h == 0 then Free (place_at (seen k all space) h) else Taken (record { layer = page_at (seen k all space) h / 256; page = page_at (seen k all space) h % 256; at = place_at (seen k all space) h }) })
+        (record {
+          number = leaf_number (seen k all space) (leaf_index h);
+          entry =
+              if page_at (seen k all space) h == 0 then Free (place_at (seen k all space) h) else Taken
+              (record { layer = page_at (seen k all space) h / 256; page = page_at (seen k all space) h % 256; at = place_at (seen k all space) h });
+        })
         (IsTrue (is_there k (page_in space (leaf_number (seen k all space) (leaf_index h)))))
     unfolding page_at place_at
     found-is h below above sound =
-        let p = seen k all space in let l = leaf_index h in let d = directory_number p (l / 511) in let n = leaf_number p l in let b = bytes p n in let i = entry_index h in
-        gives_then k all space (directory_in k space (root_number p) l) (λ directory. and_then (leaf_in k space (root_number p) directory l) (λ leaf. and_then (linked k space LEAF_KIND directory leaf) (λ bytes. and_then (entry_of space leaf (entry_page i bytes) (entry_place i bytes)) (λ entry. Ok (record { number = leaf; entry = entry })))))
+        let p = seen k all space in let l = leaf_index h in let d = directory_number p (l / 511) in let n = leaf_number p l in let b = bytes p n in let i =
+        entry_index h in
+        gives_then k all space (directory_in k space (root_number p) l)
+        (λ directory. and_then (leaf_in k space (root_number p) directory l)
+        (λ leaf. and_then (linked k space LEAF_KIND directory leaf)
+        (λ bytes. and_then (entry_of space leaf (entry_page i bytes) (entry_place i bytes)) (λ entry. Ok (record { number = leaf; entry = entry })))))
         d _ (directory_in-is l above) (λ _.
-        gives_then k all space (leaf_in k space (root_number p) d l) (λ leaf. and_then (linked k space LEAF_KIND d leaf) (λ bytes. and_then (entry_of space leaf (entry_page i bytes) (entry_place i bytes)) (λ entry. Ok (record { number = leaf; entry = entry }))))
+        gives_then k all space (leaf_in k space (root_number p) d l)
+        (λ leaf. and_then (linked k space LEAF_KIND d leaf)
+        (λ bytes. and_then (entry_of space leaf (entry_page i bytes) (entry_place i bytes)) (λ entry. Ok (record { number = leaf; entry = entry }))))
         n _ (leaf_in-is l above) (λ _.
-        gives_then k all space (linked k space LEAF_KIND d n) (λ bytes. and_then (entry_of space n (entry_page i bytes) (entry_place i bytes)) (λ entry. Ok (record { number = n; entry = entry })))
+        gives_then k all space (linked k space LEAF_KIND d n)
+        (λ bytes. and_then (entry_of space n (entry_page i bytes) (entry_place i bytes)) (λ entry. Ok (record { number = n; entry = entry })))
         b _ (leaf-is d l below) (λ there.
         inl (ap (λ r. and_then r (λ entry. Ok (record { number = n; entry = entry }))) (entry_of-is n (entry_page i b) (entry_place i b) sound), there))))
 
-entry_address : (o : Option Addr) (listed : Bool) (page place : ℕ) → EntryMeans o listed page place → address_of (if page == 0 then Free place else Taken (record { layer = page / 256; page = page % 256; at = place })) ≡ o
+entry_address : (o : Option Addr) (listed : Bool) (page place : ℕ) → EntryMeans o listed page place
+    → address_of (if page == 0 then Free place else Taken (record { layer = page / 256; page = page % 256; at = place })) ≡ o
 entry_address (Some a) listed page place is = at (page == 0) refl
   where
     at : (b : Bool) → (page == 0) ≡ b → address_of (if b then Free place else Taken (record { layer = page / 256; page = page % 256; at = place })) ≡ Some a
     at true zero_is = let none = eqb-true page 0 zero_is in let some = is.1 in absurd (omega (arith, none, some))
     at false past = ap Some (sym is.0)
-entry_address None listed page place is = ap (λ b. address_of (if b then Free place else Taken (record { layer = page / 256; page = page % 256; at = place }))) (eq-eqb page 0 is.0)
+entry_address None listed page place is =
+    ap (λ b. address_of (if b then Free place else Taken (record { layer = page / 256; page = page % 256; at = place }))) (eq-eqb page 0 is.0)
 
 pub entry_sound : (o : Option Addr) (listed : Bool) (page place : ℕ) → EntryMeans o listed page place → (page ≡ 0) ⊎ (place < 65536)
 entry_sound (Some a) listed page place is = inr is.2
 entry_sound None listed page place is = inl is.0
 
 -- a number that is 0 or past the highest
-pub out_or_in : (h top : ℕ) {P : Type 0} → ((h ≡ 0) ⊎ (top < h) → (h == 0 || nat_lt top h) ≡ true → P) → (0 < h → h ≤ top → (h == 0 || nat_lt top h) ≡ false → P) → P
+pub out_or_in : (h top : ℕ) {P : Type 0} → ((h ≡ 0) ⊎ (top < h) → (h == 0 || nat_lt top h) ≡ true → P)
+    → (0 < h → h ≤ top → (h == 0 || nat_lt top h) ≡ false → P) → P
 out_or_in h top {P = P} out inside = at (h == 0) (nat_lt top h) refl refl
   where
     positive : (h : ℕ) → h ≢ 0 → 0 < h
@@ -148,29 +192,50 @@ out_or_in h top {P = P} out inside = at (h == 0) (nat_lt top h) refl refl
         inside (positive h (λ none. true≢false (sym (eq-eqb h 0 none) ∙ zero_is))) (ltb-false top h less) (λ i. zero_is i || less i)
 
 module _ (k : Known) (all : PageId → Option (List ℕ)) (space : Space) (m : NodeNumbers) (means : MeansNumbers (seen k all space) m) where
-  pub means_numbers-is : Gives k all space (numbers_in k space) (record { root = root_number (seen k all space); first_free = first_free (bytes (seen k all space) 0); highest = highest (bytes (seen k all space) 0) }) (IsTrue (is_there k (page_in space 0)))
+  pub means_numbers-is : Gives k all space (numbers_in k space)
+      (record { root = root_number (seen k all space); first_free = first_free (bytes (seen k all space) 0); highest = highest (bytes (seen k all space) 0) })
+      (IsTrue (is_there k (page_in space 0)))
   means_numbers-is = let top = means.highest in let most = means.most in numbers-is k all space means.table.head means.table.next (omega (arith, top, most))
 
   pub means_found-is : (h : ℕ) → 0 < h → h ≤ m.highest
       → Gives k all space (found_in k space (root_number (seen k all space)) h)
-      (record { number = leaf_number (seen k all space) (leaf_index h); entry = if page_at (seen k all space) h == 0 then Free (place_at (seen k all space) h) else Taken (record { layer = page_at (seen k all space) h / 256; page = page_at (seen k all space) h % 256; at = place_at (seen k all space) h }) })
+      (record {
+        number = leaf_number (seen k all space) (leaf_index h);
+        entry =
+            if page_at (seen k all space) h == 0 then Free (place_at (seen k all space) h) else Taken
+            (record { layer = page_at (seen k all space) h / 256; page = page_at (seen k all space) h % 256; at = place_at (seen k all space) h });
+      })
       (IsTrue (is_there k (page_in space (leaf_number (seen k all space) (leaf_index h)))))
   means_found-is h positive inside =
       let leaves = leaf_count m.highest in let directories = directory_count leaves in
-      found-is k all space directories directories leaves means.table (omega (arith, positive, inside)) h (omega (arith, positive, inside)) (omega (arith, positive, inside))
+      found-is k all space directories directories leaves means.table (omega (arith, positive, inside)) h (omega (arith, positive, inside))
+      (omega (arith, positive, inside))
       (entry_sound (map.get m.taken h) (is_listed m.free h) (page_at (seen k all space) h) (place_at (seen k all space) h) (means.entry h positive inside))
 
   -- the address that the pages mean is found, or a page is needed
   pub address-is : (h : ℕ) → GivesOrNeeds k all space (address_in k space h) (map.get m.taken h)
   address-is h = ⊎_elim (λ is. inl is.0) (λ need. inr need)
-      (gives_then k all space (numbers_in k space) (λ (numbers : Numbers). if h == 0 || nat_lt numbers.highest h then Ok None else and_then (found_in k space numbers.root h) (λ leaf. Ok (address_of leaf.entry)))
-      (record { root = root_number (seen k all space); first_free = first_free (bytes (seen k all space) 0); highest = highest (bytes (seen k all space) 0) }) (map.get m.taken h) means_numbers-is (λ _. at))
+      (gives_then k all space (numbers_in k space)
+      (λ (numbers : Numbers). if h == 0 || nat_lt numbers.highest h then Ok None else and_then (found_in k space numbers.root h)
+      (λ leaf. Ok (address_of leaf.entry)))
+      (record { root = root_number (seen k all space); first_free = first_free (bytes (seen k all space) 0); highest = highest (bytes (seen k all space) 0) })
+      (map.get m.taken h) means_numbers-is (λ _. at))
     where
-      at : Gives k all space (if h == 0 || nat_lt (highest (bytes (seen k all space) 0)) h then Ok None else and_then (found_in k space (root_number (seen k all space)) h) (λ leaf. Ok (address_of leaf.entry))) (map.get m.taken h) (Unit {0})
+      at : Gives k all space (if h == 0 || nat_lt (highest (bytes (seen k all space) 0)) h then Ok None else and_then
+          (found_in k space (root_number (seen k all space)) h) (λ leaf. Ok (address_of leaf.entry))) (map.get m.taken h) (Unit {0})
       at = out_or_in h (highest (bytes (seen k all space) 0))
-          (λ out is. subst (λ b. Gives k all space (if b then Ok None else and_then (found_in k space (root_number (seen k all space)) h) (λ leaf. Ok (address_of leaf.entry))) (map.get m.taken h) (Unit {0})) (sym is)
+          (λ out is. subst (λ b. Gives k all space
+          (if b then Ok None else and_then (found_in k space (root_number (seen k all space)) h) (λ leaf. Ok (address_of leaf.entry))) (map.get m.taken h)
+          (Unit {0})) (sym is)
           (inl (ap Ok (sym (means.outside h (⊎_elim (λ none. inl none) (λ past. let same = means.highest in inr (omega (arith, same, past))) out)).0), tt)))
-          (λ positive inside is. subst (λ b. Gives k all space (if b then Ok None else and_then (found_in k space (root_number (seen k all space)) h) (λ leaf. Ok (address_of leaf.entry))) (map.get m.taken h) (Unit {0})) (sym is)
+          (λ positive inside is. subst
+          (λ b. Gives k all space (if b then Ok None else and_then (found_in k space (root_number (seen k all space)) h)
+          (λ leaf. Ok (address_of leaf.entry))) (map.get m.taken h) (Unit {0})) (sym is)
           (let below : h ≤ m.highest = let same = means.highest in omega (arith, same, inside) in
-          gives_then k all space (found_in k space (root_number (seen k all space)) h) (λ (leaf : Leaf). Ok (address_of leaf.entry)) _ (map.get m.taken h) (means_found-is h positive below)
-          (λ there. inl (ap Ok (entry_address (map.get m.taken h) (is_listed m.free h) (page_at (seen k all space) h) (place_at (seen k all space) h) (means.entry h positive below)), tt))))
+          gives_then k all space (found_in k space (root_number (seen k all space)) h) (λ (leaf : Leaf). Ok (address_of leaf.entry)) _ (map.get m.taken h)
+          (means_found-is h positive below)
+          (λ there. inl (
+            ap Ok (entry_address (map.get m.taken h) (is_listed m.free h) (page_at (seen k all space) h) (place_at (seen k all space) h)
+                (means.entry h positive below)),
+            tt,
+          ))))

@@ -26,7 +26,8 @@ module _ (c : Call) (spares : SparesNumbers c) where
       at (Some b) is mine = true≢false (sym mine ∙ ap c.own.is_kind is ∙ foreign)
 
   -- a page of node numbers stays
-  stays : (n kind : ℕ) → 0 < kind → kind ≢ 2 → IsPage (before c) 2 0 → IsPage (before c) kind n → c.own.is_kind kind ≡ false → is_number_kind kind ≡ true → n < next_page (bytes (before c) 0)
+  stays : (n kind : ℕ) → 0 < kind → kind ≢ 2 → IsPage (before c) 2 0 → IsPage (before c) kind n → c.own.is_kind kind ≡ false → is_number_kind kind ≡ true
+      → n < next_page (bytes (before c) 0)
       → bytes (behind c) n ≡ bytes (before c) n
   unfolding bytes
   stays n kind positive differ head page foreign mine early =
@@ -39,7 +40,8 @@ module _ (c : Call) (spares : SparesNumbers c) where
       }))
 
   -- a field of the head stays
-  head_field : (k at : ℕ) → bytes_at at k (bytes (behind c) 0) ≡ bytes_at at k (bytes (before c) 0) → field k at (bytes (behind c) 0) ≡ field k at (bytes (before c) 0)
+  head_field : (k at : ℕ) → bytes_at at k (bytes (behind c) 0) ≡ bytes_at at k (bytes (before c) 0)
+      → field k at (bytes (behind c) 0) ≡ field k at (bytes (before c) 0)
   head_field k at same = field-bytes_at k at (bytes (before c) 0) (bytes (behind c) 0) same
 
   module _ (numbers : NodeNumbers) (m : MeansNumbers (before c) numbers) where

@@ -24,10 +24,12 @@ get-without m h x = map.get-remove nat_cmp_total m h x ∙ ap (λ e. cond e None
 -- a number's entry is written in its leaf
 pub record WritesEntry (pages new : Pages) (h page place : ℕ) : Type 0 where
   pub leaf : bytes new (leaf_number pages (leaf_index h)) ≡ with_entry (entry_index h) page place (bytes pages (leaf_number pages (leaf_index h)))
-  pub others : (l : ℕ) → l ≢ leaf_index h → leaf_number pages l ≢ leaf_number pages (leaf_index h) → bytes new (leaf_number pages l) ≡ bytes pages (leaf_number pages l)
+  pub others : (l : ℕ) → l ≢ leaf_index h → leaf_number pages l ≢ leaf_number pages (leaf_index h)
+      → bytes new (leaf_number pages l) ≡ bytes pages (leaf_number pages l)
 
 module _ (pages new : Pages) (h page place leaves : ℕ) (long : length (bytes pages (leaf_number pages (leaf_index h))) ≡ 4096)
-    (stays : (l : ℕ) → l < leaves → leaf_number new l ≡ leaf_number pages l) (apart : (l m : ℕ) → l < leaves → m < leaves → leaf_number pages l ≡ leaf_number pages m → l ≡ m)
+    (stays : (l : ℕ) → l < leaves → leaf_number new l ≡ leaf_number pages l) (apart : (l m : ℕ) → l < leaves → m < leaves
+    → leaf_number pages l ≡ leaf_number pages m → l ≡ m)
     (below : leaf_index h < leaves) (w : WritesEntry pages new h page place) where
   pub page_at-written : page < 256 ^ 8 → page_at new h ≡ page
   unfolding page_at
@@ -42,12 +44,17 @@ module _ (pages new : Pages) (h page place leaves : ℕ) (long : length (bytes p
       ∙ entry_place-written (entry_index h) page place (bytes pages (leaf_number pages (leaf_index h))) (omega arith) long small
 
   -- another number's entry is in another leaf, or another one of this leaf
-  same_field : (read : ℕ → List ℕ → ℕ) → ((j : ℕ) → j < 340 → j ≢ entry_index h → read j (with_entry (entry_index h) page place (bytes pages (leaf_number pages (leaf_index h)))) ≡ read j (bytes pages (leaf_number pages (leaf_index h))))
+  same_field : (read : ℕ → List ℕ → ℕ)
+      → ((j : ℕ) → j < 340 → j ≢ entry_index h
+      → read j (with_entry (entry_index h) page place (bytes pages (leaf_number pages (leaf_index h))))
+      ≡ read j (bytes pages (leaf_number pages (leaf_index h))))
       → (x : ℕ) → 0 < x → 0 < h → x ≢ h → leaf_index x < leaves
       → read (entry_index x) (bytes new (leaf_number new (leaf_index x))) ≡ read (entry_index x) (bytes pages (leaf_number pages (leaf_index x)))
-  same_field read kept x positive positive' differ inside = ap (λ n. read (entry_index x) (bytes new n)) (stays (leaf_index x) inside) ∙ at (nat_eq (leaf_index x) (leaf_index h)) refl
+  same_field read kept x positive positive' differ inside = ap (λ n. read (entry_index x) (bytes new n)) (stays (leaf_index x) inside)
+      ∙ at (nat_eq (leaf_index x) (leaf_index h)) refl
     where
-      at : (same : Bool) → nat_eq (leaf_index x) (leaf_index h) ≡ same → read (entry_index x) (bytes new (leaf_number pages (leaf_index x))) ≡ read (entry_index x) (bytes pages (leaf_number pages (leaf_index x)))
+      at : (same : Bool) → nat_eq (leaf_index x) (leaf_index h) ≡ same
+          → read (entry_index x) (bytes new (leaf_number pages (leaf_index x))) ≡ read (entry_index x) (bytes pages (leaf_number pages (leaf_index x)))
       at true is =
           let same = eqb-true (leaf_index x) (leaf_index h) is in
           subst (λ l. read (entry_index x) (bytes new (leaf_number pages l)) ≡ read (entry_index x) (bytes pages (leaf_number pages l))) (sym same)
@@ -65,12 +72,14 @@ module _ (pages new : Pages) (h page place leaves : ℕ) (long : length (bytes p
   place_at-kept = same_field entry_place (entry_place-apart (entry_index h) page place (bytes pages (leaf_number pages (leaf_index h))) (omega arith) long)
 
 -- a list of free numbers stays one where their entries stay
-pub IsFreeList-kept : (pages new : Pages) (first : ℕ) (hs : List ℕ) → ((x : ℕ) → is_listed hs x ≡ true → place_at new x ≡ place_at pages x) → IsFreeList pages first hs → IsFreeList new first hs
+pub IsFreeList-kept : (pages new : Pages) (first : ℕ) (hs : List ℕ) → ((x : ℕ) → is_listed hs x ≡ true → place_at new x ≡ place_at pages x)
+    → IsFreeList pages first hs → IsFreeList new first hs
 IsFreeList-kept pages new first [] kept is = is
 IsFreeList-kept pages new first (h ∷ hs) kept is = (
   is.0,
   is.1,
-  subst (λ n. IsFreeList new n hs) (sym (kept h (listed_first h hs))) (IsFreeList-kept pages new (place_at pages h) hs (λ x listed. kept x (listed_behind x h hs listed)) is.2),
+  subst (λ n. IsFreeList new n hs) (sym (kept h (listed_first h hs)))
+      (IsFreeList-kept pages new (place_at pages h) hs (λ x listed. kept x (listed_behind x h hs listed)) is.2),
 )
   where
     listed_first : (h : ℕ) (hs : List ℕ) → is_listed (h ∷ hs) h ≡ true
@@ -100,10 +109,12 @@ means_after pages new before after h m d table top most free = record {
   free = free;
   entry = λ x positive inside. here_or x
       (λ same. subst (λ x. EntryMeans (map.get after.taken x) (is_listed after.free x) (page_at new x) (place_at new x)) (sym same) d.entry)
-      (λ differ. moved (sym (d.taken x differ)) (sym (d.listed x differ)) (sym (d.page x positive (d.raised x differ inside) differ)) (sym (d.place x positive (d.raised x differ inside) differ))
+      (λ differ. moved (sym (d.taken x differ)) (sym (d.listed x differ)) (sym (d.page x positive (d.raised x differ inside) differ))
+      (sym (d.place x positive (d.raised x differ inside) differ))
       (m.entry x positive (d.raised x differ inside)));
   outside = λ x out.
-      let differ : x ≢ h = λ same. let given = d.given in ⊎_elim (λ zero. absurd (omega (arith, same, given, zero))) (λ past. absurd (omega (arith, same, given, past))) out in
+      let differ : x ≢ h = λ same. let given = d.given in
+      ⊎_elim (λ zero. absurd (omega (arith, same, given, zero))) (λ past. absurd (omega (arith, same, given, past))) out in
       let before_out : (x ≡ 0) ⊎ (before.highest < x) = ⊎_elim (λ zero. inl zero) (λ past. let kept = d.kept in inr (omega (arith, kept, past))) out in
       (d.taken x differ ∙ (m.outside x before_out).0, d.listed x differ ∙ (m.outside x before_out).1);
 }

@@ -23,7 +23,8 @@ kind_written kind = (
 )
 
 -- a new page is made
-module _ (w : Work) (all : PageId → Option (List ℕ)) (space : Space) (kind : ℕ) (head : IsPage (seen w.now all space) 2 0) (there : IsTrue (is_there w.now (page_in space 0)))
+module _ (w : Work) (all : PageId → Option (List ℕ)) (space : Space) (kind : ℕ) (head : IsPage (seen w.now all space) 2 0)
+    (there : IsTrue (is_there w.now (page_in space 0)))
     (positive : 0 < next_page (bytes (seen w.now all space) 0)) (more : next_page (bytes (seen w.now all space) 0) < LAST_PAGE) where
   next_is : next_in w space ≡ next_page (bytes (seen w.now all space) 0)
   next_is = sym (ap next_page (seen-first w.now all space 0 there))
@@ -40,7 +41,8 @@ module _ (w : Work) (all : PageId → Option (List ℕ)) (space : Space) (kind :
   head_before : bytes (seen first.now all space) 0 ≡ bytes (seen w.now all space) 0
   head_before = seen-beside w all space (next_in w space) 0 zeros (λ is. next_past (sym is))
 
-  pub made_head : bytes (seen (with_new kind w space).now all space) 0 ≡ with_field 8 (bytes (seen w.now all space) 0) 2 (next_page (bytes (seen w.now all space) 0) + 1)
+  pub made_head : bytes (seen (with_new kind w space).now all space) 0
+      ≡ with_field 8 (bytes (seen w.now all space) 0) 2 (next_page (bytes (seen w.now all space) 0) + 1)
   made_head =
       seen-beside second all space (next_in w space) 0 (with_bytes zeros 0 (kind ∷ [])) (λ is. next_past (sym is))
       ∙ seen-written first all space 0 (with_next_page (first_bytes w.now (head_of space)) (next_in w space + 1))
@@ -69,4 +71,6 @@ module _ (w : Work) (all : PageId → Option (List ℕ)) (space : Space) (kind :
 
   -- the other fields of the head stay
   pub made_field : (n to : ℕ) → 10 ≤ to → field n to (bytes (seen (with_new kind w space).now all space) 0) ≡ field n to (bytes (seen w.now all space) 0)
-  made_field n to behind = let long = head.1 in ap (field n to) made_head ∙ field_apart n to 8 (bytes (seen w.now all space) 0) 2 (next_page (bytes (seen w.now all space) 0) + 1) (inr (omega (arith, behind))) (omega (arith, long))
+  made_field n to behind = let long = head.1 in ap (field n to) made_head
+      ∙ field_apart n to 8 (bytes (seen w.now all space) 0) 2 (next_page (bytes (seen w.now all space) 0) + 1) (inr (omega (arith, behind)))
+      (omega (arith, long))

@@ -47,7 +47,11 @@ module _ (pages new : Pages) (roots directories leaves : ℕ) (t : IsTable pages
     head = k.head;
     next = let before = t.next in let after = k.next in omega arith;
     last = k.last;
-    root = λ some. (of_kind DIRECTORY_KIND (root_number pages) (root_number new) k.root (k.root_bytes some) (t.root some).0, numbered (root_number pages) (root_number new) k.root (t.root some).1);
+    root = λ some. (
+      of_kind DIRECTORY_KIND (root_number pages) (root_number new) k.root (k.root_bytes some) (t.root some).0,
+      numbered (root_number pages)
+          (root_number new) k.root (t.root some).1,
+    );
     directory = λ d below. (
       of_kind DIRECTORY_KIND (directory_number pages d) (directory_number new d) (directory_stays d below) (k.directory_bytes d below) (t.directory d below).0,
       numbered (directory_number pages d) (directory_number new d) (directory_stays d below) (t.directory d below).1,
@@ -67,7 +71,8 @@ kinds_apart pages a b n m differ first second is = differ (sym first.0 ∙ ap (�
 
 module _ (pages new : Pages) (roots directories leaves : ℕ) (t : IsTable pages roots directories leaves) where
   -- a leaf is written
-  pub leaf_written : (l : ℕ) → l < leaves → (0 < directories → 0 < roots) → Only pages new (leaf_number pages l) → IsPage new LEAF_KIND (leaf_number pages l) → Keeping pages new roots directories leaves
+  pub leaf_written : (l : ℕ) → l < leaves → (0 < directories → 0 < roots) → Only pages new (leaf_number pages l) → IsPage new LEAF_KIND (leaf_number pages l)
+      → Keeping pages new roots directories leaves
   unfolding root_number
   leaf_written l below rooted only written =
       let leaf = leaf_number pages l in let is_leaf = (t.leaf l below).0 in
@@ -76,26 +81,35 @@ module _ (pages new : Pages) (roots directories leaves : ℕ) (t : IsTable pages
         root = ap root head;
         next = let same = ap next_page head in omega (arith, same);
         last = let same = ap next_page head in let before = t.last in omega (arith, same, before);
-        root_bytes = λ some. only (root_number pages) (kinds_apart pages DIRECTORY_KIND LEAF_KIND (root_number pages) leaf (λ is. absurd (omega (arith, is))) (t.root some).0 is_leaf);
-        directory_bytes = λ d below'. only (directory_number pages d) (kinds_apart pages DIRECTORY_KIND LEAF_KIND (directory_number pages d) leaf (λ is. absurd (omega (arith, is))) (t.directory d below').0 is_leaf);
+        root_bytes = λ some. only (root_number pages)
+            (kinds_apart pages DIRECTORY_KIND LEAF_KIND (root_number pages) leaf (λ is. absurd (omega (arith, is))) (t.root some).0 is_leaf);
+        directory_bytes = λ d below'. only (directory_number pages d)
+            (kinds_apart pages DIRECTORY_KIND LEAF_KIND (directory_number pages d) leaf (λ is. absurd (omega (arith, is))) (t.directory d below').0 is_leaf);
         leaf_page = λ m below'. either m below' (nat_eq (leaf_number pages m) leaf) refl;
       }
     where
       either : (m : ℕ) → m < leaves → (same : Bool) → nat_eq (leaf_number pages m) (leaf_number pages l) ≡ same → IsPage new LEAF_KIND (leaf_number pages m)
       either m below' true is = subst (IsPage new LEAF_KIND) (sym (eqb-true (leaf_number pages m) (leaf_number pages l) is)) written
-      either m below' false is = subst (λ (b : List ℕ). (slice_index b 0 ≡ LEAF_KIND) × (length b ≡ 4096)) (sym (only (leaf_number pages m) (λ same. true≢false (sym (eq-eqb (leaf_number pages m) (leaf_number pages l) same) ∙ is)))) (t.leaf m below').0
+      either m below' false is =
+          subst (λ (b : List ℕ). (slice_index b 0 ≡ LEAF_KIND) × (length b ≡ 4096))
+          (sym (only (leaf_number pages m) (λ same. true≢false (sym (eq-eqb (leaf_number pages m) (leaf_number pages l) same) ∙ is)))) (t.leaf m below').0
 
   -- the head is written, and its root stays
-  pub head_written : Only pages new 0 → IsPage new 2 0 → root (bytes new 0) ≡ root (bytes pages 0) → next_page (bytes pages 0) ≤ next_page (bytes new 0) → next_page (bytes new 0) ≤ LAST_PAGE → Keeping pages new roots directories leaves
+  pub head_written : Only pages new 0 → IsPage new 2 0 → root (bytes new 0) ≡ root (bytes pages 0) → next_page (bytes pages 0) ≤ next_page (bytes new 0)
+      → next_page (bytes new 0) ≤ LAST_PAGE → Keeping pages new roots directories leaves
   unfolding root_number
   head_written only written same next last = record {
     head = written;
     root = same;
     next = next;
     last = last;
-    root_bytes = λ some. only (root_number pages) (kinds_apart pages DIRECTORY_KIND 2 (root_number pages) 0 (λ is. absurd (omega (arith, is))) (t.root some).0 t.head);
-    directory_bytes = λ d below. only (directory_number pages d) (kinds_apart pages DIRECTORY_KIND 2 (directory_number pages d) 0 (λ is. absurd (omega (arith, is))) (t.directory d below).0 t.head);
-    leaf_page = λ l below. subst (λ (b : List ℕ). (slice_index b 0 ≡ LEAF_KIND) × (length b ≡ 4096)) (sym (only (leaf_number pages l) (kinds_apart pages LEAF_KIND 2 (leaf_number pages l) 0 (λ is. absurd (omega (arith, is))) (t.leaf l below).0 t.head))) (t.leaf l below).0;
+    root_bytes = λ some. only (root_number pages)
+        (kinds_apart pages DIRECTORY_KIND 2 (root_number pages) 0 (λ is. absurd (omega (arith, is))) (t.root some).0 t.head);
+    directory_bytes = λ d below. only (directory_number pages d)
+        (kinds_apart pages DIRECTORY_KIND 2 (directory_number pages d) 0 (λ is. absurd (omega (arith, is))) (t.directory d below).0 t.head);
+    leaf_page = λ l below. subst (λ (b : List ℕ). (slice_index b 0 ≡ LEAF_KIND) × (length b ≡ 4096))
+        (sym (only (leaf_number pages l) (kinds_apart pages LEAF_KIND 2 (leaf_number pages l) 0 (λ is. absurd (omega (arith, is))) (t.leaf l below).0 t.head)))
+        (t.leaf l below).0;
   }
 
 -- a page that is none of the table's
@@ -127,7 +141,9 @@ module _ (pages new : Pages) (roots directories leaves : ℕ) (t : IsTable pages
 
   -- and no leaf changes
   pub leaves_beside : (kind n l : ℕ) → MakesPage pages new kind n → l < leaves → bytes new (leaf_number pages l) ≡ bytes pages (leaf_number pages l)
-  leaves_beside kind n l made below = made.others (leaf_number pages l) (kinds_apart pages LEAF_KIND 2 (leaf_number pages l) 0 (λ is. absurd (omega (arith, is))) (t.leaf l below).0 t.head) (λ is. (new_beside kind n made).leaf l below (sym is))
+  leaves_beside kind n l made below =
+      made.others (leaf_number pages l) (kinds_apart pages LEAF_KIND 2 (leaf_number pages l) 0 (λ is. absurd (omega (arith, is))) (t.leaf l below).0 t.head)
+      (λ is. (new_beside kind n made).leaf l below (sym is))
 
   pub page_made : (kind n : ℕ) → MakesPage pages new kind n → Keeping pages new roots directories leaves
   unfolding root_number
@@ -137,10 +153,16 @@ module _ (pages new : Pages) (roots directories leaves : ℕ) (t : IsTable pages
         root = made.root;
         next = let next = made.next in omega (arith, next);
         last = made.last;
-        root_bytes = λ some. made.others (root_number pages) (kinds_apart pages DIRECTORY_KIND 2 (root_number pages) 0 (λ is. absurd (omega (arith, is))) (t.root some).0 t.head) (λ is. apart.root some (sym is));
-        directory_bytes = λ d below. made.others (directory_number pages d) (kinds_apart pages DIRECTORY_KIND 2 (directory_number pages d) 0 (λ is. absurd (omega (arith, is))) (t.directory d below).0 t.head) (λ is. apart.directory d below (sym is));
+        root_bytes = λ some. made.others (root_number pages)
+            (kinds_apart pages DIRECTORY_KIND 2 (root_number pages) 0 (λ is. absurd (omega (arith, is))) (t.root some).0 t.head)
+            (λ is. apart.root some (sym is));
+        directory_bytes = λ d below. made.others (directory_number pages d)
+            (kinds_apart pages DIRECTORY_KIND 2 (directory_number pages d) 0 (λ is. absurd (omega (arith, is))) (t.directory d below).0 t.head)
+            (λ is. apart.directory d below (sym is));
         leaf_page = λ l below. subst (λ (b : List ℕ). (slice_index b 0 ≡ LEAF_KIND) × (length b ≡ 4096))
-            (sym (made.others (leaf_number pages l) (kinds_apart pages LEAF_KIND 2 (leaf_number pages l) 0 (λ is. absurd (omega (arith, is))) (t.leaf l below).0 t.head) (λ is. apart.leaf l below (sym is)))) (t.leaf l below).0;
+            (sym (made.others (leaf_number pages l)
+            (kinds_apart pages LEAF_KIND 2 (leaf_number pages l) 0 (λ is. absurd (omega (arith, is))) (t.leaf l below).0 t.head)
+            (λ is. apart.leaf l below (sym is)))) (t.leaf l below).0;
       }
 
 -- what is below one more is below, or is the last
@@ -178,7 +200,8 @@ pub record LinksDirectory (pages new : Pages) (directories n : ℕ) : Type 0 whe
   pub old_links : (d : ℕ) → d < directories → link d (bytes new (root_number pages)) ≡ link d (bytes pages (root_number pages))
 
 module _ (pages new : Pages) (directories leaves n : ℕ) (t : IsTable pages 1 directories leaves) (placed : (l : ℕ) → l < leaves → l / 511 < directories)
-    (apart : IsBeside pages 1 directories leaves n) (numbered : IsNumbered pages n) (page : IsPage pages DIRECTORY_KIND n) (linked : LinksDirectory pages new directories n) where
+    (apart : IsBeside pages 1 directories leaves n) (numbered : IsNumbered pages n) (page : IsPage pages DIRECTORY_KIND n)
+    (linked : LinksDirectory pages new directories n) where
   pub head_same : bytes new 0 ≡ bytes pages 0
   head_same = linked.others 0 (kinds_apart pages 2 DIRECTORY_KIND 0 (root_number pages) (λ is. absurd (omega (arith, is))) t.head (t.root (omega arith)).0)
 
@@ -204,23 +227,33 @@ module _ (pages new : Pages) (directories leaves n : ℕ) (t : IsTable pages 1 d
 
   pub leaf_bytes_same : (l : ℕ) → l < leaves → bytes new (leaf_number new l) ≡ bytes pages (leaf_number pages l)
   leaf_bytes_same l below = ap (bytes new) (old_leaf l below)
-      ∙ linked.others (leaf_number pages l) (kinds_apart pages LEAF_KIND DIRECTORY_KIND (leaf_number pages l) (root_number pages) (λ is. absurd (omega (arith, is))) (t.leaf l below).0 (t.root (omega arith)).0)
+      ∙ linked.others (leaf_number pages l)
+      (kinds_apart pages LEAF_KIND DIRECTORY_KIND (leaf_number pages l) (root_number pages) (λ is. absurd (omega (arith, is))) (t.leaf l below).0
+      (t.root (omega arith)).0)
 
   as_before : (kind m q : ℕ) → m ≡ q → q ≢ root_number pages → IsPage pages kind q × IsNumbered pages q → IsPage new kind m × IsNumbered new m
   as_before kind m q is differ h =
-      subst (λ m. IsPage new kind m × IsNumbered new m) (sym is)
-      (subst (λ (b : List ℕ). (slice_index b 0 ≡ kind) × (length b ≡ 4096)) (sym (linked.others q differ)) h.0, subst (λ (b : List ℕ). q < next_page b) (sym head_same) h.1)
+      subst (λ m. IsPage new kind m × IsNumbered new m) (sym is) (
+        subst (λ (b : List ℕ). (slice_index b 0 ≡ kind) × (length b ≡ 4096)) (sym (linked.others q differ)) h.0,
+        subst (λ (b : List ℕ). q < next_page b)
+            (sym head_same) h.1,
+      )
 
   pub directory_linked : IsTable new 1 (directories + 1) leaves
   directory_linked = record {
     head = subst (λ (b : List ℕ). (slice_index b 0 ≡ 2) × (length b ≡ 4096)) (sym head_same) t.head;
     next = subst (λ (b : List ℕ). 0 < next_page b) (sym head_same) t.next;
     last = subst (λ (b : List ℕ). next_page b ≤ LAST_PAGE) (sym head_same) t.last;
-    root = λ some. subst (λ r. IsPage new DIRECTORY_KIND r × IsNumbered new r) (sym root_same) (linked.root, subst (λ (b : List ℕ). root_number pages < next_page b) (sym head_same) (t.root some).1);
+    root = λ some. subst (λ r. IsPage new DIRECTORY_KIND r × IsNumbered new r) (sym root_same)
+        (linked.root, subst (λ (b : List ℕ). root_number pages < next_page b) (sym head_same) (t.root some).1);
     directory = λ d below. last_or_before directories d below
-        (λ before. as_before DIRECTORY_KIND (directory_number new d) (directory_number pages d) (old_directory d before) (t.root_apart d before) (t.directory d before))
-        (λ last. as_before DIRECTORY_KIND (directory_number new d) n (ap (directory_number new) last ∙ new_directory) (apart.root (omega arith)) (page, numbered));
-    leaf = λ l below. as_before LEAF_KIND (leaf_number new l) (leaf_number pages l) (old_leaf l below) (kinds_apart pages LEAF_KIND DIRECTORY_KIND (leaf_number pages l) (root_number pages) (λ is. absurd (omega (arith, is))) (t.leaf l below).0 (t.root (omega arith)).0) (t.leaf l below);
+        (λ before. as_before DIRECTORY_KIND (directory_number new d) (directory_number pages d) (old_directory d before) (t.root_apart d before)
+        (t.directory d before))
+        (λ last. as_before DIRECTORY_KIND (directory_number new d) n (ap (directory_number new) last ∙ new_directory) (apart.root (omega arith))
+        (page, numbered));
+    leaf = λ l below. as_before LEAF_KIND (leaf_number new l) (leaf_number pages l) (old_leaf l below)
+        (kinds_apart pages LEAF_KIND DIRECTORY_KIND (leaf_number pages l) (root_number pages) (λ is. absurd (omega (arith, is))) (t.leaf l below).0
+        (t.root (omega arith)).0) (t.leaf l below);
     root_apart = λ d below is. last_or_before directories d below
         (λ before. t.root_apart d before (sym (old_directory d before) ∙ is ∙ root_same))
         (λ last. apart.root (omega arith) (sym (ap (directory_number new) last ∙ new_directory) ∙ is ∙ root_same));
@@ -239,15 +272,18 @@ pub record LinksLeaf (pages new : Pages) (leaves n : ℕ) : Type 0 where
   pub others : Only pages new (directory_number pages (leaves / 511))
   pub directory : IsPage new DIRECTORY_KIND (directory_number pages (leaves / 511))
   pub new_link : link (leaves % 511) (bytes new (directory_number pages (leaves / 511))) ≡ n
-  pub old_links : (i : ℕ) → i < 511 → i ≢ leaves % 511 → link i (bytes new (directory_number pages (leaves / 511))) ≡ link i (bytes pages (directory_number pages (leaves / 511)))
+  pub old_links : (i : ℕ) → i < 511 → i ≢ leaves % 511
+      → link i (bytes new (directory_number pages (leaves / 511))) ≡ link i (bytes pages (directory_number pages (leaves / 511)))
 
 module _ (pages new : Pages) (directories leaves n : ℕ) (t : IsTable pages 1 directories leaves) (placed : (l : ℕ) → l < leaves + 1 → l / 511 < directories)
-    (apart : IsBeside pages 1 directories leaves n) (numbered : IsNumbered pages n) (page : IsPage pages LEAF_KIND n) (linked : LinksLeaf pages new leaves n) where
+    (apart : IsBeside pages 1 directories leaves n) (numbered : IsNumbered pages n) (page : IsPage pages LEAF_KIND n)
+    (linked : LinksLeaf pages new leaves n) where
   above_is : IsPage pages DIRECTORY_KIND (directory_number pages (leaves / 511)) × IsNumbered pages (directory_number pages (leaves / 511))
   above_is = t.directory (leaves / 511) (placed leaves (omega arith))
 
   pub head_as_before : bytes new 0 ≡ bytes pages 0
-  head_as_before = linked.others 0 (kinds_apart pages 2 DIRECTORY_KIND 0 (directory_number pages (leaves / 511)) (λ is. absurd (omega (arith, is))) t.head above_is.0)
+  head_as_before = linked.others 0
+      (kinds_apart pages 2 DIRECTORY_KIND 0 (directory_number pages (leaves / 511)) (λ is. absurd (omega (arith, is))) t.head above_is.0)
 
   pub root_as_before : root_number new ≡ root_number pages
   unfolding root_number
@@ -269,29 +305,40 @@ module _ (pages new : Pages) (directories leaves n : ℕ) (t : IsTable pages 1 d
   unfolding leaf_number
   leaf_as_before l below = ap (λ d. link (l % 511) (bytes new d)) (same_directory (l / 511)) ∙ at (nat_eq (l / 511) (leaves / 511)) refl
     where
-      at : (same : Bool) → nat_eq (l / 511) (leaves / 511) ≡ same → link (l % 511) (bytes new (directory_number pages (l / 511))) ≡ link (l % 511) (bytes pages (directory_number pages (l / 511)))
+      at : (same : Bool) → nat_eq (l / 511) (leaves / 511) ≡ same
+          → link (l % 511) (bytes new (directory_number pages (l / 511))) ≡ link (l % 511) (bytes pages (directory_number pages (l / 511)))
       at true is =
           let same = eqb-true (l / 511) (leaves / 511) is in
           subst (λ d. link (l % 511) (bytes new (directory_number pages d)) ≡ link (l % 511) (bytes pages (directory_number pages d))) (sym same)
           (linked.old_links (l % 511) (omega arith) (λ place. absurd (omega (arith, same, place, below))))
       at false is =
-          ap (link (l % 511)) (linked.others (directory_number pages (l / 511)) (λ one. absurd (true≢false (sym (eq-eqb (l / 511) (leaves / 511) (t.directories_apart (l / 511) (leaves / 511) (placed l (omega (arith, below))) (placed leaves (omega arith)) one)) ∙ is))))
+          ap (link (l % 511)) (linked.others (directory_number pages (l / 511))
+          (λ one. absurd (true≢false
+          (sym (eq-eqb (l / 511) (leaves / 511)
+          (t.directories_apart (l / 511) (leaves / 511) (placed l (omega (arith, below))) (placed leaves (omega arith)) one)) ∙ is))))
 
-  stays_page : (kind m q : ℕ) → m ≡ q → q ≢ directory_number pages (leaves / 511) → IsPage pages kind q × IsNumbered pages q → IsPage new kind m × IsNumbered new m
+  stays_page : (kind m q : ℕ) → m ≡ q → q ≢ directory_number pages (leaves / 511) → IsPage pages kind q × IsNumbered pages q
+      → IsPage new kind m × IsNumbered new m
   stays_page kind m q is differ h =
-      subst (λ m. IsPage new kind m × IsNumbered new m) (sym is)
-      (subst (λ (b : List ℕ). (slice_index b 0 ≡ kind) × (length b ≡ 4096)) (sym (linked.others q differ)) h.0, subst (λ (b : List ℕ). q < next_page b) (sym head_as_before) h.1)
+      subst (λ m. IsPage new kind m × IsNumbered new m) (sym is) (
+        subst (λ (b : List ℕ). (slice_index b 0 ≡ kind) × (length b ≡ 4096)) (sym (linked.others q differ)) h.0,
+        subst (λ (b : List ℕ). q < next_page b)
+            (sym head_as_before) h.1,
+      )
 
   directory_there : (d : ℕ) → d < directories → IsPage new DIRECTORY_KIND (directory_number pages d)
   directory_there d below = at (nat_eq (directory_number pages d) (directory_number pages (leaves / 511))) refl
     where
-      at : (same : Bool) → nat_eq (directory_number pages d) (directory_number pages (leaves / 511)) ≡ same → IsPage new DIRECTORY_KIND (directory_number pages d)
+      at : (same : Bool) → nat_eq (directory_number pages d) (directory_number pages (leaves / 511)) ≡ same
+          → IsPage new DIRECTORY_KIND (directory_number pages d)
       at true is = subst (IsPage new DIRECTORY_KIND) (sym (eqb-true (directory_number pages d) (directory_number pages (leaves / 511)) is)) linked.directory
       at false is = subst (λ (b : List ℕ). (slice_index b 0 ≡ DIRECTORY_KIND) × (length b ≡ 4096))
-          (sym (linked.others (directory_number pages d) (λ one. true≢false (sym (eq-eqb (directory_number pages d) (directory_number pages (leaves / 511)) one) ∙ is)))) (t.directory d below).0
+          (sym (linked.others (directory_number pages d)
+          (λ one. true≢false (sym (eq-eqb (directory_number pages d) (directory_number pages (leaves / 511)) one) ∙ is)))) (t.directory d below).0
 
   leaf_differs : (l : ℕ) → l < leaves → leaf_number pages l ≢ directory_number pages (leaves / 511)
-  leaf_differs l below = kinds_apart pages LEAF_KIND DIRECTORY_KIND (leaf_number pages l) (directory_number pages (leaves / 511)) (λ is. absurd (omega (arith, is))) (t.leaf l below).0 above_is.0
+  leaf_differs l below = kinds_apart pages LEAF_KIND DIRECTORY_KIND (leaf_number pages l) (directory_number pages (leaves / 511))
+      (λ is. absurd (omega (arith, is))) (t.leaf l below).0 above_is.0
 
   pub leaf_bytes_as_before : (l : ℕ) → l < leaves → bytes new (leaf_number new l) ≡ bytes pages (leaf_number pages l)
   leaf_bytes_as_before l below = ap (bytes new) (leaf_as_before l below) ∙ linked.others (leaf_number pages l) (leaf_differs l below)
@@ -301,11 +348,14 @@ module _ (pages new : Pages) (directories leaves n : ℕ) (t : IsTable pages 1 d
     head = subst (λ (b : List ℕ). (slice_index b 0 ≡ 2) × (length b ≡ 4096)) (sym head_as_before) t.head;
     next = subst (λ (b : List ℕ). 0 < next_page b) (sym head_as_before) t.next;
     last = subst (λ (b : List ℕ). next_page b ≤ LAST_PAGE) (sym head_as_before) t.last;
-    root = λ some. stays_page DIRECTORY_KIND (root_number new) (root_number pages) root_as_before (λ is. t.root_apart (leaves / 511) (placed leaves (omega arith)) (sym is)) (t.root (omega arith));
-    directory = λ d below. subst (λ m. IsPage new DIRECTORY_KIND m × IsNumbered new m) (sym (same_directory d)) (directory_there d below, subst (λ (b : List ℕ). directory_number pages d < next_page b) (sym head_as_before) (t.directory d below).1);
+    root = λ some. stays_page DIRECTORY_KIND (root_number new) (root_number pages) root_as_before
+        (λ is. t.root_apart (leaves / 511) (placed leaves (omega arith)) (sym is)) (t.root (omega arith));
+    directory = λ d below. subst (λ m. IsPage new DIRECTORY_KIND m × IsNumbered new m) (sym (same_directory d))
+        (directory_there d below, subst (λ (b : List ℕ). directory_number pages d < next_page b) (sym head_as_before) (t.directory d below).1);
     leaf = λ l below. last_or_before leaves l below
         (λ before. stays_page LEAF_KIND (leaf_number new l) (leaf_number pages l) (leaf_as_before l before) (leaf_differs l before) (t.leaf l before))
-        (λ last. stays_page LEAF_KIND (leaf_number new l) n (ap (leaf_number new) last ∙ new_leaf) (apart.directory (leaves / 511) (placed leaves (omega arith))) (page, numbered));
+        (λ last. stays_page LEAF_KIND (leaf_number new l) n (ap (leaf_number new) last ∙ new_leaf)
+        (apart.directory (leaves / 511) (placed leaves (omega arith))) (page, numbered));
     root_apart = λ d below is. t.root_apart d below (sym (same_directory d) ∙ is ∙ root_as_before);
     directories_apart = λ d e below below' is. t.directories_apart d e below below' (sym (same_directory d) ∙ is ∙ same_directory e);
     leaves_apart = λ l m below below' is. last_or_before leaves l below

@@ -41,7 +41,8 @@ module _ (w : Work) (all : PageId → Option (List ℕ)) (space : Space) (h page
       )
 
   entered_keeps : Keeping (seen w.now all space) (seen entered.now all space) roots directories leaves
-  entered_keeps = leaf_written (seen w.now all space) (seen entered.now all space) roots directories leaves t (leaf_index h) below rooted entered_only entered_page
+  entered_keeps = leaf_written (seen w.now all space) (seen entered.now all space) roots directories leaves t
+      (leaf_index h) below rooted entered_only entered_page
 
   pub entered_table : IsTable (seen entered.now all space) roots directories leaves
   entered_table = IsTable-kept (seen w.now all space) (seen entered.now all space) roots directories leaves t entered_keeps rooted placed
@@ -53,7 +54,8 @@ module _ (w : Work) (all : PageId → Option (List ℕ)) (space : Space) (h page
   entered_writes = record { leaf = entered_bytes; others = λ l other differ. entered_only (leaf_number (seen w.now all space) l) differ }
 
   pub entered_head : bytes (seen entered.now all space) 0 ≡ bytes (seen w.now all space) 0
-  entered_head = entered_only 0 (kinds_apart (seen w.now all space) 2 LEAF_KIND 0 leaf (λ is. absurd (omega (arith, is))) t.head (t.leaf (leaf_index h) below).0)
+  entered_head = entered_only 0
+      (kinds_apart (seen w.now all space) 2 LEAF_KIND 0 leaf (λ is. absurd (omega (arith, is))) t.head (t.leaf (leaf_index h) below).0)
 
 -- a field of the head behind the root is written
 module _ (w : Work) (all : PageId → Option (List ℕ)) (space : Space) (at x roots directories leaves : ℕ) (behind : 26 ≤ at) (inside : at + 4 ≤ 4096)
@@ -76,7 +78,8 @@ module _ (w : Work) (all : PageId → Option (List ℕ)) (space : Space) (at x r
   headed_field n to apart = ap (field n to) headed_bytes ∙ field_apart n to 4 (bytes (seen w.now all space) 0) at x apart fits
 
   pub headed_written : x < 256 ^ 4 → field 4 at (bytes (seen headed.now all space) 0) ≡ x
-  headed_written small = ap (field 4 at) headed_bytes ∙ field-written 4 at x (bytes (seen w.now all space) 0) small (let long = t.head.1 in omega (arith, long, inside))
+  headed_written small = ap (field 4 at) headed_bytes
+      ∙ field-written 4 at x (bytes (seen w.now all space) 0) small (let long = t.head.1 in omega (arith, long, inside))
 
   headed_keeps : Keeping (seen w.now all space) (seen headed.now all space) roots directories leaves
   headed_keeps =
@@ -90,10 +93,13 @@ module _ (w : Work) (all : PageId → Option (List ℕ)) (space : Space) (at x r
   pub headed_table : IsTable (seen headed.now all space) roots directories leaves
   headed_table = IsTable-kept (seen w.now all space) (seen headed.now all space) roots directories leaves t headed_keeps rooted placed
 
-  headed_leaf : (l : ℕ) → l < leaves → bytes (seen headed.now all space) (leaf_number (seen headed.now all space) l) ≡ bytes (seen w.now all space) (leaf_number (seen w.now all space) l)
+  headed_leaf : (l : ℕ) → l < leaves
+      → bytes (seen headed.now all space) (leaf_number (seen headed.now all space) l) ≡ bytes (seen w.now all space) (leaf_number (seen w.now all space) l)
   headed_leaf l below =
-      ap (bytes (seen headed.now all space)) (leaf_stays (seen w.now all space) (seen headed.now all space) roots directories leaves t headed_keeps rooted placed l below)
-      ∙ headed_only (leaf_number (seen w.now all space) l) (kinds_apart (seen w.now all space) LEAF_KIND 2 (leaf_number (seen w.now all space) l) 0 (λ is. absurd (omega (arith, is))) (t.leaf l below).0 t.head)
+      ap (bytes (seen headed.now all space))
+      (leaf_stays (seen w.now all space) (seen headed.now all space) roots directories leaves t headed_keeps rooted placed l below)
+      ∙ headed_only (leaf_number (seen w.now all space) l)
+      (kinds_apart (seen w.now all space) LEAF_KIND 2 (leaf_number (seen w.now all space) l) 0 (λ is. absurd (omega (arith, is))) (t.leaf l below).0 t.head)
 
   -- and no entry changes
   pub headed_page : (h : ℕ) → leaf_index h < leaves → page_at (seen headed.now all space) h ≡ page_at (seen w.now all space) h

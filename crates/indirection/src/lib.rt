@@ -18,4 +18,3 @@ mod writing;
 
 pub use laws::frame_law;
 pub use map::{add, change, find, remove};
-

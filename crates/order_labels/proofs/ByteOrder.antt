@@ -86,7 +86,8 @@ below_front (a ∷ low) [] x y xs ys l h = absurd (omega arith)
 below_front [] (b ∷ front) x y xs ys l h = refl
 below_front (a ∷ low) (b ∷ front) x y xs ys l h =
     below_by_heads a b low (front ++ y ∷ ys)
-    (with_rests a b (IsBelow low (front ++ x ∷ xs)) (IsBelow low (front ++ y ∷ ys)) (below_front low front x y xs ys (omega arith)) (heads a b low (front ++ x ∷ xs) h))
+    (with_rests a b (IsBelow low (front ++ x ∷ xs)) (IsBelow low (front ++ y ∷ ys)) (below_front low front x y xs ys (omega arith))
+    (heads a b low (front ++ x ∷ xs) h))
 
 -- lists that compare as equal are the same
 pub same_from_order : (xs ys : List ℕ) → byte_order xs ys ≡ Equal → xs ≡ ys

@@ -12,7 +12,8 @@ use Rattle.order_labels.proofs.FractionLemmas.{InRange}
 digits_in_range : (f : ℕ → ℕ) → ((d : ℕ) → d < 254 → InRange (f d)) → (n i : ℕ) → i < 254 ^ n → All InRange (map f (digits n i))
 digits_in_range f r zero i h = All-nil InRange
 digits_in_range f r (suc n) i h =
-    All-cons InRange (f (i / 254 ^ n)) (map f (digits n (i % 254 ^ n))) (r (i / 254 ^ n) (first_digit n i h)) (digits_in_range f r n (i % 254 ^ n) (remainder_below n i))
+    All-cons InRange (f (i / 254 ^ n)) (map f (digits n (i % 254 ^ n))) (r (i / 254 ^ n) (first_digit n i h))
+    (digits_in_range f r n (i % 254 ^ n) (remainder_below n i))
 
 -- the bytes of an integer's part
 integer_in_range : (k : KeyValue) (i : ℤ) → k.integer ≡ i → IsKey k → All InRange (integer_code i)

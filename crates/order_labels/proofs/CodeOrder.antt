@@ -23,9 +23,15 @@ naturals_rise i j l h xs ys =
     below_by_heads (128 + digit_count i) (128 + digit_count j) (map raised (digits (digit_count i) i) ++ xs) (map raised (digits (digit_count j) j) ++ ys)
     (by (cases_order (digit_count i) (digit_count j)) (digit_count-mono i j (omega arith) h))
   where
-    by : (digit_count i ≡ digit_count j) ⊎ ((digit_count i < digit_count j) ⊎ (digit_count j < digit_count i)) → digit_count i ≤ digit_count j → (128 + digit_count i < 128 + digit_count j) ⊎ ((128 + digit_count i ≡ 128 + digit_count j) × IsBelow (map raised (digits (digit_count i) i) ++ xs) (map raised (digits (digit_count j) j) ++ ys))
+    by : (digit_count i ≡ digit_count j) ⊎ ((digit_count i < digit_count j) ⊎ (digit_count j < digit_count i)) → digit_count i ≤ digit_count j
+        → (128 + digit_count i < 128 + digit_count j)
+        ⊎ ((128 + digit_count i ≡ 128 + digit_count j) × IsBelow (map raised (digits (digit_count i) i) ++ xs) (map raised (digits (digit_count j) j) ++ ys))
     by (inl e) m =
-        inr (ap (λ n. 128 + n) e, subst (λ n. IsBelow (map raised (digits n i) ++ xs) (map raised (digits (digit_count j) j) ++ ys)) (sym e) (digits_rise raised (λ d e l b. omega arith) (digit_count j) i j xs ys l (digit_count-holds j h)))
+        inr (
+          ap (λ n. 128 + n) e,
+          subst (λ n. IsBelow (map raised (digits n i) ++ xs) (map raised (digits (digit_count j) j) ++ ys)) (sym e)
+              (digits_rise raised (λ d e l b. omega arith) (digit_count j) i j xs ys l (digit_count-holds j h)),
+        )
     by (inr (inl less)) m = inl (omega arith)
     by (inr (inr more)) m = absurd (omega arith)
 
@@ -36,9 +42,15 @@ negatives_rise w v l h xs ys =
     below_by_heads (128 - digit_count w) (128 - digit_count v) (map lowered (digits (digit_count w) w) ++ xs) (map lowered (digits (digit_count v) v) ++ ys)
     (by (cases_order (digit_count v) (digit_count w)) (digit_count-mono v w (omega arith) h) (digit_count-max w h))
   where
-    by : (digit_count v ≡ digit_count w) ⊎ ((digit_count v < digit_count w) ⊎ (digit_count w < digit_count v)) → digit_count v ≤ digit_count w → digit_count w ≤ 7 → (128 - digit_count w < 128 - digit_count v) ⊎ ((128 - digit_count w ≡ 128 - digit_count v) × IsBelow (map lowered (digits (digit_count w) w) ++ xs) (map lowered (digits (digit_count v) v) ++ ys))
+    by : (digit_count v ≡ digit_count w) ⊎ ((digit_count v < digit_count w) ⊎ (digit_count w < digit_count v)) → digit_count v ≤ digit_count w
+        → digit_count w ≤ 7 → (128 - digit_count w < 128 - digit_count v)
+        ⊎ ((128 - digit_count w ≡ 128 - digit_count v) × IsBelow (map lowered (digits (digit_count w) w) ++ xs) (map lowered (digits (digit_count v) v) ++ ys))
     by (inl e) m s =
-        inr (ap (λ n. 128 - n) (sym e), subst (λ n. IsBelow (map lowered (digits (digit_count w) w) ++ xs) (map lowered (digits n v) ++ ys)) (sym e) (digits_fall lowered (λ d e l b. omega arith) (digit_count w) v w ys xs l (digit_count-holds w h)))
+        inr (
+          ap (λ n. 128 - n) (sym e),
+          subst (λ n. IsBelow (map lowered (digits (digit_count w) w) ++ xs) (map lowered (digits n v) ++ ys)) (sym e)
+              (digits_fall lowered (λ d e l b. omega arith) (digit_count w) v w ys xs l (digit_count-holds w h)),
+        )
     by (inr (inl less)) m s = inl (omega arith)
     by (inr (inr more)) m s = absurd (omega arith)
 
@@ -66,7 +78,8 @@ pub below_from_lower : (a b : KeyValue) → IsKey a → IsKey b → IsLower a b 
 unfolding code
 below_from_lower a b p q (inl l) = integers_rise a.integer b.integer l p.from_least q.below_bound a.fraction b.fraction
 below_from_lower a b p q (inr r) =
-    subst (λ i. IsBelow (integer_code a.integer ++ a.fraction) (integer_code i ++ b.fraction)) r.0 (byte_order-front (integer_code a.integer) a.fraction b.fraction ∙ r.1)
+    subst (λ i. IsBelow (integer_code a.integer ++ a.fraction) (integer_code i ++ b.fraction)) r.0
+    (byte_order-front (integer_code a.integer) a.fraction b.fraction ∙ r.1)
 
 -- two integers are in one order, or equal, or in the other
 order_of_integers : (i j : ℤ) → (i <ℤ j) ⊎ ((i ≡ j) ⊎ (j <ℤ i))
@@ -81,7 +94,11 @@ lower_from_below a b p q h = by (order_of_integers a.integer b.integer)
     by : (a.integer <ℤ b.integer) ⊎ ((a.integer ≡ b.integer) ⊎ (b.integer <ℤ a.integer)) → IsLower a b
     by (inl l) = inl l
     by (inr (inl e)) =
-        inr (e, sym (byte_order-front (integer_code a.integer) a.fraction b.fraction) ∙ subst (λ i. IsBelow (integer_code a.integer ++ a.fraction) (integer_code i ++ b.fraction)) (sym e) h)
+        inr (
+          e,
+          sym (byte_order-front (integer_code a.integer) a.fraction b.fraction)
+              ∙ subst (λ i. IsBelow (integer_code a.integer ++ a.fraction) (integer_code i ++ b.fraction)) (sym e) h,
+        )
     by (inr (inr g)) =
         absurd (not_below_both (code a) (code b) h (integers_rise b.integer a.integer g q.from_least p.below_bound b.fraction a.fraction))
 

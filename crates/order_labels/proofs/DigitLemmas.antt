@@ -27,7 +27,8 @@ quotients_rise q i j pos lower =
     let small : j % q < q = mod_below j q pos in
     by (cases_order (i / q) (j / q)) at_i at_j small
   where
-    by : (i / q ≡ j / q) ⊎ ((i / q < j / q) ⊎ (j / q < i / q)) → i / q * q + i % q ≡ i → j / q * q + j % q ≡ j → j % q < q → (i / q < j / q) ⊎ ((i / q ≡ j / q) × (i % q < j % q))
+    by : (i / q ≡ j / q) ⊎ ((i / q < j / q) ⊎ (j / q < i / q)) → i / q * q + i % q ≡ i → j / q * q + j % q ≡ j → j % q < q
+        → (i / q < j / q) ⊎ ((i / q ≡ j / q) × (i % q < j % q))
     by (inl e) a b s = let same : i / q * q ≡ j / q * q = ap (λ z. z * q) e in inr (e, omega arith)
     by (inr (inl l)) a b s = inl l
     by (inr (inr g)) a b s = absurd (omega (arith, mul-le-mul_right {m = j / q + 1} {n = i / q} q (omega arith)))
@@ -51,7 +52,8 @@ digits-first zero i p = absurd (omega arith)
 digits-first (suc n) i p = rw sub-one refl
 
 -- the highest digit and then those of the remainder are all digits, behind what is there
-pub digits_pushed : (f : ℕ → ℕ) (out : List ℕ) (n i : ℕ) → 0 < n → out ++ f (i / 254 ^ (n - 1)) ∷ [] ++ map f (digits (n - 1) (i % 254 ^ (n - 1))) ≡ out ++ map f (digits n i)
+pub digits_pushed : (f : ℕ → ℕ) (out : List ℕ) (n i : ℕ) → 0 < n
+    → out ++ f (i / 254 ^ (n - 1)) ∷ [] ++ map f (digits (n - 1) (i % 254 ^ (n - 1))) ≡ out ++ map f (digits n i)
 digits_pushed f out n i p =
     append_assoc out (f (i / 254 ^ (n - 1)) ∷ []) (map f (digits (n - 1) (i % 254 ^ (n - 1)))) ∙ ap (λ ds. out ++ map f ds) (sym (digits-first n i p))
 
@@ -60,24 +62,28 @@ pub remainder_below : (n i : ℕ) → i % 254 ^ n < 254 ^ n
 remainder_below n i = mod_below i (254 ^ n) (power_pos n)
 
 -- A lower number of n digits has the lower digits, where a higher digit is written as a higher byte.
-pub digits_rise : (f : ℕ → ℕ) → ((d e : ℕ) → d < e → e < 254 → f d < f e) → (n i j : ℕ) (xs ys : List ℕ) → i < j → j < 254 ^ n → IsBelow (map f (digits n i) ++ xs) (map f (digits n j) ++ ys)
+pub digits_rise : (f : ℕ → ℕ) → ((d e : ℕ) → d < e → e < 254 → f d < f e) → (n i j : ℕ) (xs ys : List ℕ) → i < j → j < 254 ^ n
+    → IsBelow (map f (digits n i) ++ xs) (map f (digits n j) ++ ys)
 digits_rise f up zero i j xs ys h g = absurd (omega arith)
 digits_rise f up (suc n) i j xs ys h g =
     below_by_heads (f (i / 254 ^ n)) (f (j / 254 ^ n)) (map f (digits n (i % 254 ^ n)) ++ xs) (map f (digits n (j % 254 ^ n)) ++ ys)
     (by (quotients_rise (254 ^ n) i j (power_pos n) h) (λ r. digits_rise f up n (i % 254 ^ n) (j % 254 ^ n) xs ys r (mod_below j (254 ^ n) (power_pos n))))
   where
-    by : {P : Type 0} → (i / 254 ^ n < j / 254 ^ n) ⊎ ((i / 254 ^ n ≡ j / 254 ^ n) × (i % 254 ^ n < j % 254 ^ n)) → (i % 254 ^ n < j % 254 ^ n → P) → (f (i / 254 ^ n) < f (j / 254 ^ n)) ⊎ ((f (i / 254 ^ n) ≡ f (j / 254 ^ n)) × P)
+    by : {P : Type 0} → (i / 254 ^ n < j / 254 ^ n) ⊎ ((i / 254 ^ n ≡ j / 254 ^ n) × (i % 254 ^ n < j % 254 ^ n)) → (i % 254 ^ n < j % 254 ^ n → P)
+        → (f (i / 254 ^ n) < f (j / 254 ^ n)) ⊎ ((f (i / 254 ^ n) ≡ f (j / 254 ^ n)) × P)
     by (inl l) ih = inl (up (i / 254 ^ n) (j / 254 ^ n) l (first_digit n j g))
     by (inr r) ih = inr (ap f r.0, ih r.1)
 
 -- A lower number of n digits has the higher digits, where a higher digit is written as a lower byte.
-pub digits_fall : (f : ℕ → ℕ) → ((d e : ℕ) → d < e → e < 254 → f e < f d) → (n i j : ℕ) (xs ys : List ℕ) → i < j → j < 254 ^ n → IsBelow (map f (digits n j) ++ ys) (map f (digits n i) ++ xs)
+pub digits_fall : (f : ℕ → ℕ) → ((d e : ℕ) → d < e → e < 254 → f e < f d) → (n i j : ℕ) (xs ys : List ℕ) → i < j → j < 254 ^ n
+    → IsBelow (map f (digits n j) ++ ys) (map f (digits n i) ++ xs)
 digits_fall f down zero i j xs ys h g = absurd (omega arith)
 digits_fall f down (suc n) i j xs ys h g =
     below_by_heads (f (j / 254 ^ n)) (f (i / 254 ^ n)) (map f (digits n (j % 254 ^ n)) ++ ys) (map f (digits n (i % 254 ^ n)) ++ xs)
     (by (quotients_rise (254 ^ n) i j (power_pos n) h) (λ r. digits_fall f down n (i % 254 ^ n) (j % 254 ^ n) xs ys r (mod_below j (254 ^ n) (power_pos n))))
   where
-    by : {P : Type 0} → (i / 254 ^ n < j / 254 ^ n) ⊎ ((i / 254 ^ n ≡ j / 254 ^ n) × (i % 254 ^ n < j % 254 ^ n)) → (i % 254 ^ n < j % 254 ^ n → P) → (f (j / 254 ^ n) < f (i / 254 ^ n)) ⊎ ((f (j / 254 ^ n) ≡ f (i / 254 ^ n)) × P)
+    by : {P : Type 0} → (i / 254 ^ n < j / 254 ^ n) ⊎ ((i / 254 ^ n ≡ j / 254 ^ n) × (i % 254 ^ n < j % 254 ^ n)) → (i % 254 ^ n < j % 254 ^ n → P)
+        → (f (j / 254 ^ n) < f (i / 254 ^ n)) ⊎ ((f (j / 254 ^ n) ≡ f (i / 254 ^ n)) × P)
     by (inl l) ih = inl (down (i / 254 ^ n) (j / 254 ^ n) l (first_digit n j g))
     by (inr r) ih = inr (sym (ap f r.0), ih r.1)
 

@@ -48,7 +48,8 @@ below_by_last high n x xs e l =
     subst (λ h. IsBelow (take n high ++ x ∷ xs) h) (sym (split_last high n e)) (below_at (take n high) x (get_or high n 0) xs [] l)
 
 -- what is below and shorter stays below, whatever comes in place of the last byte
-pub below_near : (high : List ℕ) (n x : ℕ) (xs low : List ℕ) → length high ≡ n + 1 → length low < length high → IsBelow low high → IsBelow low (take n high ++ x ∷ xs)
+pub below_near : (high : List ℕ) (n x : ℕ) (xs low : List ℕ) → length high ≡ n + 1 → length low < length high → IsBelow low high
+    → IsBelow low (take n high ++ x ∷ xs)
 below_near high n x xs low e s l =
     below_front low (take n high) (get_or high n 0) x [] xs (omega (arith, length-take-le n high (omega arith)))
     (subst (λ h. IsBelow low h) (split_last high n e) l)

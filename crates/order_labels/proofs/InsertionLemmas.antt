@@ -15,7 +15,8 @@ rising_front k [] r l = tt
 rising_front k (b ∷ back) r l = (l.below, r)
 
 -- a key between its neighbours leaves the keys rising
-pub rising_insert : (front back : List KeyValue) (k : KeyValue) → IsRising (front ++ back) → LiesBetween (last_key front) (first_key back) k → IsRising (front ++ k ∷ back)
+pub rising_insert : (front back : List KeyValue) (k : KeyValue) → IsRising (front ++ back) → LiesBetween (last_key front) (first_key back) k
+    → IsRising (front ++ k ∷ back)
 rising_insert [] back k r l = rising_front k back r (record { above = tt; below = l.below })
 rising_insert (a ∷ []) [] k r l = (l.above, tt)
 rising_insert (a ∷ []) (b ∷ back) k r l = (l.above, (l.below, r.1))

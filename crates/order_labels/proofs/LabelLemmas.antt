@@ -26,9 +26,11 @@ child_label-append : (parent : List ℕ) (k : KeyValue) (x : List ℕ) → child
 child_label-append parent k x = append_assoc (parent ++ code k) (1 ∷ []) x ∙ append_assoc parent (code k) (1 ∷ x)
 
 -- of two children the one with the lower key, and all below it, comes before the other and all below that
-pub siblings_in_order : (parent : List ℕ) (a b : KeyValue) → IsKey b → IsKeyBelow a b → (x y : List ℕ) → IsBelow (child_label parent a ++ x) (child_label parent b ++ y)
+pub siblings_in_order : (parent : List ℕ) (a b : KeyValue) → IsKey b → IsKeyBelow a b → (x y : List ℕ)
+    → IsBelow (child_label parent a ++ x) (child_label parent b ++ y)
 siblings_in_order parent a b p l x y =
-    rw (child_label-append parent a x, child_label-append parent b y) (byte_order-front parent (code a ++ 1 ∷ x) (code b ++ 1 ∷ y) ∙ closed_codes (code a) (code b) x y (code_in_range b p) l)
+    rw (child_label-append parent a x, child_label-append parent b y) (byte_order-front parent (code a ++ 1 ∷ x) (code b ++ 1 ∷ y)
+    ∙ closed_codes (code a) (code b) x y (code_in_range b p) l)
 
 -- an ancestor comes before what is below it
 pub ancestor_below : (a b : List ℕ) → IsAncestor a b → IsBelow a b
@@ -95,7 +97,8 @@ front_in_range (a ∷ m) rest (b ∷ code') r e some =
     All-cons InRange a m (subst InRange (sym head) (All-head InRange b code' r)) (front_in_range m rest code' (All-tail InRange b code' r) tail some)
 
 -- a label does not end in a code
-not_in_code : (parent other m rest : List ℕ) (x : ℕ) (k : KeyValue) → IsKey k → IsLabel other → other ≡ parent ++ x ∷ m → code k ++ 1 ∷ [] ≡ x ∷ m ++ rest → rest ≢ [] → ⊥
+not_in_code : (parent other m rest : List ℕ) (x : ℕ) (k : KeyValue) → IsKey k → IsLabel other → other ≡ parent ++ x ∷ m → code k ++ 1 ∷ [] ≡ x ∷ m ++ rest
+    → rest ≢ [] → ⊥
 not_in_code parent other m rest x k p lab e f some = by (label_end other lab)
   where
     last : InRange (last_of (last_of 0 parent) (x ∷ m))
@@ -109,18 +112,24 @@ not_in_code parent other m rest x k p lab e f some = by (label_end other lab)
 pub parent_is_nearest : (parent : List ℕ) (k : KeyValue) → IsKey k → IsParent parent (child_label parent k)
 parent_is_nearest parent k p = record {
   ancestor = (code k ++ 1 ∷ [], (λ none. omega (arith, ap length none, length-append (code k) (1 ∷ []))), append_assoc parent (code k) (1 ∷ []));
-  nearest = λ other lab above. by other lab above.0 above.1 above.2 (fronts parent (code k ++ 1 ∷ []) other above.0 (sym (append_assoc parent (code k) (1 ∷ [])) ∙ above.2));
+  nearest = λ other lab above. by other lab above.0 above.1 above.2
+      (fronts parent (code k ++ 1 ∷ []) other above.0 (sym (append_assoc parent (code k) (1 ∷ [])) ∙ above.2));
 }
   where
-    by : (other : List ℕ) → IsLabel other → (rest : List ℕ) → rest ≢ [] → child_label parent k ≡ other ++ rest → Fronts parent (code k ++ 1 ∷ []) other rest → (other ≡ parent) ⊎ IsAncestor other parent
+    by : (other : List ℕ) → IsLabel other → (rest : List ℕ) → rest ≢ [] → child_label parent k ≡ other ++ rest → Fronts parent (code k ++ 1 ∷ []) other rest
+        → (other ≡ parent) ⊎ IsAncestor other parent
     by other lab rest some e (longer [] f) = inl (sym (f ∙ append-nil other))
     by other lab rest some e (longer (x ∷ m) f) = inr (x ∷ m, (λ none. cc), f)
     by other lab rest some e (shorter x m f g) = absurd (not_in_code parent other m rest x k p lab f g some)
 
 -- a list that begins with another and is longer has it as a proper prefix
 pub ancestor_from_front : (a b : List ℕ) → length a < length b → take (length a) b ≡ a → IsAncestor a b
-ancestor_from_front a b h e =
-    (drop (length a) b, (λ none. omega (arith, ap length none, length-drop (length a) b)), sym (take-append-drop (length a) b) ∙ ap (λ z. z ++ drop (length a) b) e)
+ancestor_from_front a b h e = (
+  drop (length a) b,
+  (λ none. omega (arith, ap length none, length-drop (length a) b)),
+  sym (take-append-drop (length a) b)
+      ∙ ap (λ z. z ++ drop (length a) b) e,
+)
 
 -- a proper prefix is what the list begins with
 pub front_from_ancestor : (a b : List ℕ) → IsAncestor a b → take (length a) b ≡ a
@@ -141,19 +150,23 @@ ancestor_decides a b r h e = (
 -- the first n + m elements are the first n and the m after them
 take_in_two : (n m : ℕ) (xs : List ℕ) → take (n + m) xs ≡ take n xs ++ take m (drop n xs)
 take_in_two n m xs =
-    sym (take-append-drop n (take (n + m) xs)) ∙ ap (λ z. z ++ drop n (take (n + m) xs)) (take-take n (n + m) xs (omega arith)) ∙ ap (λ z. take n xs ++ z) (drop-take n m xs)
+    sym (take-append-drop n (take (n + m) xs)) ∙ ap (λ z. z ++ drop n (take (n + m) xs)) (take-take n (n + m) xs (omega arith))
+    ∙ ap (λ z. take n xs ++ z) (drop-take n m xs)
 
 -- a label that begins with its parent's and ends with the byte 1 is the parent's, what is between and the byte 1
-pub code_between : (parent label : List ℕ) → length parent < length label → take (length parent) label ≡ parent → get_or label (length label - 1) 0 ≡ 1 → label ≡ parent ++ take (length label - 1 - length parent) (drop (length parent) label) ++ 1 ∷ []
+pub code_between : (parent label : List ℕ) → length parent < length label → take (length parent) label ≡ parent → get_or label (length label - 1) 0 ≡ 1
+    → label ≡ parent ++ take (length label - 1 - length parent) (drop (length parent) label) ++ 1 ∷ []
 code_between parent label h front last =
     split_last label (length label - 1) (omega arith) ∙ ap (λ b. take (length label - 1) label ++ b ∷ []) last ∙ ap (λ z. z ++ 1 ∷ []) middle
   where
     middle : take (length label - 1) label ≡ parent ++ take (length label - 1 - length parent) (drop (length parent) label)
-    middle = ap (λ e. take e label) (omega arith) ∙ take_in_two (length parent) (length label - 1 - length parent) label ∙ ap (λ z. z ++ take (length label - 1 - length parent) (drop (length parent) label)) front
+    middle = ap (λ e. take e label) (omega arith) ∙ take_in_two (length parent) (length label - 1 - length parent) label
+        ∙ ap (λ z. z ++ take (length label - 1 - length parent) (drop (length parent) label)) front
 
 -- a label of a child begins with its parent's
 pub begins_with_parent : (parent label code' : List ℕ) → label ≡ parent ++ code' ++ 1 ∷ [] → take (length parent) label ≡ parent
-begins_with_parent parent label code' e = ap (take (length parent)) (e ∙ append_assoc parent code' (1 ∷ [])) ∙ take_at parent (code' ++ 1 ∷ []) (length parent) refl
+begins_with_parent parent label code' e = ap (take (length parent)) (e ∙ append_assoc parent code' (1 ∷ []))
+    ∙ take_at parent (code' ++ 1 ∷ []) (length parent) refl
 
 -- a label is that of a child with one code
 pub one_code : (parent c d : List ℕ) → parent ++ c ++ 1 ∷ [] ≡ parent ++ d ++ 1 ∷ [] → c ≡ d

@@ -14,7 +14,8 @@ use Rattle.order_labels.proofs.CodeOrder.{below_from_lower, lower_from_below, le
 pub below_by_fraction : (a b : KeyValue) → a.integer ≡ b.integer → IsBelow a.fraction b.fraction → IsKeyBelow a b
 unfolding code
 below_by_fraction a b e l =
-    subst (λ i. IsBelow (integer_code a.integer ++ a.fraction) (integer_code i ++ b.fraction)) e (byte_order-front (integer_code a.integer) a.fraction b.fraction ∙ l)
+    subst (λ i. IsBelow (integer_code a.integer ++ a.fraction) (integer_code i ++ b.fraction)) e
+    (byte_order-front (integer_code a.integer) a.fraction b.fraction ∙ l)
 
 -- a key is below those of higher integers
 pub below_by_integer : (a b : KeyValue) → IsKey a → IsKey b → a.integer <ℤ b.integer → IsKeyBelow a b
@@ -41,19 +42,39 @@ pub shorter_by_fraction : (k a : KeyValue) (n : ℕ) → k.integer ≡ a.integer
 shorter_by_fraction k a n e l = omega (arith, length-code k, length-code a, ap integer_size e)
 
 -- the same beside two codes of one integer, as much longer as the longer fraction
-pub short_beside : (k low high : KeyValue) → k.integer ≡ low.integer → k.integer ≡ high.integer → length k.fraction ≤ max (length low.fraction) (length high.fraction) + 1 → length (code k) ≤ max (length (code low)) (length (code high)) + 1
+pub short_beside : (k low high : KeyValue) → k.integer ≡ low.integer → k.integer ≡ high.integer
+    → length k.fraction ≤ max (length low.fraction) (length high.fraction) + 1 → length (code k) ≤ max (length (code low)) (length (code high)) + 1
 short_beside k low high e f l =
     omega (arith, length-code k, length-code low, length-code high, ap integer_size e, ap integer_size f)
 
 -- a code with the next integer and no fraction is one byte longer at most
 pub short_next : (k low : KeyValue) (i : ℤ) → IsKey low → k ≡ whole i → i ≡ low.integer +ℤ pos 1 → length (code k) ≤ length (code low) + 1
 short_next k low i p e n =
-    omega (arith, length-code k, length-code low, integer_size-next low.integer p.from_least p.below_bound, ap (λ k. integer_size k.integer) e, ap (λ k. length k.fraction) e, ap integer_size n)
+    omega (
+      arith,
+      length-code k,
+      length-code low,
+      integer_size-next low.integer p.from_least p.below_bound,
+      ap (λ k. integer_size k.integer) e,
+      ap
+          (λ k. length k.fraction) e,
+      ap integer_size n,
+    )
 
 -- a code with the integer before and no fraction is one byte longer at most
-pub short_previous : (k high : KeyValue) (i : ℤ) → IsKey high → least_integer <ℤ high.integer → k ≡ whole i → i ≡ high.integer -ℤ pos 1 → length (code k) ≤ length (code high) + 1
+pub short_previous : (k high : KeyValue) (i : ℤ) → IsKey high → least_integer <ℤ high.integer → k ≡ whole i → i ≡ high.integer -ℤ pos 1
+    → length (code k) ≤ length (code high) + 1
 short_previous k high i p lo e n =
-    omega (arith, length-code k, length-code high, integer_size-previous high.integer lo p.below_bound, ap (λ k. integer_size k.integer) e, ap (λ k. length k.fraction) e, ap integer_size n)
+    omega (
+      arith,
+      length-code k,
+      length-code high,
+      integer_size-previous high.integer lo p.below_bound,
+      ap (λ k. integer_size k.integer) e,
+      ap
+          (λ k. length k.fraction) e,
+      ap integer_size n,
+    )
 
 -- a code of the least integer and a fraction of one byte has 9 bytes
 pub length-code-least : (k : KeyValue) → k.integer ≡ least_integer → length k.fraction ≤ 1 → length (code k) ≤ 9
@@ -80,4 +101,5 @@ above_by_integer a b p q l = nat_list_cmp_total.antisymm (code a) (code b) ∙ a
 pub byte_order-code : (a b : KeyValue) → a.integer ≡ b.integer → byte_order (code a) (code b) ≡ byte_order a.fraction b.fraction
 unfolding code
 byte_order-code a b e =
-    subst (λ i. byte_order (integer_code a.integer ++ a.fraction) (integer_code i ++ b.fraction) ≡ byte_order a.fraction b.fraction) e (byte_order-front (integer_code a.integer) a.fraction b.fraction)
+    subst (λ i. byte_order (integer_code a.integer ++ a.fraction) (integer_code i ++ b.fraction) ≡ byte_order a.fraction b.fraction) e
+    (byte_order-front (integer_code a.integer) a.fraction b.fraction)

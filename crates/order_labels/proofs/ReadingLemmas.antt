@@ -92,14 +92,16 @@ back_read : (n m : ℕ) (xs ys : List ℕ) → ys ≡ xs → m ≡ min n (length
 back_read n m xs ys e h = take_rest ys m ∙ ap (λ k. drop k ys) h ∙ drop_min n ys ∙ ap (drop n) e
 
 -- the integer that is read, by the first byte and the digits
-pub integer_read : (bytes : List ℕ) (m : ℕ) → (length bytes ≡ 0 → ⊥) → m ≡ min (count_of (get_or bytes 0 0)) (length (tail_of bytes)) → integer_of (sign_of (get_or bytes 0 0)) (number_of (sign_of (get_or bytes 0 0)) (take m (tail_of bytes))) ≡ (read_key bytes).integer
+pub integer_read : (bytes : List ℕ) (m : ℕ) → (length bytes ≡ 0 → ⊥) → m ≡ min (count_of (get_or bytes 0 0)) (length (tail_of bytes))
+    → integer_of (sign_of (get_or bytes 0 0)) (number_of (sign_of (get_or bytes 0 0)) (take m (tail_of bytes))) ≡ (read_key bytes).integer
 unfolding read_key
 integer_read [] m some h = absurd (some refl)
 integer_read (b ∷ bs) m some h =
     ap (λ ds. integer_of (sign_of b) (number_of (sign_of b) ds)) (front_read (count_of b) m bs (tail_of (b ∷ bs)) (tail_of-cons b bs) h)
 
 -- the fraction that is read
-pub fraction_read : (bytes : List ℕ) (m : ℕ) → (length bytes ≡ 0 → ⊥) → m ≡ min (count_of (get_or bytes 0 0)) (length (tail_of bytes)) → take (length (tail_of bytes) - m) (drop m (tail_of bytes)) ≡ (read_key bytes).fraction
+pub fraction_read : (bytes : List ℕ) (m : ℕ) → (length bytes ≡ 0 → ⊥) → m ≡ min (count_of (get_or bytes 0 0)) (length (tail_of bytes))
+    → take (length (tail_of bytes) - m) (drop m (tail_of bytes)) ≡ (read_key bytes).fraction
 unfolding read_key
 fraction_read [] m some h = absurd (some refl)
 fraction_read (b ∷ bs) m some h = back_read (count_of b) m bs (tail_of (b ∷ bs)) (tail_of-cons b bs) h

@@ -22,7 +22,8 @@ IsRising (k ∷ next ∷ ks) = IsKeyBelow k next × IsRising (next ∷ ks)
 -- the second list comes from the first by insertions, at any places, of keys between their neighbours there
 pub data Insertions : List KeyValue → List KeyValue → Type 0 where
   none : (ks : List KeyValue) → Insertions ks ks
-  one_more : (before front back : List KeyValue) (k : KeyValue) → Insertions before (front ++ back) → LiesBetween (last_key front) (first_key back) k → Insertions before (front ++ k ∷ back)
+  one_more : (before front back : List KeyValue) (k : KeyValue) → Insertions before (front ++ back) → LiesBetween (last_key front) (first_key back) k
+      → Insertions before (front ++ k ∷ back)
 
 -- the second list has all elements of the first in their order, and may have others between them
 pub data AreKept : List (List ℕ) → List (List ℕ) → Type 0 where

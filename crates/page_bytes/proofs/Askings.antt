@@ -90,7 +90,8 @@ abbrev pub Gives : {X : Type 0} → Known → (PageId → Option (List ℕ)) →
 Gives k all space r x P = ((r ≡ Ok x) × P) ⊎ Needs k all space r
 
 -- a step that gives or needs, and then one more
-pub gives_then : {X Y : Type 0} {P Q : Type 0} (k : Known) (all : PageId → Option (List ℕ)) (space : Space) (r : Result X PageEnd) (f : X → Result Y PageEnd) (x : X) (y : Y)
+pub gives_then : {X Y : Type 0} {P Q : Type 0} (k : Known) (all : PageId → Option (List ℕ)) (space : Space) (r : Result X PageEnd) (f : X → Result Y PageEnd)
+    (x : X) (y : Y)
     → Gives k all space r x P → (P → Gives k all space (f x) y Q) → Gives k all space (and_then r f) y Q
 gives_then {P = P} {Q = Q} k all space r f x y gave more = ⊎_elim
     (λ (is : (r ≡ Ok x) × P). subst (λ r. Gives k all space (and_then r f) y Q) (sym is.0) (more is.1))

@@ -41,13 +41,15 @@ before page at m n bytes fits within =
     ∙ take-take n m (drop at page) fits
 
 -- what stands before a write stays
-pub bytes_at-before : (page : List ℕ) (at n to : ℕ) (bytes : List ℕ) → at + n ≤ to → to ≤ length page → bytes_at at n (with_bytes page to bytes) ≡ bytes_at at n page
+pub bytes_at-before : (page : List ℕ) (at n to : ℕ) (bytes : List ℕ) → at + n ≤ to → to ≤ length page
+    → bytes_at at n (with_bytes page to bytes) ≡ bytes_at at n page
 bytes_at-before page at n to bytes apart within =
     let e : at + (to - at) ≡ to = omega (arith, apart) in
     ap (λ t. bytes_at at n (with_bytes page t bytes)) (sym e) ∙ before page at (to - at) n bytes (omega (arith, apart)) (omega (arith, e, within, apart))
 
 -- and what stands behind it
-pub bytes_at-behind : (page : List ℕ) (at n to : ℕ) (bytes : List ℕ) → to + length bytes ≤ at → to ≤ length page → bytes_at at n (with_bytes page to bytes) ≡ bytes_at at n page
+pub bytes_at-behind : (page : List ℕ) (at n to : ℕ) (bytes : List ℕ) → to + length bytes ≤ at → to ≤ length page
+    → bytes_at at n (with_bytes page to bytes) ≡ bytes_at at n page
 bytes_at-behind page at n to bytes apart within =
     ap (take n) (drop-append-drop (to + length bytes) page (take to page ++ bytes) at apart (front page to bytes within))
 

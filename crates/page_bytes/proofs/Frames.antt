@@ -34,7 +34,8 @@ no_write fields n (Some old) None none wrote = absurd wrote
 no_write fields n (Some old) (Some new) none wrote =
     let long = wrote.long in
     let all : new ≡ old =
-    sym (take_all (length old) new (omega (arith, long))) ∙ wrote.beside 0 (length old) (none_beside fields n 0 (length old) none) ∙ take_all (length old) old (omega arith) in
+    sym (take_all (length old) new (omega (arith, long))) ∙ wrote.beside 0 (length old) (none_beside fields n 0 (length old) none)
+    ∙ take_all (length old) old (omega arith) in
     ap (λ (b : List ℕ). Some b) all
 
 -- a page that the call has nothing to do with stays
@@ -63,13 +64,15 @@ module _ (c : Call) (keeps : Keeps c) where
       at false known = known
 
   -- so what is seen of it then is what it is asked for
-  asked_then : (from : PageId) (n : ℕ) (b b' : List ℕ) → map.get c.old.now.pages (id_of n) ≡ Some b → behind c n ≡ Some b' → asked c.new.now from (id_of n) ≡ Ok b'
+  asked_then : (from : PageId) (n : ℕ) (b b' : List ℕ) → map.get c.old.now.pages (id_of n) ≡ Some b → behind c n ≡ Some b'
+      → asked c.new.now from (id_of n) ≡ Ok b'
   asked_then from n b b' is then_is =
       let known = still_known n b is in
       there_asked c.new.now from (id_of n) b' known (sym (ap (λ u. if u then c.all (id_of n) else map.get c.new.now.pages (id_of n)) known) ∙ then_is)
 
   -- a page of a foreign kind
-  foreign_kind : (n kind : ℕ) (b : List ℕ) → map.get c.old.now.pages (id_of n) ≡ Some b → slice_index b 0 ≡ kind → c.own.is_kind kind ≡ false → HasOwnPage c.own (before c n) → ⊥
+  foreign_kind : (n kind : ℕ) (b : List ℕ) → map.get c.old.now.pages (id_of n) ≡ Some b → slice_index b 0 ≡ kind → c.own.is_kind kind ≡ false
+      → HasOwnPage c.own (before c n) → ⊥
   foreign_kind n kind b is same foreign mine =
       let own : IsTrue (c.own.is_kind (slice_index b 0)) = subst (HasOwnPage c.own) (seen_there n b is) mine in
       true≢false (sym own ∙ ap c.own.is_kind same ∙ foreign)
@@ -83,9 +86,11 @@ module _ (c : Call) (at : TextRef) (spares : SparesText c at) where
   piece_stays from piece page positive untouched early is =
       let id = page_in c.space piece.page in let source = page_in c.space from in
       let rest : List ℕ → Result (List ℕ) PageEnd = λ bytes.
-      and_then (tested id (is_readable bytes) bytes) (λ page. and_then (tested source (has_piece piece.slot page) page) (λ page. tested id (is_piece piece.slot page) page)) in
+      and_then (tested id (is_readable bytes) bytes)
+      (λ page. and_then (tested source (has_piece piece.slot page) page) (λ page. tested id (is_piece piece.slot page) page)) in
       let asked_is = both_gave (asked c.old.now source id) rest page is in let b = asked_is.0 in
-      let tested_is = both_gave (tested id (is_readable b) b) (λ page. and_then (tested source (has_piece piece.slot page) page) (λ page. tested id (is_piece piece.slot page) page)) page asked_is.1.1 in
+      let tested_is = both_gave (tested id (is_readable b) b)
+      (λ page. and_then (tested source (has_piece piece.slot page) page) (λ page. tested id (is_piece piece.slot page) page)) page asked_is.1.1 in
       let kind : slice_index b 0 ≡ TEXT_KIND = eqb-true (slice_index b 0) 5
       (first_true (slice_index b 0 == 5) (nat_le (slot_at (slot_count b)) 4096) (test_passed id (is_readable b) b tested_is.0 tested_is.1.0).0) in
       let here = asked_there c.old.now source id b asked_is.1.0 in
@@ -138,7 +143,8 @@ module _ (space : Space) (number id : ℕ) (old new : List ℕ) (count : ℕ)
       let at = entry_place j old in let end = end_same j below in let same = ids j below in
       λ i. nat_le (at + 26) 4096 && (nat_le (end i) 4096 && not (same i == 0))
 
-  among_same : (j left : ℕ) → j + left ≡ count → entry_among space number left (entry_place j old) new id ≡ entry_among space number left (entry_place j old) old id
+  among_same : (j left : ℕ) → j + left ≡ count
+      → entry_among space number left (entry_place j old) new id ≡ entry_among space number left (entry_place j old) old id
   among_same j zero all = refl
   among_same j (suc left) all =
       let below : j < count = omega (arith, all) in let at = entry_place j old in
@@ -149,10 +155,12 @@ module _ (space : Space) (number id : ℕ) (old new : List ℕ) (count : ℕ)
 
 module _ (c : Call) (id : ℕ) (spares : SparesSchema c id) where
   -- what is read of a page that stays but for fields beside it
-  field_same : (fields : List PageField) (n k at : ℕ) (old new : List ℕ) → HasFieldWrite fields n (Some old) (Some new) → AreBeside fields n at k → field k at new ≡ field k at old
+  field_same : (fields : List PageField) (n k at : ℕ) (old new : List ℕ) → HasFieldWrite fields n (Some old) (Some new) → AreBeside fields n at k
+      → field k at new ≡ field k at old
   field_same fields n k at old new wrote apart = field-bytes_at k at old new (wrote.beside at k apart)
 
-  byte_same : (fields : List PageField) (n at : ℕ) (old new : List ℕ) → HasFieldWrite fields n (Some old) (Some new) → AreBeside fields n at 1 → slice_index new at ≡ slice_index old at
+  byte_same : (fields : List PageField) (n at : ℕ) (old new : List ℕ) → HasFieldWrite fields n (Some old) (Some new) → AreBeside fields n at 1
+      → slice_index new at ≡ slice_index old at
   byte_same fields n at old new wrote apart =
       sym (slice_index-bytes_at new at) ∙ ap (λ l. slice_index l 0) (wrote.beside at 1 apart) ∙ slice_index-bytes_at old at
 
@@ -160,7 +168,8 @@ module _ (c : Call) (id : ℕ) (spares : SparesSchema c id) where
   Reads number page = and_then (entry_among c.space number (entry_count page) 16 page id) (λ found. Ok (looked_at number page found))
 
   -- a schema page that has only such fields written is searched as before
-  searched : (number : ℕ) (old new : List ℕ) → SparesEntries c.own.fields number old → HasFieldWrite c.own.fields number (Some old) (Some new) → Reads number new ≡ Reads number old
+  searched : (number : ℕ) (old new : List ℕ) → SparesEntries c.own.fields number old → HasFieldWrite c.own.fields number (Some old) (Some new)
+      → Reads number new ≡ Reads number old
   searched number old new spared wrote =
       let count = field_same c.own.fields number 2 2 old new wrote spared.count in
       let next = field_same c.own.fields number 8 8 old new wrote spared.next in
@@ -214,7 +223,8 @@ module _ (c : Call) (id : ℕ) (spares : SparesSchema c id) where
       let was = seen_there c spares.keeps number b there in
       let spared : SparesEntries c.own.fields number b =
       subst (λ (o : Option (List ℕ)). SparesEntries c.own.fields number (unwrap_or o [])) was (spares.entries n from number at positive) in
-      let after = page_after number b positive was (foreign_kind c spares.keeps number SCHEMA_KIND b there kind spares.kind) (spares.earlier n from number at positive) spared in
+      let after = page_after number b positive was (foreign_kind c spares.keeps number SCHEMA_KIND b there kind spares.kind)
+      (spares.earlier n from number at positive) spared in
       let new = after.0 in
       let gave : schema_page c.new.now c.space from number ≡ Ok new =
       ap (λ r. and_then r tests) (asked_then c spares.keeps source number b new there after.1.0)
@@ -251,7 +261,8 @@ module _ (c : Call) (id : ℕ) (spares : SparesSchema c id) where
           never false = refl
       next_some k (suc n) is = (eqb-true k 2 (first_true (k == 2) (not (suc n == 0)) is), omega arith)
 
-      after : (o : Option (List ℕ)) → behind c 0 ≡ o → (b : List ℕ) → map.get c.old.now.pages (head_of c.space) ≡ Some b → bytes (before c) 0 ≡ b → is_head b ≡ true → first_schema_page b ≡ first
+      after : (o : Option (List ℕ)) → behind c 0 ≡ o → (b : List ℕ) → map.get c.old.now.pages (head_of c.space) ≡ Some b → bytes (before c) 0 ≡ b
+          → is_head b ≡ true → first_schema_page b ≡ first
           → first_in c.new.now c.space ≡ Ok first
       after None is b there old test same =
           let two = (next_some (slice_index b 0) (next_page b) test).0 in let long = two_is b two in
@@ -262,17 +273,23 @@ module _ (c : Call) (id : ℕ) (spares : SparesSchema c id) where
           let now : bytes (behind c) 0 ≡ new = ap (λ o. unwrap_or o []) is in
           let kind : slice_index new 0 ≡ slice_index b 0 =
           sym (slice_index-bytes_at new 0) ∙ ap (λ l. slice_index (bytes_at 0 1 l) 0) (sym now)
-          ∙ ap (λ l. slice_index l 0) (spares.keeps.head 0 1 spares.head (inl (omega arith))) ∙ ap (λ l. slice_index (bytes_at 0 1 l) 0) old ∙ slice_index-bytes_at b 0 in
+          ∙ ap (λ l. slice_index l 0) (spares.keeps.head 0 1 spares.head (inl (omega arith))) ∙ ap (λ l. slice_index (bytes_at 0 1 l) 0) old
+          ∙ slice_index-bytes_at b 0 in
           let place : first_schema_page new ≡ first_schema_page b =
-          ap first_schema_page (sym now) ∙ field-bytes_at 8 10 (bytes (before c) 0) (bytes (behind c) 0) (spares.keeps.head 10 8 spares.first (inr (omega arith))) ∙ ap first_schema_page old in
+          ap first_schema_page (sym now)
+          ∙ field-bytes_at 8 10 (bytes (before c) 0) (bytes (behind c) 0) (spares.keeps.head 10 8 spares.first (inr (omega arith)))
+          ∙ ap first_schema_page old in
           let next_then = ap next_page now in let next_was = ap next_page old in let raised = spares.keeps.raised in let some = passed.1 in
-          let test_then : is_head new ≡ true = test_is (slice_index new 0) (next_page new) (kind ∙ passed.0) (omega (arith, next_then, next_was, raised, some)) in
+          let test_then : is_head new ≡ true =
+          test_is (slice_index new 0) (next_page new) (kind ∙ passed.0) (omega (arith, next_then, next_was, raised, some)) in
           let here = head_of c.space in
-          ap (λ r. and_then (and_then r (λ head. tested here (is_head head) head)) (λ head. Ok (first_schema_page head))) (asked_then c spares.keeps here 0 b new there is)
+          ap (λ r. and_then (and_then r (λ head. tested here (is_head head) head)) (λ head. Ok (first_schema_page head)))
+          (asked_then c spares.keeps here 0 b new there is)
           ∙ ap (λ passes. and_then (tested here passes new) (λ head. Ok (first_schema_page head))) test_then
           ∙ ap (λ (n : ℕ). Ok n) (place ∙ same)
 
-  more_looked : (n : ℕ) (l m : Looked) → looked c.old.now c.space id n ≡ Ok l → looked_on c.old.now c.space id l ≡ Ok m → looked_on c.new.now c.space id l ≡ Ok m
+  more_looked : (n : ℕ) (l m : Looked) → looked c.old.now c.space id n ≡ Ok l → looked_on c.old.now c.space id l ≡ Ok m
+      → looked_on c.new.now c.space id l ≡ Ok m
   more_looked n (Found number at) m is more = more
   more_looked n (Next from number) m is more = on (number == 0) refl more
     where
@@ -294,6 +311,7 @@ module _ (c : Call) (id : ℕ) (spares : SparesSchema c id) where
       ap (λ r. and_then r (looked_on c.new.now c.space id)) (looked_stays n one.0 one.1.0) ∙ more_looked n one.0 l one.1.0 one.1.1
 
 -- the place of a schema entry stays where the call keeps off the search for it
-pub schema_stays : (c : Call) (id : ℕ) (place : Option Addr) → SparesSchema c id → IsSchemaEntry c.old.now c.space id (Ok place) → IsSchemaEntry c.new.now c.space id (Ok place)
+pub schema_stays : (c : Call) (id : ℕ) (place : Option Addr) → SparesSchema c id → IsSchemaEntry c.old.now c.space id (Ok place)
+    → IsSchemaEntry c.new.now c.space id (Ok place)
 schema_stays c id (Some place) spares is = (is.0, looked_stays c id spares is.0 _ is.1)
 schema_stays c id None spares is = (is.0, (is.1.0, looked_stays c id spares is.0 _ is.1.1))

@@ -31,7 +31,8 @@ asked_head k space b is long =
 
 module _ (own : Own) where
   -- what a page needs to be one of the structure
-  pub whole_page : (k : Known) (space : Space) (n : ℕ) (b : List ℕ) → 0 < n → IsTrue (is_there k (page_in space n)) → first_bytes k (page_in space n) ≡ b → length b ≡ 4096
+  pub whole_page : (k : Known) (space : Space) (n : ℕ) (b : List ℕ) → 0 < n → IsTrue (is_there k (page_in space n)) → first_bytes k (page_in space n) ≡ b
+      → length b ≡ 4096
       → IsTrue (own.is_kind (slice_index b 0)) → IsWholePage own k space n
   whole_page k space n b beside there is long kind = record {
     beside = beside;
@@ -41,7 +42,8 @@ module _ (own : Own) where
   }
 
   -- a page of one of the structure's kinds that was asked for is one
-  pub asked_page : (k : Known) (space : Space) (from : PageId) (kind n : ℕ) (b : List ℕ) → asked k from (page_in space n) ≡ Ok b → 0 < n → length b ≡ 4096 → slice_index b 0 ≡ kind
+  pub asked_page : (k : Known) (space : Space) (from : PageId) (kind n : ℕ) (b : List ℕ) → asked k from (page_in space n) ≡ Ok b → 0 < n → length b ≡ 4096
+      → slice_index b 0 ≡ kind
       → IsTrue (own.is_kind kind) → IsWholePage own k space n
   asked_page k space from kind n b is beside long same mine =
       let page = asked_there k from (page_in space n) b is in
@@ -72,13 +74,15 @@ head_beside w space n b positive head = record {
 
 module _ (own : Own) where
   -- a page of the structure stays one beside another page
-  pub page_beside : (w : Work) (space : Space) (n q : ℕ) (b : List ℕ) → q ≢ n → IsWholePage own w.now space q → IsWholePage own (with_page w (page_in space n) b).now space q
+  pub page_beside : (w : Work) (space : Space) (n q : ℕ) (b : List ℕ) → q ≢ n → IsWholePage own w.now space q
+      → IsWholePage own (with_page w (page_in space n) b).now space q
   page_beside w space n q b differ is =
       whole_page own (with_page w (page_in space n) b).now space q (first_bytes w.now (page_in space q)) is.beside
       (there_with_page w (page_in space n) (page_in space q) b is.there) (first_beside w space n q b differ) is.long is.kind
 
   -- and where its own bytes are written
-  pub page_itself : (w : Work) (space : Space) (n : ℕ) (b : List ℕ) → 0 < n → length b ≡ 4096 → IsTrue (own.is_kind (slice_index b 0)) → IsWholePage own (with_page w (page_in space n) b).now space n
+  pub page_itself : (w : Work) (space : Space) (n : ℕ) (b : List ℕ) → 0 < n → length b ≡ 4096 → IsTrue (own.is_kind (slice_index b 0))
+      → IsWholePage own (with_page w (page_in space n) b).now space n
   page_itself w space n b positive long kind =
       whole_page own (with_page w (page_in space n) b).now space n b positive (written_there w (page_in space n) b) (first_written w space n b) long kind
 
@@ -91,7 +95,8 @@ module _ (own : Own) where
   }
 
   -- a page of the structure is written
-  pub page_kept : (w : Work) (space : Space) (n : ℕ) (b : List ℕ) → IsWholePage own w.now space n → IsTrue (own.is_kind (slice_index b 0)) → IsWholeHead w.now space
+  pub page_kept : (w : Work) (space : Space) (n : ℕ) (b : List ℕ) → IsWholePage own w.now space n → IsTrue (own.is_kind (slice_index b 0))
+      → IsWholeHead w.now space
       → HasKept own 0 w (with_page w (page_in space n) b) space
   page_kept w space n b is kind head = record {
     kept = λ all. own_page own all space w n b is.beside (subst (HasOwnPage own) (sym (page-first w.now all space n is.there)) is.kind) kind;
@@ -100,7 +105,8 @@ module _ (own : Own) where
   }
 
   -- a field of the head is written
-  pub head_kept : (w : Work) (space : Space) (m to x : ℕ) → 10 ≤ to → to + m ≤ 4096 → ((at n : ℕ) → AreBeside own.fields 0 at n → (at + n ≤ to) ⊎ (to + m ≤ at)) → IsWholeHead w.now space
+  pub head_kept : (w : Work) (space : Space) (m to x : ℕ) → 10 ≤ to → to + m ≤ 4096 → ((at n : ℕ) → AreBeside own.fields 0 at n → (at + n ≤ to) ⊎ (to + m ≤ at))
+      → IsWholeHead w.now space
       → HasKept own 0 w (with_page w (page_in space 0) (with_field m (first_bytes w.now (page_in space 0)) to x)) space
   head_kept w space m to x past within mine head =
       let b = first_bytes w.now (page_in space 0) in let long = head.long in record {
@@ -155,17 +161,20 @@ module _ (own : Own) where
         (same_or_other q number)
 
   -- one step after another, where the second may refuse
-  pub then_kept : {X : Type 0} (a b c : Work) (space : Space) (j k : ℕ) (r : Result X PageEnd) → HasKept own j a b space → OnOk r (HasKept own k b c space) → OnOk r (HasKept own (j + k) a c space)
+  pub then_kept : {X : Type 0} (a b c : Work) (space : Space) (j k : ℕ) (r : Result X PageEnd) → HasKept own j a b space → OnOk r (HasKept own k b c space)
+      → OnOk r (HasKept own (j + k) a c space)
   then_kept a b c space j k (Ok x) one two = kept_twice a b c space j k one two
   then_kept a b c space j k (Err e) one two = tt
 
   -- fewer new pages are at most as many
   pub more_own : {X : Type 0} (w v : Work) (space : Space) (few most : ℕ) (r : Result X PageEnd) → few ≤ most
-      → OnOk r ((all : PageId → Option (List ℕ)) → KeepsToOwn own few w v all space) → OnOk r ((all : PageId → Option (List ℕ)) → KeepsToOwn own most w v all space)
+      → OnOk r ((all : PageId → Option (List ℕ)) → KeepsToOwn own few w v all space)
+      → OnOk r ((all : PageId → Option (List ℕ)) → KeepsToOwn own most w v all space)
   more_own w v space few most (Ok x) less kept = λ all. own_more own all space w v few most less (kept all)
   more_own w v space few most (Err e) less kept = tt
 
 -- what was given where nothing was refused
-pub given_new : {X : Type 0} (refusal : Option PageEnd) (p : X × Work) (x : X) (v : Work) → Answers (unless refusal p) (Ok x) v → (refusal ≡ None) × (x ≡ p.0) × (v ≡ p.1)
+pub given_new : {X : Type 0} (refusal : Option PageEnd) (p : X × Work) (x : X) (v : Work) → Answers (unless refusal p) (Ok x) v
+    → (refusal ≡ None) × (x ≡ p.0) × (v ≡ p.1)
 given_new (Some e) p x v is = absurd is
 given_new None p x v is = (refl, is.0, is.1)

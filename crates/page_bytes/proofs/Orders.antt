@@ -22,7 +22,8 @@ pub space_cmp-exact : IsAntisymmetric space_cmp
 space_cmp-exact x y is =
     elim (nat_cmp x.commit y.commit) as (λ o. nat_cmp x.commit y.commit ≡ o → ordering_then o (nat_cmp x.ordinal y.ordinal) ≡ Equal → x ≡ y) [
       | Less ↦ λ p e. cc
-      | Equal ↦ λ p e. let c = nat_cmp-IsAntisymmetric x.commit y.commit p in let o = nat_cmp-IsAntisymmetric x.ordinal y.ordinal e in λ i. record { commit = c i; ordinal = o i }
+      | Equal ↦ λ p e. let c = nat_cmp-IsAntisymmetric x.commit y.commit p in let o = nat_cmp-IsAntisymmetric x.ordinal y.ordinal e in
+          λ i. record { commit = c i; ordinal = o i }
       | Greater ↦ λ p e. cc
     ] refl is
 
@@ -31,7 +32,8 @@ pub page_cmp-exact : IsAntisymmetric page_cmp
 page_cmp-exact x y is =
     elim (space_cmp x.space y.space) as (λ o. space_cmp x.space y.space ≡ o → ordering_then o (nat_cmp x.number y.number) ≡ Equal → x ≡ y) [
       | Less ↦ λ p e. cc
-      | Equal ↦ λ p e. let s = space_cmp-exact x.space y.space p in let n = nat_cmp-IsAntisymmetric x.number y.number e in λ i. record { space = s i; number = n i }
+      | Equal ↦ λ p e. let s = space_cmp-exact x.space y.space p in let n = nat_cmp-IsAntisymmetric x.number y.number e in
+          λ i. record { space = s i; number = n i }
       | Greater ↦ λ p e. cc
     ] refl is
 

@@ -190,7 +190,8 @@ module _ (own : Own) (all : PageId → Option (List ℕ)) (space : Space) where
     head_beside : bytes (seen (with_page w (page_in space n) b).now all space) 0 ≡ bytes (seen w.now all space) 0
     head_beside = seen-beside w all space n 0 b (λ is. omega (arith, is, positive))
 
-    pub own_page : HasOwnPage own (seen w.now all space n) → IsTrue (own.is_kind (slice_index b 0)) → KeepsToOwn own 0 w (with_page w (page_in space n) b) all space
+    pub own_page : HasOwnPage own (seen w.now all space n) → IsTrue (own.is_kind (slice_index b 0))
+        → KeepsToOwn own 0 w (with_page w (page_in space n) b) all space
     own_page was is = record {
       pages = λ q past. ⊎_elim
           (λ same. inr (inl (
@@ -238,7 +239,8 @@ module _ (own : Own) (all : PageId → Option (List ℕ)) (space : Space) where
     }
 
   -- a field of the head is written
-  module _ (w : Work) (m to x : ℕ) (there : IsTrue (is_there w.now (head_of space))) (long : length (first_bytes w.now (head_of space)) ≡ 4096) (past : 10 ≤ to) (within : to + m ≤ 4096)
+  module _ (w : Work) (m to x : ℕ) (there : IsTrue (is_there w.now (head_of space))) (long : length (first_bytes w.now (head_of space)) ≡ 4096) (past : 10 ≤ to)
+      (within : to + m ≤ 4096)
       (mine : (at n : ℕ) → AreBeside own.fields 0 at n → (at + n ≤ to) ⊎ (to + m ≤ at)) where
     abbrev head_written : List ℕ
     head_written = with_field m (first_bytes w.now (head_of space)) to x
@@ -253,7 +255,8 @@ module _ (own : Own) (all : PageId → Option (List ℕ)) (space : Space) where
     now_is = seen-written w all space 0 head_written
 
     next_is : next_of (seen then_written.now all space) ≡ next_of (seen w.now all space)
-    next_is = ap next_page now_is ∙ field_apart 8 2 m (first_bytes w.now (head_of space)) to x (inl (omega (arith, past))) (omega (arith, within, long)) ∙ sym (ap next_page first_is)
+    next_is = ap next_page now_is ∙ field_apart 8 2 m (first_bytes w.now (head_of space)) to x (inl (omega (arith, past))) (omega (arith, within, long))
+        ∙ sym (ap next_page first_is)
 
     pub own_field : KeepsToOwn own 0 w then_written all space
     own_field = record {
@@ -273,7 +276,8 @@ module _ (own : Own) (all : PageId → Option (List ℕ)) (space : Space) where
     }
 
   -- a new page of the structure is made
-  module _ (w : Work) (b : List ℕ) (none : fresh_refusal w.now space ≡ None) (fits : next_in w space < 256 ^ 8) (long : length (first_bytes w.now (head_of space)) ≡ 4096) where
+  module _ (w : Work) (b : List ℕ) (none : fresh_refusal w.now space ≡ None) (fits : next_in w space < 256 ^ 8)
+      (long : length (first_bytes w.now (head_of space)) ≡ 4096) where
     abbrev fresh : ℕ
     fresh = next_in w space
 
@@ -293,13 +297,15 @@ module _ (own : Own) (all : PageId → Option (List ℕ)) (space : Space) where
     was_head = seen-first w.now all space 0 (head_there w space none)
 
     is_head_now : bytes (seen made_page.now all space) 0 ≡ raised_to
-    is_head_now = seen-beside (with_fresh w space) all space fresh 0 b (λ is. let more = some in omega (arith, is, more)) ∙ seen-written cleared all space 0 raised_to
+    is_head_now = seen-beside (with_fresh w space) all space fresh 0 b (λ is. let more = some in omega (arith, is, more))
+        ∙ seen-written cleared all space 0 raised_to
 
     next_was : next_of (seen w.now all space) ≡ fresh
     next_was = ap next_page was_head
 
     next_now : next_of (seen made_page.now all space) ≡ fresh + 1
-    next_now = let small = next_small w space none fits in ap next_page is_head_now ∙ field-written 8 2 (fresh + 1) (first_bytes w.now (head_of space)) (omega (arith, small)) (omega (arith, long))
+    next_now = let small = next_small w space none fits in ap next_page is_head_now
+        ∙ field-written 8 2 (fresh + 1) (first_bytes w.now (head_of space)) (omega (arith, small)) (omega (arith, long))
 
     page_now : seen made_page.now all space fresh ≡ Some b
     page_now = page-written (with_fresh w space) all space fresh b

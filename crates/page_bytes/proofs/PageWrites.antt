@@ -23,11 +23,13 @@ some_or false x o is = is
 
 -- what is there stays there where a page is written
 pub there_with_page : (w : Work) (id q : PageId) (bytes : List ℕ) → IsTrue (is_there w.now q) → IsTrue (is_there (with_page w id bytes).now q)
-there_with_page w id q bytes is = ap is_some (map.get-insert page_cmp-total w.now.pages id bytes q) ∙ some_or (eq_by_cmp page_cmp q id) bytes (map.get w.now.pages q) is
+there_with_page w id q bytes is = ap is_some (map.get-insert page_cmp-total w.now.pages id bytes q)
+    ∙ some_or (eq_by_cmp page_cmp q id) bytes (map.get w.now.pages q) is
 
 -- and the page that is written is there
 pub get_with_page : (w : Work) (id : PageId) (bytes : List ℕ) → map.get (with_page w id bytes).now.pages id ≡ Some bytes
-get_with_page w id bytes = map.get-insert page_cmp-total w.now.pages id bytes id ∙ ap (λ o. cond (is_eq o) (Some bytes) (map.get w.now.pages id)) (tied_itself page_cmp-total id)
+get_with_page w id bytes = map.get-insert page_cmp-total w.now.pages id bytes id
+    ∙ ap (λ o. cond (is_eq o) (Some bytes) (map.get w.now.pages id)) (tied_itself page_cmp-total id)
 
 pub written_there : (w : Work) (id : PageId) (bytes : List ℕ) → IsTrue (is_there (with_page w id bytes).now id)
 written_there w id bytes = ap is_some (get_with_page w id bytes)
@@ -49,12 +51,14 @@ head_of_refusal : (id : PageId) (there : Option (List ℕ)) → head_refusal id 
 head_of_refusal id None is = cc
 head_of_refusal id (Some bytes) is = positive (slice_index bytes 0 == 2) (next_page bytes) is
   where
-    positive : (two : Bool) (n : ℕ) → (if not (two && not (n == 0)) then Some (Damaged id) else if n == LAST_PAGE then Some (Spent LAST_PAGE) else None) ≡ None → 0 < n
+    positive : (two : Bool) (n : ℕ) → (if not (two && not (n == 0)) then Some (Damaged id) else if n == LAST_PAGE then Some (Spent LAST_PAGE) else None) ≡ None
+        → 0 < n
     positive true zero is = cc
     positive true (suc n) is = omega arith
     positive false n is = cc
 
-needed : (b : Bool) (id : PageId) (there : Option (List ℕ)) → (if b then Some (Need id) else head_refusal id there) ≡ None → 0 < next_page (unwrap_or there zeros)
+needed : (b : Bool) (id : PageId) (there : Option (List ℕ)) → (if b then Some (Need id) else head_refusal id there) ≡ None
+    → 0 < next_page (unwrap_or there zeros)
 needed true id there is = cc
 needed false id there is = head_of_refusal id there is
 
@@ -62,7 +66,8 @@ pub next_positive : (w : Work) (space : Space) → fresh_refusal w.now space ≡
 next_positive w space is = needed (is_unknown w.now (head_of space)) (head_of space) (map.get w.now.pages (head_of space)) is
 
 -- and its next number isn't the last, so that the one behind it has eight bytes too
-refused_last : (id : PageId) (two none last : Bool) → last ≡ true → (if not (two && not none) then Some (Damaged id) else if last then Some (Spent LAST_PAGE) else None) ≡ None → ⊥
+refused_last : (id : PageId) (two none last : Bool) → last ≡ true
+    → (if not (two && not none) then Some (Damaged id) else if last then Some (Spent LAST_PAGE) else None) ≡ None → ⊥
 refused_last id true true last is passes = cc
 refused_last id true false true is passes = cc
 refused_last id true false false is passes = absurd (true≢false (sym is))
@@ -70,9 +75,11 @@ refused_last id false none last is passes = cc
 
 not_last : (id : PageId) (there : Option (List ℕ)) → head_refusal id there ≡ None → next_page (unwrap_or there zeros) ≡ LAST_PAGE → ⊥
 not_last id None is last = cc
-not_last id (Some bytes) is last = refused_last id (slice_index bytes 0 == 2) (next_page bytes == 0) (next_page bytes == LAST_PAGE) (eq-eqb (next_page bytes) LAST_PAGE last) is
+not_last id (Some bytes) is last =
+    refused_last id (slice_index bytes 0 == 2) (next_page bytes == 0) (next_page bytes == LAST_PAGE) (eq-eqb (next_page bytes) LAST_PAGE last) is
 
-known_last : (b : Bool) (id : PageId) (there : Option (List ℕ)) → (if b then Some (Need id) else head_refusal id there) ≡ None → next_page (unwrap_or there zeros) ≡ LAST_PAGE → ⊥
+known_last : (b : Bool) (id : PageId) (there : Option (List ℕ)) → (if b then Some (Need id) else head_refusal id there) ≡ None
+    → next_page (unwrap_or there zeros) ≡ LAST_PAGE → ⊥
 known_last true id there is last = cc
 known_last false id there is last = not_last id there is last
 
@@ -122,16 +129,19 @@ some_beside true o is = absurd (true≢false is)
 some_beside false o is = refl
 
 -- the head stays where another page is freed
-pub get_head_without : (w : Work) (space : Space) (n : ℕ) → 0 < n → map.get (without_page w (page_in space n)).now.pages (head_of space) ≡ map.get w.now.pages (head_of space)
+pub get_head_without : (w : Work) (space : Space) (n : ℕ) → 0 < n
+    → map.get (without_page w (page_in space n)).now.pages (head_of space) ≡ map.get w.now.pages (head_of space)
 get_head_without w space n positive =
     map.get-remove page_cmp-total w.now.pages (page_in space n) (head_of space)
     ∙ some_beside (eq_by_cmp page_cmp (head_of space) (page_in space n)) (map.get w.now.pages (head_of space)) (head_apart space n positive)
 
-pub head_there_without : (w : Work) (space : Space) (n : ℕ) → 0 < n → IsTrue (is_there w.now (head_of space)) → IsTrue (is_there (without_page w (page_in space n)).now (head_of space))
+pub head_there_without : (w : Work) (space : Space) (n : ℕ) → 0 < n → IsTrue (is_there w.now (head_of space))
+    → IsTrue (is_there (without_page w (page_in space n)).now (head_of space))
 head_there_without w space n positive is = ap is_some (get_head_without w space n positive) ∙ is
 
 -- and where another page is written
-pub get_head_beside : (w : Work) (space : Space) (n : ℕ) (bytes : List ℕ) → 0 < n → map.get (with_page w (page_in space n) bytes).now.pages (head_of space) ≡ map.get w.now.pages (head_of space)
+pub get_head_beside : (w : Work) (space : Space) (n : ℕ) (bytes : List ℕ) → 0 < n
+    → map.get (with_page w (page_in space n) bytes).now.pages (head_of space) ≡ map.get w.now.pages (head_of space)
 get_head_beside w space n bytes positive =
     map.get-insert page_cmp-total w.now.pages (page_in space n) bytes (head_of space)
     ∙ ap (λ e. cond e (Some bytes) (map.get w.now.pages (head_of space))) (head_apart space n positive)

@@ -26,6 +26,9 @@ same_refusal head None false e is = is
 same_refusal head (Some bytes) out e is = cc
 
 -- a head that isn't to be had refuses a new page
-pub fresh_refusal-head : (X : Type 0) (k : Known) (space : Space) (e : PageEnd) → free_refusal k (head_of space) ≡ Some e → RefusedBy {X = X} (fresh_refusal k space) (Err e)
+pub fresh_refusal-head : (X : Type 0) (k : Known) (space : Space) (e : PageEnd) → free_refusal k (head_of space) ≡ Some e
+    → RefusedBy {X = X} (fresh_refusal k space) (Err e)
 fresh_refusal-head X k space e is =
-    subst (λ r. RefusedBy {X = X} r (Err e)) (sym (same_refusal (head_of space) (map.get k.pages (head_of space)) (map.contains_key k.whole space || map.contains_key k.freed (head_of space)) e is)) refl
+    subst (λ r. RefusedBy {X = X} r (Err e))
+    (sym (same_refusal (head_of space) (map.get k.pages (head_of space)) (map.contains_key k.whole space || map.contains_key k.freed (head_of space)) e is))
+    refl

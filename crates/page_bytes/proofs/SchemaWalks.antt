@@ -15,7 +15,8 @@ pub entry_passed : (space : Space) (number left n at : ℕ) (page : List ℕ) (i
     → entry_among space number left at page id ≡ entry_among space number n (entry_end at page) page id
 entry_passed space number left n at page id count passes differ =
     ap (λ m. entry_among space number m at page id) count
-    ∙ ap (λ b. if not b then Err (Damaged (page_in space number)) else if entry_id at page == id then Ok (Some at) else entry_among space number n (entry_end at page) page id) passes
+    ∙ ap (λ b. if not b then Err (Damaged (page_in space number)) else if entry_id at page == id then Ok (Some at) else entry_among space number n
+    (entry_end at page) page id) passes
     ∙ ap (λ b. if b then Ok (Some at) else entry_among space number n (entry_end at page) page id) (apart (entry_id at page) id differ)
   where
     apart : (a b : ℕ) → a ≢ b → (a == b) ≡ false
@@ -33,7 +34,8 @@ module _ (k : Known) (space : Space) (id : ℕ) where
   pub looked_start : (first : ℕ) → first_in k space ≡ Ok first → HasLooked 0 first []
   looked_start first is = (0, (ap (λ r. and_then r (λ first. Ok (Next 0 first))) is, λ k d less. absurd (omega (arith, less))))
 
-  after : (n from number : ℕ) (r : Result Looked PageEnd) → looked k space id n ≡ Ok (Next from number) → 0 < number → looked_on_page k space id from number ≡ r → looked k space id (suc n) ≡ r
+  after : (n from number : ℕ) (r : Result Looked PageEnd) → looked k space id n ≡ Ok (Next from number) → 0 < number → looked_on_page k space id from number ≡ r
+      → looked k space id (suc n) ≡ r
   after n from number r is some on =
       ap (λ l. and_then l (looked_on k space id)) is
       ∙ ap (λ b. if b then Ok (Next from number) else looked_on_page k space id from number) (past number some)
@@ -50,7 +52,8 @@ module _ (k : Known) (space : Space) (id : ℕ) where
   single n from number is (suc i) d less = absurd (omega (arith, less))
 
   -- a page more is passed
-  pub looked_next : (from number next : ℕ) (passed more : List ℕ) → HasLooked from number passed → 0 < number → looked_on_page k space id from number ≡ Ok (Next number next) → more ≡ passed ++ number ∷ []
+  pub looked_next : (from number next : ℕ) (passed more : List ℕ) → HasLooked from number passed → 0 < number
+      → looked_on_page k space id from number ≡ Ok (Next number next) → more ≡ passed ++ number ∷ []
       → HasLooked number next more
   looked_next from number next passed more h some on is =
       let n = h.0 in (
@@ -63,11 +66,13 @@ module _ (k : Known) (space : Space) (id : ℕ) where
       )
 
   -- what the last look gave
-  pub looked_last : (from number : ℕ) (passed : List ℕ) (r : Result Looked PageEnd) → HasLooked from number passed → 0 < number → looked_on_page k space id from number ≡ r → (n : ℕ) × (looked k space id n ≡ r)
+  pub looked_last : (from number : ℕ) (passed : List ℕ) (r : Result Looked PageEnd) → HasLooked from number passed → 0 < number
+      → looked_on_page k space id from number ≡ r → (n : ℕ) × (looked k space id n ≡ r)
   looked_last from number passed r h some on = (suc h.0, after h.0 from number r h.1.0 some on)
 
   -- a page that was passed before
-  pub looked_back : (from number : ℕ) (passed : List ℕ) → HasLooked from number passed → 0 < number → Contains passed number → SchemaLeadsBack k space id (Damaged (page_in space from))
+  pub looked_back : (from number : ℕ) (passed : List ℕ) → HasLooked from number passed → 0 < number → Contains passed number
+      → SchemaLeadsBack k space id (Damaged (page_in space from))
   looked_back from number passed h some there =
       let before = All-contains (IsPassed h.0) passed number h.1.1 there in
       (before.0, (h.0, (number, (before.1.0, (from, (before.1.1.0, before.1.1.1, h.1.0, some, refl))))))

@@ -23,16 +23,19 @@ itself n = grind (arith, nat_tests)
 
 -- ---- a page is written
 
-seen_some : (page : Option (List ℕ)) (out : Bool) (all : Option (List ℕ)) (x : List ℕ) → page ≡ Some x → (if not (is_some page) && out then all else page) ≡ Some x
+seen_some : (page : Option (List ℕ)) (out : Bool) (all : Option (List ℕ)) (x : List ℕ) → page ≡ Some x
+    → (if not (is_some page) && out then all else page) ≡ Some x
 seen_some None out all x is = cc
 seen_some (Some y) out all x is = is
 
-pub page-written : (w : Work) (all : PageId → Option (List ℕ)) (space : Space) (n : ℕ) (b : List ℕ) → seen (with_page w (page_in space n) b).now all space n ≡ Some b
+pub page-written : (w : Work) (all : PageId → Option (List ℕ)) (space : Space) (n : ℕ) (b : List ℕ)
+    → seen (with_page w (page_in space n) b).now all space n ≡ Some b
 page-written w all space n b =
     let id = page_in space n in let k = (with_page w id b).now in
     seen_some (map.get k.pages id) (not (map.contains_key k.whole space || map.contains_key k.freed id)) (all id) b (get_with_page w id b)
 
-pub seen-written : (w : Work) (all : PageId → Option (List ℕ)) (space : Space) (n : ℕ) (b : List ℕ) → bytes (seen (with_page w (page_in space n) b).now all space) n ≡ b
+pub seen-written : (w : Work) (all : PageId → Option (List ℕ)) (space : Space) (n : ℕ) (b : List ℕ)
+    → bytes (seen (with_page w (page_in space n) b).now all space) n ≡ b
 unfolding bytes
 seen-written w all space n b = ap (λ o. unwrap_or o []) (page-written w all space n b)
 
@@ -53,21 +56,25 @@ pub seen-beside : (w : Work) (all : PageId → Option (List ℕ)) (space : Space
 unfolding bytes
 seen-beside w all space n q b differ = ap (λ o. unwrap_or o []) (page-beside w all space n q b differ)
 
-first_seen : (page : Option (List ℕ)) (out : Bool) (all : Option (List ℕ)) → is_some page ≡ true → unwrap_or (if not (is_some page) && out then all else page) [] ≡ unwrap_or page zeros
+first_seen : (page : Option (List ℕ)) (out : Bool) (all : Option (List ℕ)) → is_some page ≡ true
+    → unwrap_or (if not (is_some page) && out then all else page) [] ≡ unwrap_or page zeros
 first_seen None out all is = absurd (true≢false (sym is))
 first_seen (Some x) out all is = refl
 
 -- a page that is there is seen as an edit begins with it
-pub seen-first : (k : Known) (all : PageId → Option (List ℕ)) (space : Space) (n : ℕ) → IsTrue (is_there k (page_in space n)) → bytes (seen k all space) n ≡ first_bytes k (page_in space n)
+pub seen-first : (k : Known) (all : PageId → Option (List ℕ)) (space : Space) (n : ℕ) → IsTrue (is_there k (page_in space n))
+    → bytes (seen k all space) n ≡ first_bytes k (page_in space n)
 unfolding bytes
 seen-first k all space n is =
     let id = page_in space n in first_seen (map.get k.pages id) (not (map.contains_key k.whole space || map.contains_key k.freed id)) (all id) is
 
-some_of : (page : Option (List ℕ)) (out : Bool) (all : Option (List ℕ)) → is_some page ≡ true → (if not (is_some page) && out then all else page) ≡ Some (unwrap_or page zeros)
+some_of : (page : Option (List ℕ)) (out : Bool) (all : Option (List ℕ)) → is_some page ≡ true
+    → (if not (is_some page) && out then all else page) ≡ Some (unwrap_or page zeros)
 some_of None out all is = absurd (true≢false (sym is))
 some_of (Some x) out all is = refl
 
-pub page-first : (k : Known) (all : PageId → Option (List ℕ)) (space : Space) (n : ℕ) → IsTrue (is_there k (page_in space n)) → seen k all space n ≡ Some (first_bytes k (page_in space n))
+pub page-first : (k : Known) (all : PageId → Option (List ℕ)) (space : Space) (n : ℕ) → IsTrue (is_there k (page_in space n))
+    → seen k all space n ≡ Some (first_bytes k (page_in space n))
 page-first k all space n is =
     let id = page_in space n in some_of (map.get k.pages id) (not (map.contains_key k.whole space || map.contains_key k.freed id)) (all id) is
 
@@ -80,29 +87,36 @@ gone true page false lost all is = refl
 gone false page whole lost all is = absurd (true≢false (sym is))
 
 kept : (e : Bool) (page : Option (List ℕ)) (whole : Bool) (lost : Option (Unit {0})) (all : Option (List ℕ)) → e ≡ false
-    → (if not (is_some (cond e None page)) && not (whole || is_some (cond e (Some tt) lost)) then all else cond e None page) ≡ (if not (is_some page) && not (whole || is_some lost) then all else page)
+    → (if not (is_some (cond e None page)) && not (whole || is_some (cond e (Some tt) lost)) then all else cond e None page)
+    ≡ (if not (is_some page) && not (whole || is_some lost) then all else page)
 kept true page whole lost all is = absurd (true≢false is)
 kept false page whole lost all is = refl
 
 module _ (w : Work) (all : PageId → Option (List ℕ)) (space : Space) (n : ℕ) where
   seen_now : (q : ℕ) → seen (without_page w (page_in space n)).now all space q
-      ≡ (if not (is_some (cond (q == n) None (map.get w.now.pages (page_in space q)))) && not (map.contains_key w.now.whole space || is_some (cond (q == n) (Some tt) (map.get w.now.freed (page_in space q)))) then all (page_in space q) else cond (q == n) None (map.get w.now.pages (page_in space q)))
+      ≡ (if not (is_some (cond (q == n) None (map.get w.now.pages (page_in space q)))) && not
+      (map.contains_key w.now.whole space || is_some (cond (q == n) (Some tt) (map.get w.now.freed (page_in space q)))) then all (page_in space q) else cond
+      (q == n) None (map.get w.now.pages (page_in space q)))
   seen_now q =
       let id = page_in space q in
       let page_is = map.get-remove page_cmp-total w.now.pages (page_in space n) id ∙ ap (λ e. cond e None (map.get w.now.pages id)) (same_number space q n) in
-      let gone_is = map.get-insert page_cmp-total w.now.freed (page_in space n) tt id ∙ ap (λ e. cond e (Some tt) (map.get w.now.freed id)) (same_number space q n) in
+      let gone_is = map.get-insert page_cmp-total w.now.freed (page_in space n) tt id
+      ∙ ap (λ e. cond e (Some tt) (map.get w.now.freed id)) (same_number space q n) in
       λ i. if not (is_some (page_is i)) && not (map.contains_key w.now.whole space || is_some (gone_is i)) then all id else page_is i
 
   -- a page that was freed is not there
   pub page-freed : seen (without_page w (page_in space n)).now all space n ≡ None
-  page-freed = seen_now n ∙ gone (n == n) (map.get w.now.pages (page_in space n)) (map.contains_key w.now.whole space) (map.get w.now.freed (page_in space n)) (all (page_in space n)) (itself n)
+  page-freed = seen_now n ∙ gone (n == n) (map.get w.now.pages (page_in space n)) (map.contains_key w.now.whole space) (map.get w.now.freed (page_in space n))
+      (all (page_in space n)) (itself n)
 
   pub seen-freed : bytes (seen (without_page w (page_in space n)).now all space) n ≡ []
   unfolding bytes
   seen-freed = ap (λ o. unwrap_or o []) page-freed
 
   pub page-freed_beside : (q : ℕ) → q ≢ n → seen (without_page w (page_in space n)).now all space q ≡ seen w.now all space q
-  page-freed_beside q differ = seen_now q ∙ kept (q == n) (map.get w.now.pages (page_in space q)) (map.contains_key w.now.whole space) (map.get w.now.freed (page_in space q)) (all (page_in space q)) (apart q n differ)
+  page-freed_beside q differ = seen_now q
+      ∙ kept (q == n) (map.get w.now.pages (page_in space q)) (map.contains_key w.now.whole space) (map.get w.now.freed (page_in space q))
+      (all (page_in space q)) (apart q n differ)
 
   pub seen-freed_beside : (q : ℕ) → q ≢ n → bytes (seen (without_page w (page_in space n)).now all space) q ≡ bytes (seen w.now all space) q
   unfolding bytes
@@ -126,20 +140,26 @@ beside_gone : {X : Type 0} (e : Bool) (o : Option X) → e ≡ false → cond e 
 beside_gone true o is = absurd (true≢false is)
 beside_gone false o is = refl
 
-pub other_with : (w : Work) (space : Space) (n : ℕ) (b : List ℕ) (q : PageId) → q.space ≢ space → map.get (with_page w (page_in space n) b).now.pages q ≡ map.get w.now.pages q
-other_with w space n b q differ = map.get-insert page_cmp-total w.now.pages (page_in space n) b q ∙ beside_put (eq_by_cmp page_cmp q (page_in space n)) b (map.get w.now.pages q) (other_space space n q differ)
+pub other_with : (w : Work) (space : Space) (n : ℕ) (b : List ℕ) (q : PageId) → q.space ≢ space
+    → map.get (with_page w (page_in space n) b).now.pages q ≡ map.get w.now.pages q
+other_with w space n b q differ = map.get-insert page_cmp-total w.now.pages (page_in space n) b q
+    ∙ beside_put (eq_by_cmp page_cmp q (page_in space n)) b (map.get w.now.pages q) (other_space space n q differ)
 
-pub other_without : (w : Work) (space : Space) (n : ℕ) (q : PageId) → q.space ≢ space → map.get (without_page w (page_in space n)).now.pages q ≡ map.get w.now.pages q
-other_without w space n q differ = map.get-remove page_cmp-total w.now.pages (page_in space n) q ∙ beside_gone (eq_by_cmp page_cmp q (page_in space n)) (map.get w.now.pages q) (other_space space n q differ)
+pub other_without : (w : Work) (space : Space) (n : ℕ) (q : PageId) → q.space ≢ space
+    → map.get (without_page w (page_in space n)).now.pages q ≡ map.get w.now.pages q
+other_without w space n q differ = map.get-remove page_cmp-total w.now.pages (page_in space n) q
+    ∙ beside_gone (eq_by_cmp page_cmp q (page_in space n)) (map.get w.now.pages q) (other_space space n q differ)
 
 other_freed : (w : Work) (space : Space) (n : ℕ) (q : PageId) → q.space ≢ space → map.get (without_page w (page_in space n)).now.freed q ≡ map.get w.now.freed q
-other_freed w space n q differ = map.get-insert page_cmp-total w.now.freed (page_in space n) tt q ∙ beside_put (eq_by_cmp page_cmp q (page_in space n)) tt (map.get w.now.freed q) (other_space space n q differ)
+other_freed w space n q differ = map.get-insert page_cmp-total w.now.freed (page_in space n) tt q
+    ∙ beside_put (eq_by_cmp page_cmp q (page_in space n)) tt (map.get w.now.freed q) (other_space space n q differ)
 
 module _ (w : Work) (all : PageId → Option (List ℕ)) (space : Space) (n : ℕ) (other : Space) (m : ℕ) (differ : other ≢ space) where
   pub page-other : (b : List ℕ) → seen (with_page w (page_in space n) b).now all other m ≡ seen w.now all other m
   page-other b =
       let id = page_in other m in
-      ap (λ o. if not (is_some o) && not (map.contains_key w.now.whole other || map.contains_key w.now.freed id) then all id else o) (other_with w space n b id differ)
+      ap (λ o. if not (is_some o) && not (map.contains_key w.now.whole other || map.contains_key w.now.freed id) then all id else o)
+      (other_with w space n b id differ)
 
   pub page-other_freed : seen (without_page w (page_in space n)).now all other m ≡ seen w.now all other m
   page-other_freed =

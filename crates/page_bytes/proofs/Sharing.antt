@@ -28,7 +28,8 @@ pub record IsShared (old more now : PageMap) (rest : List (PageId × List ℕ)) 
   pub found : AllFound more rest
 
 -- at the start all are left
-pub IsShared-start : (old more : PageMap) (es : List (PageId × List ℕ)) → ((q : PageId) → map.get more q ≡ find page_cmp q es) → AllFound more es → IsShared old more old es
+pub IsShared-start : (old more : PageMap) (es : List (PageId × List ℕ)) → ((q : PageId) → map.get more q ≡ find page_cmp q es) → AllFound more es
+    → IsShared old more old es
 IsShared-start old more es are found = record {
   frame = λ q none. refl;
   done = λ q x left there. some_none x (sym there ∙ are q ∙ left);
@@ -48,7 +49,8 @@ IsShared-next old more now new id x rest shared put = subst (λ n. IsShared old 
   found = shared.found.1;
 })
 
-over : (old more : PageMap) (q : PageId) (o : Option (List ℕ)) (now : Option (List ℕ)) → (o ≡ None → now ≡ map.get old q) → ((x : List ℕ) → o ≡ Some x → now ≡ Some x) → now ≡ option_or o (map.get old q)
+over : (old more : PageMap) (q : PageId) (o : Option (List ℕ)) (now : Option (List ℕ)) → (o ≡ None → now ≡ map.get old q)
+    → ((x : List ℕ) → o ≡ Some x → now ≡ Some x) → now ≡ option_or o (map.get old q)
 over old more q None now frame done = frame refl
 over old more q (Some x) now frame done = done x refl
 
@@ -71,7 +73,8 @@ either_way (Some x) m = refl
 pub overlay-left : (s m : PageMap) → overlay (map.retain_keys m (λ id. not (map.contains_key s id))) s ≡ overlay s m
 overlay-left s m = same_pages _ _
     (λ q. get-overlay page_cmp-total (map.retain_keys m (λ id. not (map.contains_key s id))) s q
-    ∙ ap (λ o. option_or o (map.get s q)) (get-kept m (λ id. not (map.contains_key s id)) q) ∙ either_way (map.get s q) (map.get m q) ∙ sym (get-overlay page_cmp-total s m q))
+    ∙ ap (λ o. option_or o (map.get s q)) (get-kept m (λ id. not (map.contains_key s id)) q) ∙ either_way (map.get s q) (map.get m q)
+    ∙ sym (get-overlay page_cmp-total s m q))
 
 back : {X : Type 0} (s m now : Option X) → (cond (not (is_some s)) m None ≡ None → now ≡ s) → cond (not (is_some (cond (not (is_some s)) m None))) now None ≡ s
 back None None now same = same refl
@@ -113,7 +116,8 @@ work_of-added b d m g w =
     (λ q. get-pages_of (overlay b m) d g w q
     ∙ ap (λ o. option_or (map.get d q) (cond (stays g w q) o None)) (get-overlay page_cmp-total b m q)
     ∙ added (map.get d q) (map.get b q) (map.get m q) (map.contains_key w q.space) (map.contains_key g q)
-    ∙ ap (λ o. option_or o (cond (not (not (is_some o) && (map.contains_key w q.space || map.contains_key g q))) (map.get m q) None)) (sym (get-pages_of b d g w q))
+    ∙ ap (λ o. option_or o (cond (not (not (is_some o) && (map.contains_key w q.space || map.contains_key g q))) (map.get m q) None))
+    (sym (get-pages_of b d g w q))
     ∙ ap (option_or (map.get old.now.pages q)) (sym (get-kept m new q))
     ∙ sym (get-overlay page_cmp-total old.now.pages (map.retain_keys m new) q)) in
     λ i. record { below = overlay b m; now = record { pages = same i; whole = w; freed = g } }

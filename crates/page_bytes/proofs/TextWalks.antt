@@ -13,7 +13,8 @@ module _ (k : Known) (space : Space) (first : TextRef) where
   -- the text is joined as far as a piece, and the mark is one that was passed
   abbrev pub HasJoined : TextRef → ℕ → List ℕ → TextRef → Type 0
   HasJoined at from text mark =
-      (n : ℕ) × ((m : ℕ) × ((r : Joined) × ((m ≤ n) × (joined k space first n ≡ Ok (record { at = at; from = from; text = text })) × (joined k space first m ≡ Ok r) × (r.at ≡ mark))))
+      (n : ℕ) × ((m : ℕ) × ((r : Joined)
+      × ((m ≤ n) × (joined k space first n ≡ Ok (record { at = at; from = from; text = text })) × (joined k space first m ≡ Ok r) × (r.at ≡ mark))))
 
   pub joined_start : HasJoined first first.page [] first
   joined_start = (0, (0, (record { at = first; from = first.page; text = [] }, (omega arith, refl, refl, refl))))
@@ -21,7 +22,8 @@ module _ (k : Known) (space : Space) (first : TextRef) where
   past_none : (n : ℕ) → 0 < n → (n == 0) ≡ false
   past_none n past = grind (arith, nat_tests)
 
-  joined_after : (n : ℕ) (s : Joined) (r : Result (List ℕ) PageEnd) → joined k space first n ≡ Ok s → (s.at.page == 0) ≡ false → piece_page k space s.from s.at ≡ r
+  joined_after : (n : ℕ) (s : Joined) (r : Result (List ℕ) PageEnd) → joined k space first n ≡ Ok s → (s.at.page == 0) ≡ false
+      → piece_page k space s.from s.at ≡ r
       → joined k space first (suc n) ≡ and_then r (λ page. Ok (with_piece s page))
   joined_after n s r is past piece =
       ap (λ j. and_then j (joined_more k space)) is
@@ -30,7 +32,8 @@ module _ (k : Known) (space : Space) (first : TextRef) where
 
   -- a piece more, with the mark where it was or at the piece that is next
   pub joined_next : (at : TextRef) (from : ℕ) (text : List ℕ) (mark : TextRef) (page : List ℕ) (next : TextRef) (longer : List ℕ) (moved : TextRef)
-      → HasJoined at from text mark → 0 < at.page → piece_page k space from at ≡ Ok page → next ≡ next_piece at.slot page → longer ≡ text ++ piece_text at.slot page
+      → HasJoined at from text mark → 0 < at.page → piece_page k space from at ≡ Ok page → next ≡ next_piece at.slot page
+      → longer ≡ text ++ piece_text at.slot page
       → (moved ≡ mark) ⊎ (moved ≡ next) → HasJoined next at.page longer moved
   joined_next at from text mark page next longer moved h past piece next_is longer_is moves =
       let s : Joined = record { at = at; from = from; text = text } in let n = h.0 in
@@ -42,12 +45,15 @@ module _ (k : Known) (space : Space) (first : TextRef) where
       moves
 
   -- a piece that can't be had ends the text
-  pub joined_refused : (at : TextRef) (from : ℕ) (text : List ℕ) (mark : TextRef) (end : PageEnd) → HasJoined at from text mark → 0 < at.page → piece_page k space from at ≡ Err end
+  pub joined_refused : (at : TextRef) (from : ℕ) (text : List ℕ) (mark : TextRef) (end : PageEnd) → HasJoined at from text mark → 0 < at.page
+      → piece_page k space from at ≡ Err end
       → (n : ℕ) × (joined k space first n ≡ Err end)
-  joined_refused at from text mark end h past piece = (suc h.0, joined_after h.0 (record { at = at; from = from; text = text }) (Err end) h.1.1.1.1 (past_none at.page past) piece)
+  joined_refused at from text mark end h past piece =
+      (suc h.0, joined_after h.0 (record { at = at; from = from; text = text }) (Err end) h.1.1.1.1 (past_none at.page past) piece)
 
   -- a piece that leads back to the mark
-  pub joined_back : (at : TextRef) (from : ℕ) (text : List ℕ) (mark : TextRef) (page : List ℕ) (next : TextRef) → HasJoined at from text mark → 0 < at.page → piece_page k space from at ≡ Ok page
+  pub joined_back : (at : TextRef) (from : ℕ) (text : List ℕ) (mark : TextRef) (page : List ℕ) (next : TextRef) → HasJoined at from text mark → 0 < at.page
+      → piece_page k space from at ≡ Ok page
       → next ≡ next_piece at.slot page → 0 < next.page → next ≡ mark → LeadsBack k space first (Damaged (page_in space at.page))
   joined_back at from text mark page next h past piece next_is some same =
       let s : Joined = record { at = at; from = from; text = text } in let n = h.0 in let r = h.1.1.0 in

@@ -31,7 +31,8 @@ freed true false d g b = refl
 freed false w d g b = refl
 
 opened : {X : Type 0} (e g : Bool) (d : Option X) (w : Option (Unit {0})) (b : Option X)
-    → option_or (cond (not e) d None) (cond (not (is_some (cond e (Some tt) w)) && not g) b None) ≡ cond (not e) (option_or d (cond (not (is_some w) && not g) b None)) None
+    → option_or (cond (not e) d None) (cond (not (is_some (cond e (Some tt) w)) && not g) b None)
+    ≡ cond (not e) (option_or d (cond (not (is_some w) && not g) b None)) None
 opened true g d w b = refl
 opened false g d w b = refl
 
@@ -68,9 +69,12 @@ same_pages = map.same_map page_cmp-total page_cmp-exact
 -- a new workspace has what is below, and nothing is absent
 pub work_of-over : (b : PageMap) → work_of b map.empty map.empty map.empty ≡ work_over b
 work_of-over b =
-    let stay : (q : PageId) → stays map.empty map.empty q ≡ true = λ q. ap (λ x. not x && not (map.contains_key {X = Unit {0}} {R = page_cmp} map.empty q)) (no_key space_cmp q.space) ∙ ap not (no_key page_cmp q) in
+    let stay : (q : PageId) → stays map.empty map.empty q ≡ true =
+    λ q. ap (λ x. not x && not (map.contains_key {X = Unit {0}} {R = page_cmp} map.empty q)) (no_key space_cmp q.space) ∙ ap not (no_key page_cmp q) in
     let same = same_pages (pages_of b map.empty map.empty map.empty) b
-    (λ q. get-pages_of b map.empty map.empty map.empty q ∙ ap (λ o. option_or o (cond (stays map.empty map.empty q) (map.get b q) None)) (map.get-empty page_cmp q) ∙ ap (λ x. cond x (map.get b q) None) (stay q)) in
+    (λ q. get-pages_of b map.empty map.empty map.empty q
+    ∙ ap (λ o. option_or o (cond (stays map.empty map.empty q) (map.get b q) None)) (map.get-empty page_cmp q)
+    ∙ ap (λ x. cond x (map.get b q) None) (stay q)) in
     λ i. record { below = b; now = record { pages = same i; whole = map.empty; freed = map.empty } }
 
 -- a draft of a page is the page
@@ -92,7 +96,8 @@ work_of-gone b d g w id =
     let same = same_pages (pages_of b (map.remove d id) (map.insert g id tt) w) (map.remove (pages_of b d g w) id)
     (λ q. get-pages_of b (map.remove d id) (map.insert g id tt) w q
     ∙ ap (λ o. option_or o (cond (stays (map.insert g id tt) w q) (map.get b q) None)) (map.get-remove page_cmp-total d id q)
-    ∙ ap (λ o. option_or (cond (eq_by_cmp page_cmp q id) None (map.get d q)) (cond (not (map.contains_key w q.space) && not (is_some o)) (map.get b q) None)) (map.get-insert page_cmp-total g id tt q)
+    ∙ ap (λ o. option_or (cond (eq_by_cmp page_cmp q id) None (map.get d q)) (cond (not (map.contains_key w q.space) && not (is_some o)) (map.get b q) None))
+    (map.get-insert page_cmp-total g id tt q)
     ∙ freed (eq_by_cmp page_cmp q id) (map.contains_key w q.space) (map.get d q) (map.get g q) (map.get b q)
     ∙ ap (cond (eq_by_cmp page_cmp q id) None) (sym (get-pages_of b d g w q))
     ∙ sym (map.get-remove page_cmp-total (pages_of b d g w) id q)) in
@@ -106,8 +111,10 @@ work_of-opened b d g w s =
     let same = same_pages (pages_of b (map.retain_keys d out) g (map.insert w s tt)) (map.retain_keys (pages_of b d g w) out)
     (λ q. get-pages_of b (map.retain_keys d out) g (map.insert w s tt) q
     ∙ ap (λ o. option_or o (cond (stays g (map.insert w s tt) q) (map.get b q) None)) (get-kept d out q)
-    ∙ ap (λ o. option_or (cond (out q) (map.get d q) None) (cond (not (is_some o) && not (map.contains_key g q)) (map.get b q) None)) (map.get-insert space_cmp-total w s tt q.space)
-    ∙ ap (λ e. option_or (cond (out q) (map.get d q) None) (cond (not (is_some (cond e (Some tt) (map.get w q.space))) && not (map.contains_key g q)) (map.get b q) None)) (is_in-cmp s q)
+    ∙ ap (λ o. option_or (cond (out q) (map.get d q) None) (cond (not (is_some o) && not (map.contains_key g q)) (map.get b q) None))
+    (map.get-insert space_cmp-total w s tt q.space)
+    ∙ ap (λ e. option_or (cond (out q) (map.get d q) None)
+    (cond (not (is_some (cond e (Some tt) (map.get w q.space))) && not (map.contains_key g q)) (map.get b q) None)) (is_in-cmp s q)
     ∙ opened (is_in s q) (map.contains_key g q) (map.get d q) (map.get w q.space) (map.get b q)
     ∙ ap (λ o. cond (out q) o None) (sym (get-pages_of b d g w q))
     ∙ sym (get-kept (pages_of b d g w) out q)) in
@@ -115,16 +122,23 @@ work_of-opened b d g w s =
 
 -- to drop a space is to drop all that is kept of it
 pub work_of-dropped : (b d : PageMap) (g : PageIds) (w : Spaces) (s : Space)
-    → work_of (map.retain_keys b (λ q. not (is_in s q))) (map.retain_keys d (λ q. not (is_in s q))) (map.retain_keys g (λ q. not (is_in s q))) (map.remove w s) ≡ without_space (work_of b d g w) s
+    → work_of (map.retain_keys b (λ q. not (is_in s q))) (map.retain_keys d (λ q. not (is_in s q))) (map.retain_keys g (λ q. not (is_in s q))) (map.remove w s)
+    ≡ without_space (work_of b d g w) s
 work_of-dropped b d g w s =
     let out = λ (q : PageId). not (is_in s q) in
-    let same = same_pages (pages_of (map.retain_keys b out) (map.retain_keys d out) (map.retain_keys g out) (map.remove w s)) (map.retain_keys (pages_of b d g w) out)
+    let same = same_pages (pages_of (map.retain_keys b out) (map.retain_keys d out) (map.retain_keys g out) (map.remove w s))
+    (map.retain_keys (pages_of b d g w) out)
     (λ q. get-pages_of (map.retain_keys b out) (map.retain_keys d out) (map.retain_keys g out) (map.remove w s) q
     ∙ ap (λ o. option_or o (cond (stays (map.retain_keys g out) (map.remove w s) q) (map.get (map.retain_keys b out) q) None)) (get-kept d out q)
     ∙ ap (λ o. option_or (cond (out q) (map.get d q) None) (cond (stays (map.retain_keys g out) (map.remove w s) q) o None)) (get-kept b out q)
-    ∙ ap (λ o. option_or (cond (out q) (map.get d q) None) (cond (not (map.contains_key (map.remove w s) q.space) && not (is_some o)) (cond (out q) (map.get b q) None) None)) (get-kept g out q)
-    ∙ ap (λ o. option_or (cond (out q) (map.get d q) None) (cond (not (is_some o) && not (is_some (cond (out q) (map.get g q) None))) (cond (out q) (map.get b q) None) None)) (map.get-remove space_cmp-total w s q.space)
-    ∙ ap (λ e. option_or (cond (out q) (map.get d q) None) (cond (not (is_some (cond e None (map.get w q.space))) && not (is_some (cond (out q) (map.get g q) None))) (cond (out q) (map.get b q) None) None)) (is_in-cmp s q)
+    ∙ ap (λ o. option_or (cond (out q) (map.get d q) None)
+    (cond (not (map.contains_key (map.remove w s) q.space) && not (is_some o)) (cond (out q) (map.get b q) None) None)) (get-kept g out q)
+    ∙ ap (λ o. option_or (cond (out q) (map.get d q) None)
+    (cond (not (is_some o) && not (is_some (cond (out q) (map.get g q) None))) (cond (out q) (map.get b q) None) None))
+    (map.get-remove space_cmp-total w s q.space)
+    ∙ ap (λ e. option_or (cond (out q) (map.get d q) None)
+    (cond (not (is_some (cond e None (map.get w q.space))) && not (is_some (cond (out q) (map.get g q) None))) (cond (out q) (map.get b q) None) None))
+    (is_in-cmp s q)
     ∙ dropped (is_in s q) (map.get d q) (map.get g q) (map.get w q.space) (map.get b q)
     ∙ ap (λ o. cond (out q) o None) (sym (get-pages_of b d g w q))
     ∙ sym (get-kept (pages_of b d g w) out q)) in
@@ -136,11 +150,13 @@ page-drafted b d g w q x is = get-pages_of b d g w q ∙ ap (λ o. option_or o (
 
 -- a page without one isn't there where it is gone or its space is whole
 pub page-hidden : (b d : PageMap) (g : PageIds) (w : Spaces) (q : PageId) → map.get d q ≡ None → stays g w q ≡ false → map.get (pages_of b d g w) q ≡ None
-page-hidden b d g w q is out = get-pages_of b d g w q ∙ ap (λ o. option_or o (cond (stays g w q) (map.get b q) None)) is ∙ ap (λ s. cond s (map.get b q) None) out
+page-hidden b d g w q is out = get-pages_of b d g w q ∙ ap (λ o. option_or o (cond (stays g w q) (map.get b q) None)) is
+    ∙ ap (λ s. cond s (map.get b q) None) out
 
 -- and else is what it is below
 pub page-below : (b d : PageMap) (g : PageIds) (w : Spaces) (q : PageId) → map.get d q ≡ None → stays g w q ≡ true → map.get (pages_of b d g w) q ≡ map.get b q
-page-below b d g w q is stay = get-pages_of b d g w q ∙ ap (λ o. option_or o (cond (stays g w q) (map.get b q) None)) is ∙ ap (λ s. cond s (map.get b q) None) stay
+page-below b d g w q is stay = get-pages_of b d g w q ∙ ap (λ o. option_or o (cond (stays g w q) (map.get b q) None)) is
+    ∙ ap (λ s. cond s (map.get b q) None) stay
 
 same_twice : {X : Type 0} (e : Bool) (x y : X) (o : Option X) → cond e (Some y) (cond e (Some x) o) ≡ cond e (Some y) o
 same_twice true x y o = refl
@@ -178,7 +194,8 @@ insert-same {X} m k x is = map.same_map page_cmp-total page_cmp-exact _ _ (λ q.
     at Greater q e = refl
 
 pub with_page-same : (w : Work) (id : PageId) (x : List ℕ) → map.get w.now.pages id ≡ Some x → with_page w id x ≡ w
-with_page-same w id x is = let same = insert-same w.now.pages id x is in λ i. record { below = w.below; now = record { pages = same i; whole = w.now.whole; freed = w.now.freed } }
+with_page-same w id x is = let same = insert-same w.now.pages id x is in
+    λ i. record { below = w.below; now = record { pages = same i; whole = w.now.whole; freed = w.now.freed } }
 
 -- another page stays
 pub get-beside : {X : Type 0} (m : map.FinMap page_cmp X) (k q : PageId) (x : X) → eq_by_cmp page_cmp q k ≡ false → map.get (map.insert m k x) q ≡ map.get m q
@@ -190,7 +207,8 @@ head_apart space n positive = at (page_cmp (head_of space) (record { space = spa
   where
     at : (o : Ordering) → page_cmp (head_of space) (record { space = space; number = n }) ≡ o → is_eq o ≡ false
     at Less e = refl
-    at Equal e = let zero_is : 0 ≡ n = ap (λ (id : PageId). id.number) (page_cmp-exact (head_of space) (record { space = space; number = n }) e) in absurd (omega arith)
+    at Equal e = let zero_is : 0 ≡ n = ap (λ (id : PageId). id.number) (page_cmp-exact (head_of space) (record { space = space; number = n }) e) in
+        absurd (omega arith)
     at Greater e = refl
 
 kept : {X : Type 0} (d b : Option X) (s : Bool) (x : X) → option_or d (cond s b None) ≡ Some x → option_or d b ≡ Some x
@@ -199,7 +217,8 @@ kept None b false x is = cc
 kept (Some y) b s x is = is
 
 -- what is there has a draft or is below
-pub there_kept : (b d : PageMap) (g : PageIds) (w : Spaces) (q : PageId) (x : List ℕ) → map.get (pages_of b d g w) q ≡ Some x → option_or (map.get d q) (map.get b q) ≡ Some x
+pub there_kept : (b d : PageMap) (g : PageIds) (w : Spaces) (q : PageId) (x : List ℕ) → map.get (pages_of b d g w) q ≡ Some x
+    → option_or (map.get d q) (map.get b q) ≡ Some x
 there_kept b d g w q x is = kept (map.get d q) (map.get b q) (stays g w q) x (sym (get-pages_of b d g w q) ∙ is)
 
 -- a page that has a draft is owned as it is
@@ -207,8 +226,10 @@ pub Owns-drafted : (d b : PageMap) (id : PageId) → map.contains_key d id ≡ t
 Owns-drafted d b id has = let there = some (map.get d id) has in (there.0, ap (λ o. option_or o (map.get b id)) there.1, sym (insert-same d id there.0 there.1))
 
 -- a head that is there, owned, a new page of zeros and the head's number raised make a new page
-pub work_of-fresh : (b d : PageMap) (g : PageIds) (w : Spaces) (space : Space) (n : ℕ) (x : List ℕ) → map.get (pages_of b d g w) (head_of space) ≡ Some x → n ≡ next_page x
-    → work_of b (map.insert (map.insert (map.insert d (head_of space) x) (record { space = space; number = n }) zeros) (head_of space) (with_next_page x (n + 1))) g w
+pub work_of-fresh : (b d : PageMap) (g : PageIds) (w : Spaces) (space : Space) (n : ℕ) (x : List ℕ) → map.get (pages_of b d g w) (head_of space) ≡ Some x
+    → n ≡ next_page x
+    → work_of b (map.insert (map.insert (map.insert d (head_of space) x) (record { space = space; number = n }) zeros) (head_of space)
+    (with_next_page x (n + 1))) g w
     ≡ with_fresh (work_of b d g w) space
 work_of-fresh b d g w space n x there is =
     let head = head_of space in let id : PageId = record { space = space; number = n } in let raised = with_next_page x (n + 1) in let all = work_of b d g w in
@@ -221,7 +242,8 @@ work_of-fresh b d g w space n x there is =
 
 some_there : {X : Type 0} (m : map.FinMap page_cmp X) (k : PageId) (x : X) (n : ℕ) → map.get m k ≡ Some x → map.len m ≡ n → 0 < n
 some_there m k x zero is none =
-    let gone : None ≡ Some x = sym (map.get-empty page_cmp k) ∙ ap (λ e. map.get e k) (sym (map.empty_of_len m none)) ∙ is in absurd (true≢false (sym (ap is_some gone)))
+    let gone : None ≡ Some x = sym (map.get-empty page_cmp k) ∙ ap (λ e. map.get e k) (sym (map.empty_of_len m none)) ∙ is in
+    absurd (true≢false (sym (ap is_some gone)))
 some_there m k x (suc n) is some = omega arith
 
 -- where a page that is there is taken out there are fewer

@@ -8,7 +8,8 @@ length-with_field m page to x within =
     let count = length-big_bytes m x in
     ap length (with_field-bytes m to x page) ∙ length-with_bytes page to _ (omega (arith, count, within))
 
-pub bytes_apart : (n at m : ℕ) (page : List ℕ) (to x : ℕ) → (at + n ≤ to) ⊎ (to + m ≤ at) → to + m ≤ length page → bytes_at at n (with_field m page to x) ≡ bytes_at at n page
+pub bytes_apart : (n at m : ℕ) (page : List ℕ) (to x : ℕ) → (at + n ≤ to) ⊎ (to + m ≤ at) → to + m ≤ length page
+    → bytes_at at n (with_field m page to x) ≡ bytes_at at n page
 bytes_apart n at m page to x apart within =
     let count = length-big_bytes m x in
     ap (bytes_at at n) (with_field-bytes m to x page)
@@ -17,7 +18,8 @@ bytes_apart n at m page to x apart within =
     (λ behind. bytes_at-behind page at n to _ (omega (arith, count, behind)) (omega (arith, within)))
     apart
 
-pub field_apart : (n at m : ℕ) (page : List ℕ) (to x : ℕ) → (at + n ≤ to) ⊎ (to + m ≤ at) → to + m ≤ length page → field n at (with_field m page to x) ≡ field n at page
+pub field_apart : (n at m : ℕ) (page : List ℕ) (to x : ℕ) → (at + n ≤ to) ⊎ (to + m ≤ at) → to + m ≤ length page
+    → field n at (with_field m page to x) ≡ field n at page
 field_apart n at m page to x apart within = field-bytes_at n at page (with_field m page to x) (bytes_apart n at m page to x apart within)
 
 pub kind_kept : (m : ℕ) (page : List ℕ) (to x : ℕ) → 1 ≤ to → to + m ≤ length page → slice_index (with_field m page to x) 0 ≡ slice_index page 0
@@ -40,7 +42,8 @@ of_field kind m page to x is past within =
     let long = is.long in let fits : to + m ≤ length page = omega (arith, long, within) in
     record { long = length-with_field m page to x fits ∙ is.long; kind_is = kind_kept m page to x past fits ∙ is.kind_is }
 
-pub of_bytes : (kind : ℕ) (page : List ℕ) (to : ℕ) (bytes : List ℕ) → IsOfKind kind page → 1 ≤ to → to + length bytes ≤ 4096 → IsOfKind kind (with_bytes page to bytes)
+pub of_bytes : (kind : ℕ) (page : List ℕ) (to : ℕ) (bytes : List ℕ) → IsOfKind kind page → 1 ≤ to → to + length bytes ≤ 4096
+    → IsOfKind kind (with_bytes page to bytes)
 of_bytes kind page to bytes is past within =
     let long = is.long in record {
       long = length-with_bytes page to bytes (omega (arith, long, within)) ∙ is.long;

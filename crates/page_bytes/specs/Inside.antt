@@ -31,7 +31,8 @@ now_of gone whole id draft page = option_or draft (if stays gone whole id then p
 
 -- the table of changes has the change of this page, and all else stays
 abbrev pub Notes : map.FinMap page_cmp (Option (List ℕ)) → PageId → Option (List ℕ) → Option (List ℕ) → map.FinMap page_cmp (Option (List ℕ)) → Type 0
-Notes old id below now new = (map.get old id ≡ None → IsChange below now (map.get new id)) × ((q : PageId) → eq_by_cmp page_cmp q id ≡ false → map.get new q ≡ map.get old q)
+Notes old id below now new =
+    (map.get old id ≡ None → IsChange below now (map.get new id)) × ((q : PageId) → eq_by_cmp page_cmp q id ≡ false → map.get new q ≡ map.get old q)
 
 -- all pages of the table have 4,096 bytes
 abbrev pub AreLong : map.FinMap page_cmp (Option (List ℕ)) → Type 0
@@ -51,4 +52,5 @@ IsListed below drafts gone whole below_left drafts_left changes =
 -- where nothing is left below, what was listed of any workspace stays listed
 abbrev pub KeepsListed : PageMap → map.FinMap page_cmp (Option (List ℕ)) → PageMap → map.FinMap page_cmp (Option (List ℕ)) → Type 0
 KeepsListed drafts_old old drafts_new new =
-    (below drafts : PageMap) (gone : PageIds) (whole : Spaces) → IsListed below drafts gone whole map.empty drafts_old old → IsListed below drafts gone whole map.empty drafts_new new
+    (below drafts : PageMap) (gone : PageIds) (whole : Spaces) → IsListed below drafts gone whole map.empty drafts_old old
+    → IsListed below drafts gone whole map.empty drafts_new new

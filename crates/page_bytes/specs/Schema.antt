@@ -61,7 +61,8 @@ looked_at number page (Some at) = Found number at
 
 abbrev pub looked_on_page : Known → Space → ℕ → ℕ → ℕ → Result Looked PageEnd
 looked_on_page k space id from number =
-    and_then (schema_page k space from number) (λ page. and_then (entry_among space number (entry_count page) 16 page id) (λ found. Ok (looked_at number page found)))
+    and_then (schema_page k space from number)
+    (λ page. and_then (entry_among space number (entry_count page) 16 page id) (λ found. Ok (looked_at number page found)))
 
 -- one page more, if there is one
 abbrev pub looked_on : Known → Space → ℕ → Looked → Result Looked PageEnd
@@ -80,7 +81,10 @@ looked k space id (suc n) = and_then (looked k space id n) (looked_on k space id
 -- the pages lead back to one that was passed: the page with the link that does so is damaged
 abbrev pub SchemaLeadsBack : Known → Space → ℕ → PageEnd → Type 0
 SchemaLeadsBack k space id end =
-    (m : ℕ) × ((n : ℕ) × ((number : ℕ) × ((first : ℕ) × ((second : ℕ) × ((m < n) × (looked k space id m ≡ Ok (Next first number)) × (looked k space id n ≡ Ok (Next second number)) × (0 < number) × (end ≡ Damaged (page_in space second)))))))
+    (m : ℕ) × ((n : ℕ) × ((number : ℕ)
+    × ((first : ℕ) × ((second : ℕ)
+    × ((m < n) × (looked k space id m ≡ Ok (Next first number)) × (looked k space id n ≡ Ok (Next second number)) × (0 < number)
+    × (end ≡ Damaged (page_in space second)))))))
 
 -- an entry is found where it stands, or there is none on any page. A refusal is that of the first page that can't be had,
 -- or the pages lead back

@@ -38,7 +38,8 @@ has_piece slot page = nat_lt slot (slot_count page) && not (piece_at slot page =
 
 -- whether that piece lies behind the slots and inside the page, and has a byte of text
 abbrev pub is_piece : ℕ → List ℕ → Bool
-is_piece slot page = nat_le (slot_at (slot_count page)) (piece_at slot page) && nat_le 11 (piece_length slot page) && nat_le (piece_at slot page + piece_length slot page) 4096
+is_piece slot page = nat_le (slot_at (slot_count page)) (piece_at slot page) && nat_le 11 (piece_length slot page) && nat_le
+    (piece_at slot page + piece_length slot page) 4096
 
 -- the reference to the next piece, and the bytes of the text
 abbrev pub next_piece : ℕ → List ℕ → TextRef
@@ -66,7 +67,8 @@ with_piece so_far page = record { at = next_piece so_far.at.slot page; from = so
 
 -- one piece more, if there is one
 abbrev pub joined_more : Known → Space → Joined → Result Joined PageEnd
-joined_more k space so_far = if so_far.at.page == 0 then Ok so_far else and_then (piece_page k space so_far.from so_far.at) (λ page. Ok (with_piece so_far page))
+joined_more k space so_far =
+    if so_far.at.page == 0 then Ok so_far else and_then (piece_page k space so_far.from so_far.at) (λ page. Ok (with_piece so_far page))
 
 -- so many pieces from a reference on. The reference that a call is given is named by its own page
 abbrev pub joined : Known → Space → TextRef → ℕ → Result Joined PageEnd
@@ -76,7 +78,9 @@ joined k space at (suc n) = and_then (joined k space at n) (joined_more k space)
 -- the pieces lead back to one that was passed: the page with the link that does so is damaged
 abbrev pub LeadsBack : Known → Space → TextRef → PageEnd → Type 0
 LeadsBack k space at end =
-    (m : ℕ) × ((n : ℕ) × ((r : Joined) × ((s : Joined) × ((m < n) × (joined k space at m ≡ Ok r) × (joined k space at n ≡ Ok s) × (s.at ≡ r.at) × (0 < r.at.page) × (end ≡ Damaged (page_in space s.from))))))
+    (m : ℕ) × ((n : ℕ) × ((r : Joined)
+    × ((s : Joined) × ((m < n) × (joined k space at m ≡ Ok r) × (joined k space at n ≡ Ok s) × (s.at ≡ r.at) × (0 < r.at.page)
+    × (end ≡ Damaged (page_in space s.from))))))
 
 -- the text is that of all pieces from the reference on. A refusal is that of the first piece that can't be had, or the
 -- pieces lead back

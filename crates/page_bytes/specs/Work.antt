@@ -31,7 +31,10 @@ without_page w id = record w { now = record (w.now) { pages = map.remove w.now.p
 
 -- the space is whole and has no page, and all else stays
 abbrev pub with_space : Work → Space → Work
-with_space w space = record w { now = record (w.now) { pages = map.retain_keys w.now.pages (λ id. not (is_in space id)); whole = map.insert w.now.whole space tt } }
+with_space w space = record w {
+  now =
+      record (w.now) { pages = map.retain_keys w.now.pages (λ id. not (is_in space id)); whole = map.insert w.now.whole space tt };
+}
 
 -- nothing is known of the space: it has no page, neither below nor now, isn't whole, and no page of it was freed
 abbrev pub without_space : Work → Space → Work

@@ -38,4 +38,3 @@ pub use pages::{PageSet, Pages};
 pub use schema::schema_entry;
 pub use texts::{ByteList, TextRef, text_at};
 pub use workspace::Workspace;
-

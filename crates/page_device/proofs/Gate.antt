@@ -37,7 +37,8 @@ module _ (front : List ℕ) (gate : ℕ) (back : List ℕ) (at : ℕ) (long : le
   pub torn_behind : (n : ℕ) (c : List ℕ) → Torn (at + 1) n file_of c → c ≡ front ++ gate ∷ drop (at + 1) c
   torn_behind n c torn =
       let whole : min (at + 1) (length file_of) ≡ at + 1 = omega (arith, length-file) in
-      let start : take (at + 1) c ≡ front ++ gate ∷ [] = ap (λ (k : ℕ). take k c) (sym whole) ∙ (torn.before ∙ (ap (λ (k : ℕ). take k file_of) whole ∙ through_of)) in
+      let start : take (at + 1) c ≡ front ++ gate ∷ [] = ap (λ (k : ℕ). take k c) (sym whole)
+      ∙ (torn.before ∙ (ap (λ (k : ℕ). take k file_of) whole ∙ through_of)) in
       sym (take-append-drop (at + 1) c) ∙ (ap (λ (l : List ℕ). l ++ drop (at + 1) c) start ∙ append_assoc front (gate ∷ []) (drop (at + 1) c))
 
   pub written_behind : (body : List ℕ) → overlay file_of (at + 1) body ≡ front ++ gate ∷ behind at body file_of
@@ -52,7 +53,8 @@ module _ (front : List ℕ) (gate : ℕ) (back : List ℕ) (at : ℕ) (long : le
   torn_gate c torn =
       let whole : min at (length file_of) ≡ at = omega (arith, length-file) in
       let start : take at c ≡ front = ap (λ (n : ℕ). take n c) (sym whole) ∙ (torn.before ∙ (ap (λ (n : ℕ). take n file_of) whole ∙ front_of)) in
-      let rest : drop at c ≡ get_or c at 0 ∷ back = drop_more c at 0 (omega (arith, length-file, torn.no_shorter)) ∙ ap (λ (l : List ℕ). get_or c at 0 ∷ l) (torn.after ∙ back_of) in
+      let rest : drop at c ≡ get_or c at 0 ∷ back = drop_more c at 0 (omega (arith, length-file, torn.no_shorter))
+      ∙ ap (λ (l : List ℕ). get_or c at 0 ∷ l) (torn.after ∙ back_of) in
       sym (take-append-drop at c) ∙ (ap (λ (l : List ℕ). l ++ drop at c) start ∙ ap (λ (l : List ℕ). front ++ l) rest)
 
   pub written_gate : overlay file_of at (1 ∷ []) ≡ front ++ 1 ∷ back
@@ -63,7 +65,8 @@ module _ (front : List ℕ) (gate : ℕ) (back : List ℕ) (at : ℕ) (long : le
       ∙ append_assoc front (1 ∷ []) back))
 
 -- a closed gate behind a front that each image has
-pub rests : (file : Which) (at : ℕ) (c : Image) (images : Image → Type 0) (front : List ℕ) → length front ≡ at → images c → Each images (Before file front) → IsAtRest file at c images
+pub rests : (file : Which) (at : ℕ) (c : Image) (images : Image → Type 0) (front : List ℕ) → length front ≡ at → images c → Each images (Before file front)
+    → IsAtRest file at c images
 rests file at c images front long here all =
     let own = all c here in
     let same : take at (bytes_of c file) ≡ front = ap (take at) own.is ∙ take_at front (own.gate ∷ own.rest) at long in record {
@@ -89,7 +92,8 @@ module _ (file : Which) (at : ℕ) (body : List ℕ) (c : Image) (old : Image �
       gate = was.gate;
       shut = was.shut;
       rest = drop (at + 1) (bytes_of i file);
-      is = torn_behind front was.gate was.rest at front_long (length body) (bytes_of i file) (subst (λ (b : List ℕ). Torn (at + 1) (length body) b (bytes_of i file)) was.is part.torn.torn);
+      is = torn_behind front was.gate was.rest at front_long (length body) (bytes_of i file)
+          (subst (λ (b : List ℕ). Torn (at + 1) (length body) b (bytes_of i file)) was.is part.torn.torn);
     };
     part = part;
   }
@@ -112,12 +116,14 @@ module _ (file : Which) (at : ℕ) (body : List ℕ) (c : Image) (old : Image �
   }
 
   pub gated_is : overlay (bytes_of (with_bytes c file middle) file) at (1 ∷ []) ≡ gated file at body c
-  gated_is = ap (λ (b : List ℕ). overlay b at (1 ∷ [])) (bytes_of-with_bytes c file middle ∙ middle_is) ∙ written_gate front (r.each c here).gate back at front_long
+  gated_is = ap (λ (b : List ℕ). overlay b at (1 ∷ [])) (bytes_of-with_bytes c file middle ∙ middle_is)
+      ∙ written_gate front (r.each c here).gate back at front_long
 
   pub any_before : (i : Image) → InPart file (at + 1) (length body) old i → AtAnyMoment file at body c old i
   any_before i part = record { file_is = inl (lacks i part); others = others_from file (at + 1) (length body) old i part }
 
-  pub any_after : (mid : Image → Type 0) → FileIs file middle mid → Each mid (InPart file (at + 1) (length body) old) → (i : Image) → InPart file at 1 mid i → AtAnyMoment file at body c old i
+  pub any_after : (mid : Image → Type 0) → FileIs file middle mid → Each mid (InPart file (at + 1) (length body) old) → (i : Image) → InPart file at 1 mid i
+      → AtAnyMoment file at body c old i
   any_after mid only all i part = record {
     file_is = inr (has_body mid only i part);
     others = others_from-twice file (at + 1) (length body) old mid all i (others_from file at 1 mid i part);
@@ -153,5 +159,6 @@ module _ (file : Which) (at : ℕ) (body : List ℕ) (c : Image) (old : Image �
   pub whole_is : HasBody file at body c c
   whole_is = record {
     gate = gate_of;
-    is = doubted_is ∙ (ap (λ (l : List ℕ). l ++ gate_of ∷ (body ++ r.rest)) (sym front_is) ∙ ap (λ (l : List ℕ). take at (bytes_of c file) ++ gate_of ∷ (body ++ l)) (sym rest_is));
+    is = doubted_is ∙ (ap (λ (l : List ℕ). l ++ gate_of ∷ (body ++ r.rest)) (sym front_is)
+        ∙ ap (λ (l : List ℕ). take at (bytes_of c file) ++ gate_of ∷ (body ++ l)) (sym rest_is));
   }

@@ -19,17 +19,27 @@ use Rattle.page_device.specs.MemoryLaws.{torn_same, torn_overlay, marked-push, r
 run_more : (d : Disk) (ms : List Done) (m : Done) → run d (ms ++ m ∷ []) ≡ step (run d ms) m
 run_more d ms m = run-append d ms (m ∷ [])
 
-pub disk_wrote : (first : Image) (ms ms' : List Done) (file : Which) (at : ℕ) (bytes : List ℕ) → Writes file at bytes ms ms' → disk_after first ms' ≡ after_write (disk_after first ms) file at bytes
-disk_wrote first ms ms' file at bytes w = ap (disk_after first) w.joined ∙ (run_more _ ms (Wrote file at w.copy) ∙ ap (after_write (disk_after first ms) file at) w.same)
+pub disk_wrote : (first : Image) (ms ms' : List Done) (file : Which) (at : ℕ) (bytes : List ℕ) → Writes file at bytes ms ms'
+    → disk_after first ms' ≡ after_write (disk_after first ms) file at bytes
+disk_wrote first ms ms' file at bytes w = ap (disk_after first) w.joined
+    ∙ (run_more _ ms (Wrote file at w.copy) ∙ ap (after_write (disk_after first ms) file at) w.same)
 
-pub disk_synced : (first : Image) (ms ms' : List Done) (file : Which) → ms' ≡ ms ++ Synced file ∷ [] → disk_after first ms' ≡ after_sync (disk_after first ms) file
+pub disk_synced : (first : Image) (ms ms' : List Done) (file : Which) → ms' ≡ ms ++ Synced file ∷ []
+    → disk_after first ms' ≡ after_sync (disk_after first ms) file
 disk_synced first ms ms' file joined = ap (disk_after first) joined ∙ run_more _ ms (Synced file)
 
 -- the versions of a disk after a write and after a sync
-pub held_by-after_write : (d : Disk) (file : Which) (at : ℕ) (bytes : List ℕ) → held_by (after_write d file at bytes) ≡ held_after_write (held_by d) file at bytes
-held_by-after_write d Slots at bytes = ap (λ (l : List ℕ). record { now = now_of (after_write d Slots at bytes); synced = synced_of d; ones = with_bytes (ones_of d) Slots l }) (marked-push d.slots.synced d.slots.writes _)
-held_by-after_write d LogA at bytes = ap (λ (l : List ℕ). record { now = now_of (after_write d LogA at bytes); synced = synced_of d; ones = with_bytes (ones_of d) LogA l }) (marked-push d.log_a.synced d.log_a.writes _)
-held_by-after_write d LogB at bytes = ap (λ (l : List ℕ). record { now = now_of (after_write d LogB at bytes); synced = synced_of d; ones = with_bytes (ones_of d) LogB l }) (marked-push d.log_b.synced d.log_b.writes _)
+pub held_by-after_write : (d : Disk) (file : Which) (at : ℕ) (bytes : List ℕ)
+    → held_by (after_write d file at bytes) ≡ held_after_write (held_by d) file at bytes
+held_by-after_write d Slots at bytes =
+    ap (λ (l : List ℕ). record { now = now_of (after_write d Slots at bytes); synced = synced_of d; ones = with_bytes (ones_of d) Slots l })
+    (marked-push d.slots.synced d.slots.writes _)
+held_by-after_write d LogA at bytes =
+    ap (λ (l : List ℕ). record { now = now_of (after_write d LogA at bytes); synced = synced_of d; ones = with_bytes (ones_of d) LogA l })
+    (marked-push d.log_a.synced d.log_a.writes _)
+held_by-after_write d LogB at bytes =
+    ap (λ (l : List ℕ). record { now = now_of (after_write d LogB at bytes); synced = synced_of d; ones = with_bytes (ones_of d) LogB l })
+    (marked-push d.log_b.synced d.log_b.writes _)
 
 pub held_by-after_sync : (d : Disk) (file : Which) → held_by (after_sync d file) ≡ held_after_sync (held_by d) file
 held_by-after_sync d Slots = refl
@@ -44,7 +54,8 @@ grown_le long at (suc n) = omega arith
 overlay_bounded : (old : List ℕ) (at : ℕ) (bytes : List ℕ) → at + length bytes ≤ LONGEST → length old ≤ LONGEST → length (overlay old at bytes) ≤ LONGEST
 overlay_bounded old at bytes fits le = omega (arith, (torn_overlay old at bytes).no_longer, grown_le (length old) at (length bytes))
 
-pub bounded_wrote : (d : Disk) (file : Which) (at : ℕ) (bytes : List ℕ) → at + length bytes ≤ LONGEST → IsBounded (now_of d) → IsBounded (now_of (after_write d file at bytes))
+pub bounded_wrote : (d : Disk) (file : Which) (at : ℕ) (bytes : List ℕ) → at + length bytes ≤ LONGEST → IsBounded (now_of d)
+    → IsBounded (now_of (after_write d file at bytes))
 bounded_wrote d Slots at bytes fits b Slots = overlay_bounded d.slots.now at bytes fits (b Slots)
 bounded_wrote d Slots at bytes fits b LogA = b LogA
 bounded_wrote d Slots at bytes fits b LogB = b LogB
@@ -70,28 +81,58 @@ pub torn_stays : (file : Which) (at n : ℕ) (c : Image) → TornIn file at n c 
 torn_stays file at n c = record { torn = torn_same at n (bytes_of c file); others = with_own c file }
 
 -- what a write and a sync make of the contents and the images of a disk
-pub now_wrote : (d : Disk) (file : Which) (at : ℕ) (bytes : List ℕ) → now_of (after_write d file at bytes) ≡ with_bytes (now_of d) file (overlay (bytes_of (now_of d) file) at bytes)
+pub now_wrote : (d : Disk) (file : Which) (at : ℕ) (bytes : List ℕ)
+    → now_of (after_write d file at bytes) ≡ with_bytes (now_of d) file (overlay (bytes_of (now_of d) file) at bytes)
 now_wrote d Slots at bytes = refl
 now_wrote d LogA at bytes = refl
 now_wrote d LogB at bytes = refl
 
-crash_wrote : (d : Disk) (file : Which) (at : ℕ) (bytes : List ℕ) → Follows (TornImage file at (length bytes) (Some (now_of (after_write d file at bytes)))) (IsImage d) (IsImage (after_write d file at bytes))
-crash_wrote d Slots at bytes c is = let t = reaches_less d.slots.synced d.slots.writes _ c.slots is.slots in
-    (with_bytes c Slots t.0, record { slots = t.1; log_a = is.log_a; log_b = is.log_b }, record { write = record { torn = t.2.torn; others = refl }; long = t.2.long })
-crash_wrote d LogA at bytes c is = let t = reaches_less d.log_a.synced d.log_a.writes _ c.log_a is.log_a in
-    (with_bytes c LogA t.0, record { slots = is.slots; log_a = t.1; log_b = is.log_b }, record { write = record { torn = t.2.torn; others = refl }; long = t.2.long })
-crash_wrote d LogB at bytes c is = let t = reaches_less d.log_b.synced d.log_b.writes _ c.log_b is.log_b in
-    (with_bytes c LogB t.0, record { slots = is.slots; log_a = is.log_a; log_b = t.1 }, record { write = record { torn = t.2.torn; others = refl }; long = t.2.long })
+crash_wrote : (d : Disk) (file : Which) (at : ℕ) (bytes : List ℕ)
+    → Follows (TornImage file at (length bytes) (Some (now_of (after_write d file at bytes)))) (IsImage d) (IsImage (after_write d file at bytes))
+crash_wrote d Slots at bytes c is = let t = reaches_less d.slots.synced d.slots.writes _ c.slots is.slots in (
+  with_bytes c Slots t.0,
+  record { slots = t.1; log_a = is.log_a; log_b = is.log_b },
+  record {
+    write = record { torn = t.2.torn; others = refl };
+    long =
+        t.2.long;
+  },
+)
+crash_wrote d LogA at bytes c is = let t = reaches_less d.log_a.synced d.log_a.writes _ c.log_a is.log_a in (
+  with_bytes c LogA t.0,
+  record { slots = is.slots; log_a = t.1; log_b = is.log_b },
+  record {
+    write = record { torn = t.2.torn; others = refl };
+    long =
+        t.2.long;
+  },
+)
+crash_wrote d LogB at bytes c is = let t = reaches_less d.log_b.synced d.log_b.writes _ c.log_b is.log_b in (
+  with_bytes c LogB t.0,
+  record { slots = is.slots; log_a = is.log_a; log_b = t.1 },
+  record {
+    write = record { torn = t.2.torn; others = refl };
+    long =
+        t.2.long;
+  },
+)
 
-others_wrote : (d : Disk) (file : Which) (at : ℕ) (bytes : List ℕ) → IsWholeDisk (after_write d file at bytes) → KeepsOthers file (IsImage d) (IsImage (after_write d file at bytes))
-others_wrote d Slots at bytes w c is = (with_bytes c Slots (overlay d.slots.now at bytes), record { slots = w.slots.now; log_a = is.log_a; log_b = is.log_b }, refl)
-others_wrote d LogA at bytes w c is = (with_bytes c LogA (overlay d.log_a.now at bytes), record { slots = is.slots; log_a = w.log_a.now; log_b = is.log_b }, refl)
-others_wrote d LogB at bytes w c is = (with_bytes c LogB (overlay d.log_b.now at bytes), record { slots = is.slots; log_a = is.log_a; log_b = w.log_b.now }, refl)
+others_wrote : (d : Disk) (file : Which) (at : ℕ) (bytes : List ℕ) → IsWholeDisk (after_write d file at bytes)
+    → KeepsOthers file (IsImage d) (IsImage (after_write d file at bytes))
+others_wrote d Slots at bytes w c is =
+    (with_bytes c Slots (overlay d.slots.now at bytes), record { slots = w.slots.now; log_a = is.log_a; log_b = is.log_b }, refl)
+others_wrote d LogA at bytes w c is =
+    (with_bytes c LogA (overlay d.log_a.now at bytes), record { slots = is.slots; log_a = w.log_a.now; log_b = is.log_b }, refl)
+others_wrote d LogB at bytes w c is =
+    (with_bytes c LogB (overlay d.log_b.now at bytes), record { slots = is.slots; log_a = is.log_a; log_b = w.log_b.now }, refl)
 
 crash_synced : (d : Disk) (file : Which) → IsWholeDisk d → Shrinks (IsImage d) (IsImage (after_sync d file))
-crash_synced d Slots w c is = record { slots = subst (λ (b : List ℕ). Reaches d.slots.synced d.slots.writes b) (sym is.slots) w.slots.now; log_a = is.log_a; log_b = is.log_b }
-crash_synced d LogA w c is = record { slots = is.slots; log_a = subst (λ (b : List ℕ). Reaches d.log_a.synced d.log_a.writes b) (sym is.log_a) w.log_a.now; log_b = is.log_b }
-crash_synced d LogB w c is = record { slots = is.slots; log_a = is.log_a; log_b = subst (λ (b : List ℕ). Reaches d.log_b.synced d.log_b.writes b) (sym is.log_b) w.log_b.now }
+crash_synced d Slots w c is =
+    record { slots = subst (λ (b : List ℕ). Reaches d.slots.synced d.slots.writes b) (sym is.slots) w.slots.now; log_a = is.log_a; log_b = is.log_b }
+crash_synced d LogA w c is =
+    record { slots = is.slots; log_a = subst (λ (b : List ℕ). Reaches d.log_a.synced d.log_a.writes b) (sym is.log_a) w.log_a.now; log_b = is.log_b }
+crash_synced d LogB w c is =
+    record { slots = is.slots; log_a = is.log_a; log_b = subst (λ (b : List ℕ). Reaches d.log_b.synced d.log_b.writes b) (sym is.log_b) w.log_b.now }
 
 others_synced : (d : Disk) (file : Which) → KeepsOthers file (IsImage d) (IsImage (after_sync d file))
 others_synced d Slots c is = (with_bytes c Slots d.slots.now, record { slots = refl; log_a = is.log_a; log_b = is.log_b }, refl)
@@ -112,9 +153,22 @@ module _ (f : Image) (ms : List Done) (m : Done) where
   elapses_more = record {
     later = omega (arith, length-append ms (m ∷ []));
     nothing_else = λ t c le w. let to : w.moment ≤ length more = w.to in dite (dec_le w.moment (length ms))
-        (λ before. inl record { moment = w.moment; from = w.from; to = before; is = subst (λ (l : List Done). IsImage (disk_after f l) c) (take-append-le w.moment ms (m ∷ []) before) w.is })
+        (λ before. inl record {
+          moment = w.moment;
+          from = w.from;
+          to = before;
+          is =
+              subst (λ (l : List Done). IsImage (disk_after f l) c) (take-append-le w.moment ms (m ∷ []) before) w.is;
+        })
         (λ after. inr (subst (λ (l : List Done). IsImage (disk_after f l) c) (take_all w.moment more (omega (arith, length-append ms (m ∷ [])))) w.is));
-    keeps = λ t c le w. let to : w.moment ≤ length ms = w.to in record { moment = w.moment; from = w.from; to = omega (arith, length-append ms (m ∷ [])); is = subst (λ (l : List Done). IsImage (disk_after f l) c) (sym (take-append-le w.moment ms (m ∷ []) to)) w.is };
+    keeps = λ t c le w. let to : w.moment ≤ length ms = w.to in
+        record {
+          moment = w.moment;
+          from = w.from;
+          to = omega (arith, length-append ms (m ∷ []));
+          is =
+              subst (λ (l : List Done). IsImage (disk_after f l) c) (sym (take-append-le w.moment ms (m ∷ []) to)) w.is;
+        };
   }
 
 elapses_same : (f : Image) (ms : List Done) (P : Image → Type 0) → Elapses (length ms) (length ms) (WasImage f ms) (WasImage f ms) P
@@ -129,13 +183,16 @@ module _ (file : Which) (at : ℕ) (bytes : List ℕ) (f f' : Image) (ms ms' : L
   wrote_now = ap now_of wrote_disk ∙ now_wrote (disk_after f ms) file at bytes
 
   pub wrote_crash : Follows (TornImage file at (length bytes) (Some (now_of (disk_after f' ms')))) (IsImage (disk_after f ms)) (IsImage (disk_after f' ms'))
-  wrote_crash = subst (λ (d : Disk). Follows (TornImage file at (length bytes) (Some (now_of d))) (IsImage (disk_after f ms)) (IsImage d)) (sym wrote_disk) (crash_wrote (disk_after f ms) file at bytes)
+  wrote_crash = subst (λ (d : Disk). Follows (TornImage file at (length bytes) (Some (now_of d))) (IsImage (disk_after f ms)) (IsImage d)) (sym wrote_disk)
+      (crash_wrote (disk_after f ms) file at bytes)
 
   pub wrote_others : KeepsOthers file (IsImage (disk_after f ms)) (IsImage (disk_after f' ms'))
-  wrote_others = subst (λ (d : Disk). KeepsOthers file (IsImage (disk_after f ms)) (IsImage d)) (sym wrote_disk) (others_wrote (disk_after f ms) file at bytes (subst IsWholeDisk wrote_disk (whole_after f' ms')))
+  wrote_others = subst (λ (d : Disk). KeepsOthers file (IsImage (disk_after f ms)) (IsImage d)) (sym wrote_disk)
+      (others_wrote (disk_after f ms) file at bytes (subst IsWholeDisk wrote_disk (whole_after f' ms')))
 
   pub wrote_time : Elapses (length ms) (length ms') (WasImage f ms) (WasImage f' ms') (IsImage (disk_after f' ms'))
-  wrote_time = subst (λ (z : Image × List Done). Elapses (length ms) (length z.1) (WasImage f ms) (WasImage z.0 z.1) (IsImage (disk_after z.0 z.1))) (λ i. (sym first i, sym w.joined i)) (elapses_more f ms (Wrote file at w.copy))
+  wrote_time = subst (λ (z : Image × List Done). Elapses (length ms) (length z.1) (WasImage f ms) (WasImage z.0 z.1) (IsImage (disk_after z.0 z.1)))
+      (λ i. (sym first i, sym w.joined i)) (elapses_more f ms (Wrote file at w.copy))
 
 -- after a sync that joined it
 module _ (file : Which) (f f' : Image) (ms ms' : List Done) (first : f' ≡ f) (joined : ms' ≡ ms ++ Synced file ∷ []) where
@@ -146,16 +203,19 @@ module _ (file : Which) (f f' : Image) (ms ms' : List Done) (first : f' ≡ f) (
   synced_now = ap now_of synced_disk ∙ now_synced (disk_after f ms) file
 
   pub synced_crash : Shrinks (IsImage (disk_after f ms)) (IsImage (disk_after f' ms'))
-  synced_crash = subst (λ (d : Disk). Shrinks (IsImage (disk_after f ms)) (IsImage d)) (sym synced_disk) (crash_synced (disk_after f ms) file (whole_after f ms))
+  synced_crash = subst (λ (d : Disk). Shrinks (IsImage (disk_after f ms)) (IsImage d)) (sym synced_disk)
+      (crash_synced (disk_after f ms) file (whole_after f ms))
 
   pub synced_others : KeepsOthers file (IsImage (disk_after f ms)) (IsImage (disk_after f' ms'))
   synced_others = subst (λ (d : Disk). KeepsOthers file (IsImage (disk_after f ms)) (IsImage d)) (sym synced_disk) (others_synced (disk_after f ms) file)
 
   pub synced_durable : FileIs file (bytes_of (now_of (disk_after f ms)) file) (IsImage (disk_after f' ms'))
-  synced_durable = subst (λ (d : Disk). FileIs file (bytes_of (now_of (disk_after f ms)) file) (IsImage d)) (sym synced_disk) (durable_synced (disk_after f ms) file)
+  synced_durable = subst (λ (d : Disk). FileIs file (bytes_of (now_of (disk_after f ms)) file) (IsImage d)) (sym synced_disk)
+      (durable_synced (disk_after f ms) file)
 
   pub synced_time : Elapses (length ms) (length ms') (WasImage f ms) (WasImage f' ms') (IsImage (disk_after f' ms'))
-  synced_time = subst (λ (z : Image × List Done). Elapses (length ms) (length z.1) (WasImage f ms) (WasImage z.0 z.1) (IsImage (disk_after z.0 z.1))) (λ i. (sym first i, sym joined i)) (elapses_more f ms (Synced file))
+  synced_time = subst (λ (z : Image × List Done). Elapses (length ms) (length z.1) (WasImage f ms) (WasImage z.0 z.1) (IsImage (disk_after z.0 z.1)))
+      (λ i. (sym first i, sym joined i)) (elapses_more f ms (Synced file))
 
 -- after a call that changed nothing
 module _ (f f' : Image) (ms ms' : List Done) (first : f' ≡ f) (calls : ms' ≡ ms) where
@@ -169,19 +229,34 @@ module _ (f f' : Image) (ms ms' : List Done) (first : f' ≡ f) (calls : ms' ≡
   same_images = subst (λ (d : Disk). Same (IsImage (disk_after f ms)) (IsImage d)) (sym same_disk) (λ c is. is, λ c is. is)
 
   pub same_time : Elapses (length ms) (length ms') (WasImage f ms) (WasImage f' ms') (IsImage (disk_after f' ms'))
-  same_time = subst (λ (z : Image × List Done). Elapses (length ms) (length z.1) (WasImage f ms) (WasImage z.0 z.1) (IsImage (disk_after f' ms'))) (λ i. (sym first i, sym calls i)) (elapses_same f ms (IsImage (disk_after f' ms')))
+  same_time = subst (λ (z : Image × List Done). Elapses (length ms) (length z.1) (WasImage f ms) (WasImage z.0 z.1) (IsImage (disk_after f' ms')))
+      (λ i. (sym first i, sym calls i)) (elapses_same f ms (IsImage (disk_after f' ms')))
 
   pub same_others : (file : Which) → KeepsOthers file (IsImage (disk_after f ms)) (IsImage (disk_after f' ms'))
   same_others file = subst (λ (d : Disk). KeepsOthers file (IsImage (disk_after f ms)) (IsImage d)) (sym same_disk) (λ c is. (c, is, with_own c file))
 
-  pub same_crash : (file : Which) (at n : ℕ) → Follows (TornImage file at n (Some (now_of (disk_after f' ms')))) (IsImage (disk_after f ms)) (IsImage (disk_after f' ms'))
-  same_crash file at n = subst (λ (d : Disk). Follows (TornImage file at n (Some (now_of d))) (IsImage (disk_after f ms)) (IsImage d)) (sym same_disk) (λ c is. (c, is, record { write = torn_stays file at n c; long = inl refl }))
+  pub same_crash : (file : Which) (at n : ℕ)
+      → Follows (TornImage file at n (Some (now_of (disk_after f' ms')))) (IsImage (disk_after f ms)) (IsImage (disk_after f' ms'))
+  same_crash file at n = subst (λ (d : Disk). Follows (TornImage file at n (Some (now_of d))) (IsImage (disk_after f ms)) (IsImage d)) (sym same_disk)
+      (λ c is. (c, is, record { write = torn_stays file at n c; long = inl refl }))
 
-  pub same_torn : (file : Which) (at n : ℕ) → (d : Image) × (◌≡◌ {A = Option Image} (Some (now_of (disk_after f' ms'))) (Some d)) × TornIn file at n (now_of (disk_after f ms)) d
-  same_torn file at n = (now_of (disk_after f' ms'), refl, subst (λ (d : Image). TornIn file at n (now_of (disk_after f ms)) d) (sym same_now) (torn_stays file at n (now_of (disk_after f ms))))
+  pub same_torn : (file : Which) (at n : ℕ)
+      → (d : Image) × (◌≡◌ {A = Option Image} (Some (now_of (disk_after f' ms'))) (Some d)) × TornIn file at n (now_of (disk_after f ms)) d
+  same_torn file at n = (
+    now_of (disk_after f' ms'),
+    refl,
+    subst (λ (d : Image). TornIn file at n (now_of (disk_after f ms)) d) (sym same_now)
+        (torn_stays file at n (now_of (disk_after f ms))),
+  )
 
-  pub same_file : (file : Which) → (d : Image) × (◌≡◌ {A = Option Image} (Some (now_of (disk_after f' ms'))) (Some d)) × SameOthers file (now_of (disk_after f ms)) d
-  same_file file = (now_of (disk_after f' ms'), refl, subst (λ (d : Image). SameOthers file (now_of (disk_after f ms)) d) (sym same_now) (with_own (now_of (disk_after f ms)) file))
+  pub same_file : (file : Which)
+      → (d : Image) × (◌≡◌ {A = Option Image} (Some (now_of (disk_after f' ms'))) (Some d)) × SameOthers file (now_of (disk_after f ms)) d
+  same_file file = (
+    now_of (disk_after f' ms'),
+    refl,
+    subst (λ (d : Image). SameOthers file (now_of (disk_after f ms)) d) (sym same_now)
+        (with_own (now_of (disk_after f ms)) file),
+  )
 
 -- one of the two, by the answer
 pub either : {T E : Type 0} (r : Result T E) (A B : Type 0) → OnOk r A → OnErr r B → A ⊎ B

@@ -18,7 +18,15 @@ nothing_written = refl
 
 -- a byte that is written may be any byte in an image
 any_byte : (x : ℕ) → CanBe (wrote (at_rest (1 ∷ 2 ∷ 3 ∷ [])) 1 (7 ∷ [])) (1 ∷ x ∷ 3 ∷ [])
-any_byte x = (1 ∷ x ∷ 3 ∷ [], record { torn = record { before = refl; after = refl; no_shorter = omega arith; no_longer = omega arith }; long = inl refl }, refl)
+any_byte x = (
+  1 ∷ x ∷ 3 ∷ [],
+  record {
+    torn = record { before = refl; after = refl; no_shorter = omega arith; no_longer = omega arith };
+    long =
+        inl refl;
+  },
+  refl,
+)
 
 -- and the file may be as long as before, or as after
 not_grown : CanBe (wrote (at_rest (1 ∷ [])) 2 (7 ∷ [])) (1 ∷ [])

@@ -59,7 +59,8 @@ opened c = record { slots = at_rest c.slots; log_a = at_rest c.log_a; log_b = at
 
 -- one file after a write
 abbrev pub wrote : Kept → ℕ → List ℕ → Kept
-wrote k at bytes = let now = overlay k.now at bytes in record { synced = k.synced; writes = k.writes ++ record { at = at; count = length bytes; long = length now } ∷ []; now = now }
+wrote k at bytes = let now = overlay k.now at bytes in
+    record { synced = k.synced; writes = k.writes ++ record { at = at; count = length bytes; long = length now } ∷ []; now = now }
 
 -- the three files after a write of one
 abbrev pub after_write : Disk → Which → ℕ → List ℕ → Disk
@@ -145,7 +146,13 @@ held_of first (Some v) = held_of_versions v
 
 -- the versions after a write
 abbrev pub held_after_write : Held → Which → ℕ → List ℕ → Held
-held_after_write h file at bytes = record { now = with_bytes h.now file (overlay (bytes_of h.now file) at bytes); synced = h.synced; ones = with_bytes h.ones file (filled (bytes_of h.ones file) at (length bytes)) }
+held_after_write h file at bytes =
+    record {
+      now = with_bytes h.now file (overlay (bytes_of h.now file) at bytes);
+      synced = h.synced;
+      ones =
+          with_bytes h.ones file (filled (bytes_of h.ones file) at (length bytes));
+    }
 
 -- and after a sync
 abbrev pub held_after_sync : Held → Which → Held

@@ -37,7 +37,15 @@ module _ (old : List ℕ) (at gap : ℕ) (bytes : List ℕ) (n : ℕ) (same : le
   length-front = omega (arith, length-take at padded, length-padded)
 
   length-spliced : length spliced ≡ max (length old) (at + n)
-  length-spliced = omega (arith, same, length-append (take at padded ++ bytes) (drop (at + n) old), length-append (take at padded) bytes, length-front, length-drop (at + n) old)
+  length-spliced = omega (
+    arith,
+    same,
+    length-append (take at padded ++ bytes) (drop (at + n) old),
+    length-append
+        (take at padded) bytes,
+    length-front,
+    length-drop (at + n) old,
+  )
 
   before_spliced : take (min at (length old)) spliced ≡ take (min at (length old)) old
   before_spliced = let m : ℕ = min at (length old) in
@@ -81,7 +89,8 @@ pub reaches_more : (base : List ℕ) (ws : List Extent) (w : Extent) (mid c : Li
 reaches_more base [] w mid c is tears = (c, subst (λ (b : List ℕ). Tears w b c) is tears, refl)
 reaches_more base (v ∷ ws) w mid c r tears = (r.0, r.1, reaches_more r.0 ws w mid c r.2 tears)
 
-pub reaches_less : (base : List ℕ) (ws : List Extent) (w : Extent) (c : List ℕ) → Reaches base (ws ++ w ∷ []) c → (mid : List ℕ) × Reaches base ws mid × Tears w mid c
+pub reaches_less : (base : List ℕ) (ws : List Extent) (w : Extent) (c : List ℕ) → Reaches base (ws ++ w ∷ []) c
+    → (mid : List ℕ) × Reaches base ws mid × Tears w mid c
 reaches_less base [] w c r = (base, refl, subst (λ (d : List ℕ). Tears w base d) (sym r.2) r.1)
 reaches_less base (v ∷ ws) w c r = let t = reaches_less r.0 ws w c r.2 in (t.0, (r.0, r.1, t.1), t.2)
 
@@ -124,7 +133,11 @@ module _ (k : Kept) (at : ℕ) (bytes : List ℕ) (whole : IsWhole k) where
     old = reaches_more k.synced k.writes extent k.synced k.synced whole.old record { torn = torn_same at (length bytes) k.synced; long = inl refl };
     now = reaches_more k.synced k.writes extent k.now next whole.now record { torn = torn_overlay k.now at bytes; long = inr refl };
     ones = subst (λ (b : List ℕ). Reaches k.synced (k.writes ++ extent ∷ []) b) (sym (marked-push k.synced k.writes extent))
-        (reaches_more k.synced k.writes extent (marked k.synced k.writes) _ whole.ones record { torn = torn_filled (marked k.synced k.writes) at (length bytes); long = inr long_marks });
+        (reaches_more k.synced k.writes extent (marked k.synced k.writes) _ whole.ones record {
+          torn =
+              torn_filled (marked k.synced k.writes) at (length bytes);
+          long = inr long_marks;
+        });
     long = ap length (marked-push k.synced k.writes extent) ∙ long_marks;
     no_longer = no_longer_wrote;
   }
@@ -147,7 +160,12 @@ whole_run d [] w = w
 whole_run d (m ∷ ms) w = whole_run (step d m) ms (whole_step d m w)
 
 pub whole_after : (first : Image) (ms : List Done) → IsWholeDisk (disk_after first ms)
-whole_after first ms = whole_run (opened first) ms record { slots = whole_at_rest first.slots; log_a = whole_at_rest first.log_a; log_b = whole_at_rest first.log_b }
+whole_after first ms = whole_run (opened first) ms record {
+  slots = whole_at_rest first.slots;
+  log_a = whole_at_rest first.log_a;
+  log_b =
+      whole_at_rest first.log_b;
+}
 
 -- what is read is an image
 pub now_image : (first : Image) (ms : List Done) → IsImage (disk_after first ms) (now_of (disk_after first ms))
@@ -181,7 +199,8 @@ grows_step d (Synced LogB) = record { slots = omega arith; log_a = omega arith; 
 
 grows_run : (d : Disk) (ms : List Done) → Grows d (run d ms)
 grows_run d [] = record { slots = omega arith; log_a = omega arith; log_b = omega arith }
-grows_run d (m ∷ ms) = let one = grows_step d m in let more = grows_run (step d m) ms in record { slots = omega (arith, one.slots, more.slots); log_a = omega (arith, one.log_a, more.log_a); log_b = omega (arith, one.log_b, more.log_b) }
+grows_run d (m ∷ ms) = let one = grows_step d m in let more = grows_run (step d m) ms in
+    record { slots = omega (arith, one.slots, more.slots); log_a = omega (arith, one.log_a, more.log_a); log_b = omega (arith, one.log_b, more.log_b) }
 
 pub run-append : (d : Disk) (ms ns : List Done) → run d (ms ++ ns) ≡ run (run d ms) ns
 run-append d [] ns = refl
@@ -191,7 +210,14 @@ pub told_image : (first : Image) (ms : List Done) (c : Image) → Some (now_of (
 told_image first ms c is = let same : now_of (disk_after first ms) ≡ c = cc is in subst (IsImage (disk_after first ms)) same (now_image first ms)
 
 pub counts_now_of : (first : Image) (ms : List Done) (t : ℕ) (c : Image) → t ≤ length ms → IsImage (disk_after first ms) c → WasImage first ms t c
-counts_now_of first ms t c le is = record { moment = length ms; from = le; to = omega arith; is = subst (λ (l : List Done). IsImage (disk_after first l) c) (sym (take_all (length ms) ms (omega arith))) is }
+counts_now_of first ms t c le is =
+    record {
+      moment = length ms;
+      from = le;
+      to = omega arith;
+      is =
+          subst (λ (l : List Done). IsImage (disk_after first l) c) (sym (take_all (length ms) ms (omega arith))) is;
+    }
 
 pub only_now_of : (first : Image) (ms : List Done) (c : Image) → WasImage first ms (length ms) c → IsImage (disk_after first ms) c
 only_now_of first ms c w = let a : length ms ≤ w.moment = w.from in subst (λ (l : List Done). IsImage (disk_after first l) c) (take_all w.moment ms a) w.is
@@ -199,7 +225,8 @@ only_now_of first ms c w = let a : length ms ≤ w.moment = w.from in subst (λ 
 pub later_less_of : (first : Image) (ms : List Done) (t u : ℕ) (c : Image) → t ≤ u → WasImage first ms u c → WasImage first ms t c
 later_less_of first ms t u c le w = let a : u ≤ w.moment = w.from in record { moment = w.moment; from = omega (arith, le, a); to = w.to; is = w.is }
 
-bounded_by : (d e : Disk) (c : Image) → Grows d e → ((file : Which) → length (bytes_of c file) ≤ length (bytes_of (now_of d) file)) → IsBounded (now_of e) → IsBounded c
+bounded_by : (d e : Disk) (c : Image) → Grows d e → ((file : Which) → length (bytes_of c file) ≤ length (bytes_of (now_of d) file)) → IsBounded (now_of e)
+    → IsBounded c
 bounded_by d e c g le b Slots = omega (arith, g.slots, le Slots, b Slots)
 bounded_by d e c g le b LogA = omega (arith, g.log_a, le LogA, b LogA)
 bounded_by d e c g le b LogB = omega (arith, g.log_b, le LogB, b LogB)
@@ -207,6 +234,8 @@ bounded_by d e c g le b LogB = omega (arith, g.log_b, le LogB, b LogB)
 pub bounded_of : (first : Image) (ms : List Done) (t : ℕ) (c : Image) → IsBounded (now_of (disk_after first ms)) → WasImage first ms t c → IsBounded c
 bounded_of first ms t c b w =
     let early = take w.moment ms in
-    let later : run (disk_after first early) (drop w.moment ms) ≡ disk_after first ms = sym (run-append (opened first) early (drop w.moment ms)) ∙ ap (disk_after first) (take-append-drop w.moment ms) in
-    bounded_by (disk_after first early) (disk_after first ms) c (subst (Grows (disk_after first early)) later (grows_run (disk_after first early) (drop w.moment ms)))
+    let later : run (disk_after first early) (drop w.moment ms) ≡ disk_after first ms = sym (run-append (opened first) early (drop w.moment ms))
+    ∙ ap (disk_after first) (take-append-drop w.moment ms) in
+    bounded_by (disk_after first early) (disk_after first ms) c
+    (subst (Grows (disk_after first early)) later (grows_run (disk_after first early) (drop w.moment ms)))
     (image_no_longer (disk_after first early) c (whole_after first early) w.is) b

@@ -11,7 +11,8 @@ abbrev pub grown : ℕ → ℕ → ℕ → ℕ
 grown long at zero = long
 grown long at (suc n) = max long (at + suc n)
 
--- Any bytes in the range of the write and past the old end, the same bytes elsewhere; no shorter than before, and no longer than the whole write would leave it.
+-- Any bytes in the range of the write and past the old end, the same bytes elsewhere; no shorter than before, and no longer
+-- than the whole write would leave it.
 pub record Torn (at n : ℕ) (old new : List ℕ) : Type 0 where
   pub before : take (min at (length old)) new ≡ take (min at (length old)) old
   pub after : drop (at + n) new ≡ drop (at + n) old

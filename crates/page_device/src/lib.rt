@@ -27,4 +27,3 @@ pub use memory::Pick;
 pub use plan::{CallKind, Fail, FailList};
 pub use text::Str;
 pub use through::write_and_sync;
-

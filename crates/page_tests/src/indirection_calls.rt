@@ -1,3 +1,4 @@
+// Node numbers: each call with ample memory, numbers given again, and damaged pages.
 use indirection::{add, change, find, remove};
 use page_bytes::{
     Addr, Draft, LAST_LAYER, NoMemory, NodeNo, Page, PageEnd, PageId, PageSet, Pages, Space,

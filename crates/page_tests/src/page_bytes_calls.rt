@@ -1,3 +1,4 @@
+// The workspace and page sets: each call with ample memory, and each refusal.
 use page_bytes::{
     Addr, ChangeList, Draft, NoMemory, Page, PageEnd, PageId, PageIdList, PageSet, Pages, Space,
     Workspace, read_bytes, read_u8, read_u16, read_u32, read_u64,

@@ -1,3 +1,4 @@
+// Texts and schema entries found over pages of any bytes.
 use page_bytes::{
     Addr, Draft, NoMemory, Page, PageEnd, PageId, PageSet, SchemaId, Space, TextRef, schema_entry,
     text_at,

@@ -1,3 +1,4 @@
+// Versions of pages: each call with ample memory, and what snapshots see.
 ghost use Rattle.std.specs.Prelude.{◌≡◌, ◌≢◌, [], None, IsTrue, IsSomeAnd};
 ghost use Rattle.std.specs.FinMap as map;
 ghost use Rattle.std.specs.Option.{option_copied};

@@ -1,3 +1,4 @@
+// Texts on pages: each call with ample memory, beside a plain map, and damaged pages.
 use page_bytes::{
     Draft, NoMemory, Page, PageEnd, PageId, PageSet, Pages, Space, TextRef, Workspace, read_u16,
     read_u64,

@@ -24,7 +24,12 @@ use Rattle.page_versions.proofs.Sounding.{ended_open, key_of, contains_there}
 -- what holds of all holds of those that are kept
 all-filter : {X : Type 0} (P : X → Type 0) (test : X → Bool) (xs : List X) → AllByRecursion P xs → AllByRecursion P (filter test xs)
 all-filter P test [] all = all
-all-filter P test (x ∷ xs) all = elim (test x) as (λ b. AllByRecursion P (cond b (x ∷ filter test xs) (filter test xs))) [ true ↦ (all.0, all-filter P test xs all.1) | false ↦ all-filter P test xs all.1 ]
+all-filter P test (x ∷ xs) all =
+    elim (test x) as (λ b. AllByRecursion P (cond b (x ∷ filter test xs) (filter test xs))) [
+      | true ↦
+          (all.0, all-filter P test xs all.1)
+      | false ↦ all-filter P test xs all.1
+    ]
 
 abbrev UpTo : ℕ → List Version → Type 0
 UpTo n chain = AllByRecursion (λ v. v.commit ≤ n) chain
@@ -41,7 +46,8 @@ published_upto : (n : ℕ) (o : Option Image) (chain : List Version) → UpTo n 
 published_upto n None chain all = all-filter (λ v. v.commit ≤ n) (λ v. not (v.commit == n + 1)) chain all
 published_upto n (Some image) chain all =
     let is : (n + 1 == n + 1) ≡ true = grind (arith, nat_tests) in
-    subst (λ b. UpTo n (cond (not b) (record { commit = n + 1; image = image } ∷ filter (λ v. not (v.commit == n + 1)) chain) (filter (λ v. not (v.commit == n + 1)) chain))) (sym is)
+    subst (λ b. UpTo n (cond (not b) (record { commit = n + 1; image = image } ∷ filter (λ v. not (v.commit == n + 1)) chain)
+    (filter (λ v. not (v.commit == n + 1)) chain))) (sym is)
     (all-filter (λ v. v.commit ≤ n) (λ v. not (v.commit == n + 1)) chain all)
 
 by_recursion : (n : ℕ) (chain : List Version) → All (λ v. v.commit ≤ n) chain → UpTo n chain
@@ -59,10 +65,12 @@ past_upto k n upto = record {
 
 -- the newest commit may be read
 pub newest_upto : (k : Kept) (n : ℕ) → IsUpTo k n → IsNewestAt k n
-newest_upto k n upto id = subst (λ st. All (IsKnownAt st n) (chain_of k id)) (sym upto.staged) (λ i d less. (λ _. upto.commits id i d less, λ e. absurd (true≢false (sym e))))
+newest_upto k n upto id =
+    subst (λ st. All (IsKnownAt st n) (chain_of k id)) (sym upto.staged) (λ i d less. (λ _. upto.commits id i d less, λ e. absurd (true≢false (sym e))))
 
 module _ (k mid new : Kept) (n : ℕ) (changes : List PageChange) (dropped : List Space) (upto : IsUpTo k n)
-    (chains : (id : PageId) → chain_of mid id ≡ staged_chain (n + 1) changes dropped id (chain_of k id)) (same : mid.snapshots ≡ k.snapshots) (staged : mid.staged ≡ Some (n + 1)) where
+    (chains : (id : PageId) → chain_of mid id ≡ staged_chain (n + 1) changes dropped id (chain_of k id)) (same : mid.snapshots ≡ k.snapshots)
+    (staged : mid.staged ≡ Some (n + 1)) where
   was : (id : PageId) → UpTo n (chain_of k id)
   was id = by_recursion n (chain_of k id) (upto.commits id)
 
@@ -70,40 +78,51 @@ module _ (k mid new : Kept) (n : ℕ) (changes : List PageChange) (dropped : Lis
   opened is s there = upto.snapshots s (subst (λ xs. Contains xs (Some s)) (is ∙ same) there)
 
   -- what was staged is published
-  pub upto_publish : ((id : PageId) → chain_of new id ≡ needed None mid.snapshots (chain_of mid id)) → new.snapshots ≡ mid.snapshots → new.staged ≡ None → IsUpTo new (n + 1)
+  pub upto_publish : ((id : PageId) → chain_of new id ≡ needed None mid.snapshots (chain_of mid id)) → new.snapshots ≡ mid.snapshots → new.staged ≡ None
+      → IsUpTo new (n + 1)
   upto_publish cut is none = record {
     staged = none;
-    commits = λ id. by_index (n + 1) (chain_of new id) (subst (UpTo (n + 1)) (sym (cut id)) (all-filter (λ v. v.commit ≤ n + 1) (is_needed None mid.snapshots (chain_of mid id)) (chain_of mid id)
+    commits = λ id. by_index (n + 1) (chain_of new id)
+        (subst (UpTo (n + 1)) (sym (cut id)) (all-filter (λ v. v.commit ≤ n + 1) (is_needed None mid.snapshots (chain_of mid id)) (chain_of mid id)
         (subst (UpTo (n + 1)) (sym (chains id)) (with_image_upto n _ (chain_of k id) (was id)))));
     snapshots = λ s there. let le = opened is s there in omega arith;
   }
 
   -- or taken back
-  pub upto_retract : ((id : PageId) → chain_of new id ≡ published mid.staged (chain_of mid id)) → new.snapshots ≡ mid.snapshots → new.staged ≡ None → IsUpTo new n
+  pub upto_retract : ((id : PageId) → chain_of new id ≡ published mid.staged (chain_of mid id)) → new.snapshots ≡ mid.snapshots → new.staged ≡ None
+      → IsUpTo new n
   upto_retract cut is none = record {
     staged = none;
-    commits = λ id. by_index n (chain_of new id) (subst (UpTo n) (sym (cut id ∙ (λ i. published (staged i) (chains id i)))) (published_upto n _ (chain_of k id) (was id)));
+    commits = λ id. by_index n (chain_of new id)
+        (subst (UpTo n) (sym (cut id ∙ (λ i. published (staged i) (chains id i)))) (published_upto n _ (chain_of k id) (was id)));
     snapshots = opened is;
   }
 
 -- a snapshot is ended
-pub upto_end : (k new : Kept) (n key : ℕ) → IsUpTo k n → ((id : PageId) → chain_of new id ≡ needed k.staged new.snapshots (chain_of k id)) → new.snapshots ≡ slice_set k.snapshots key None → new.staged ≡ k.staged → IsUpTo new n
+pub upto_end : (k new : Kept) (n key : ℕ) → IsUpTo k n → ((id : PageId) → chain_of new id ≡ needed k.staged new.snapshots (chain_of k id))
+    → new.snapshots ≡ slice_set k.snapshots key None → new.staged ≡ k.staged → IsUpTo new n
 upto_end k new n key upto cut is staged = record {
   staged = staged ∙ upto.staged;
-  commits = λ id. by_index n (chain_of new id) (subst (UpTo n) (sym (cut id)) (all-filter (λ v. v.commit ≤ n) (is_needed k.staged new.snapshots (chain_of k id)) (chain_of k id) (by_recursion n (chain_of k id) (upto.commits id))));
+  commits = λ id. by_index n (chain_of new id)
+      (subst (UpTo n) (sym (cut id))
+      (all-filter (λ v. v.commit ≤ n) (is_needed k.staged new.snapshots (chain_of k id)) (chain_of k id) (by_recursion n (chain_of k id) (upto.commits id))));
   snapshots = λ s there. upto.snapshots s (ended_open k.snapshots key s (subst (λ xs. Contains xs (Some s)) is there));
 }
 
 -- a snapshot is opened at the newest commit
-pub upto_open : (k new : Kept) (n key : ℕ) → IsUpTo k n → snapshot_at new key ≡ Some n → ((other : ℕ) → other ≢ key → snapshot_at new other ≡ snapshot_at k other) → new.chains ≡ k.chains → new.staged ≡ k.staged → IsUpTo new n
+pub upto_open : (k new : Kept) (n key : ℕ) → IsUpTo k n → snapshot_at new key ≡ Some n
+    → ((other : ℕ) → other ≢ key → snapshot_at new other ≡ snapshot_at k other) → new.chains ≡ k.chains → new.staged ≡ k.staged → IsUpTo new n
 upto_open k new n key upto changed others same staged = record {
   staged = staged ∙ upto.staged;
   commits = λ id. subst (λ (m : _). All (λ v. v.commit ≤ n) (chain_of (record k { chains = m }) id)) (sym same) (upto.commits id);
   snapshots = λ s there. let at = key_of new.snapshots s there in
       elim (at.0 == key) as (λ b. (at.0 == key) ≡ b → s ≤ n) [
-        | true ↦ λ e. let one : at.0 ≡ key = grind (arith, nat_tests) in let both : Some n ≡ Some s = sym changed ∙ ap (λ j. slice_index_or new.snapshots j None) (sym one) ∙ at.1 in
+        | true ↦ λ e. let one : at.0 ≡ key = grind (arith, nat_tests) in let both : Some n ≡ Some s = sym changed
+            ∙ ap (λ j. slice_index_or new.snapshots j None) (sym one) ∙ at.1 in
             let number : n ≡ s = cc in omega arith
-        | false ↦ λ e. upto.snapshots s (contains_there k.snapshots at.0 s (sym (others at.0 (λ one. let is : (at.0 == key) ≡ true = grind (arith, nat_tests) in true≢false (sym is ∙ e))) ∙ at.1))
+        | false ↦ λ e. upto.snapshots s
+            (contains_there k.snapshots at.0 s (sym (others at.0 (λ one. let is : (at.0 == key) ≡ true = grind (arith, nat_tests) in true≢false (sym is ∙ e)))
+            ∙ at.1))
       ] refl;
 }
 
@@ -119,7 +138,8 @@ empty_upto k is = subst (λ x. IsUpTo x 0) (sym is) (record {
 pub kept_upto : (k new : Kept) (n : ℕ) → new ≡ k → IsUpTo k n → IsUpTo new n
 kept_upto k new n same upto = subst (λ x. IsUpTo x n) (sym same) upto
 
-pub upto_opened : {E : Type 0} (k new : Kept) (n : ℕ) (r : Result ℕ E) → IsUpTo k n → IfOk r (λ key. snapshot_at new key ≡ Some n) → IfOk r (λ key. (other : ℕ) → other ≢ key → snapshot_at new other ≡ snapshot_at k other)
+pub upto_opened : {E : Type 0} (k new : Kept) (n : ℕ) (r : Result ℕ E) → IsUpTo k n → IfOk r (λ key. snapshot_at new key ≡ Some n)
+    → IfOk r (λ key. (other : ℕ) → other ≢ key → snapshot_at new other ≡ snapshot_at k other)
     → new.chains ≡ k.chains → new.staged ≡ k.staged → OnErr r (new ≡ k) → IsUpTo new n
 upto_opened k new n (Ok key) upto changed others same staged err = upto_open k new n key upto changed others same staged
 upto_opened k new n (Err e) upto changed others same staged err = kept_upto k new n err upto
@@ -127,21 +147,25 @@ upto_opened k new n (Err e) upto changed others same staged err = kept_upto k ne
 -- the newest version is the one at the newest commit
 pub version_at-newest : (n : ℕ) (chain : List Version) → All (λ v. v.commit ≤ n) chain → version_at chain n ≡ newest chain
 version_at-newest n [] all = refl
-version_at-newest n (v ∷ vs) all = let le : v.commit ≤ n = all 0 v (omega arith) in let shows : nat_le v.commit n ≡ true = grind (arith, nat_tests) in ap (λ b. cond b (Some v) (version_at vs n)) shows
+version_at-newest n (v ∷ vs) all = let le : v.commit ≤ n = all 0 v (omega arith) in let shows : nat_le v.commit n ≡ true = grind (arith, nat_tests) in
+    ap (λ b. cond b (Some v) (version_at vs n)) shows
 
 -- an image that is there at the newest commit may be put in a slot
-pub slot_allowed : (k : Kept) (n : ℕ) (id : PageId) → IsUpTo k n → IsSomeAnd (option_map (λ (v : Version). v.image) (version_at (chain_of k id) n)) (λ i. i ≢ Absent)
+pub slot_allowed : (k : Kept) (n : ℕ) (id : PageId) → IsUpTo k n
+    → IsSomeAnd (option_map (λ (v : Version). v.image) (version_at (chain_of k id) n)) (λ i. i ≢ Absent)
     → IsSomeAnd (newest (published k.staged (chain_of k id))) (λ v. v.image ≢ Absent)
 slot_allowed k n id upto there =
     subst (λ st. IsSomeAnd (newest (published st (chain_of k id))) (λ v. v.image ≢ Absent)) (sym upto.staged)
-    (through (newest (chain_of k id)) (subst (λ o. IsSomeAnd (option_map (λ (v : Version). v.image) o) (λ i. i ≢ Absent)) (version_at-newest n (chain_of k id) (upto.commits id)) there))
+    (through (newest (chain_of k id))
+    (subst (λ o. IsSomeAnd (option_map (λ (v : Version). v.image) o) (λ i. i ≢ Absent)) (version_at-newest n (chain_of k id) (upto.commits id)) there))
   where
     through : (o : Option Version) → IsSomeAnd (option_map (λ (v : Version). v.image) o) (λ i. i ≢ Absent) → IsSomeAnd o (λ v. v.image ≢ Absent)
     through None p = p
     through (Some v) p = p
 
 -- an image is put in a slot
-pub upto_slot : (k : Kept) (n : ℕ) (id : PageId) (slot : ℕ) → IsUpTo k n → IsUpTo (record k { chains = map.insert k.chains id (with_slot k.staged slot (chain_of k id)) }) n
+pub upto_slot : (k : Kept) (n : ℕ) (id : PageId) (slot : ℕ) → IsUpTo k n
+    → IsUpTo (record k { chains = map.insert k.chains id (with_slot k.staged slot (chain_of k id)) }) n
 upto_slot k n id slot upto = record {
   staged = upto.staged;
   commits = λ q. subst (All (λ v. v.commit ≤ n)) (sym (chain_in-insert k.chains id (with_slot k.staged slot (chain_of k id)) q)) (pick q (is_page q id));
@@ -157,11 +181,13 @@ upto_slot k n id slot upto = record {
         some_none m e = cc
 
     pick : (q : PageId) (b : Bool) → All (λ v. v.commit ≤ n) (cond b (with_slot k.staged slot (chain_of k id)) (chain_of k q))
-    pick q true = by_index n (with_slot k.staged slot (chain_of k id)) (slotted k.staged upto.staged (chain_of k id) (by_recursion n (chain_of k id) (upto.commits id)))
+    pick q true = by_index n (with_slot k.staged slot (chain_of k id))
+        (slotted k.staged upto.staged (chain_of k id) (by_recursion n (chain_of k id) (upto.commits id)))
     pick q false = upto.commits q
 
 -- what is staged at a later commit leaves what is newest
-newest_known : (k n : ℕ) (o : Option Image) (chain : List Version) → n < k → AllByRecursion (IsKnownAt None n) chain → AllByRecursion (IsKnownAt (Some k) n) (with_image k o chain)
+newest_known : (k n : ℕ) (o : Option Image) (chain : List Version) → n < k → AllByRecursion (IsKnownAt None n) chain
+    → AllByRecursion (IsKnownAt (Some k) n) (with_image k o chain)
 newest_known k n o chain lt all = in_front o
   where
     known : (vs : List Version) → AllByRecursion (IsKnownAt None n) vs → AllByRecursion (IsKnownAt (Some k) n) vs
@@ -172,5 +198,8 @@ newest_known k n o chain lt all = in_front o
     in_front None = known chain all
     in_front (Some image) = ((λ other. absurd (true≢false (sym (same_number k) ∙ other)), λ _. lt), known chain all)
 
-pub staged_newest : (k n : ℕ) (o : Option Image) (chain new : List Version) → n < k → new ≡ with_image k o chain → All (IsKnownAt None n) chain → All (IsKnownAt (Some k) n) new
-staged_newest k n o chain new lt is all = subst (All (IsKnownAt (Some k) n)) (sym is) (All-from_recursion (IsKnownAt (Some k) n) (with_image k o chain) (newest_known k n o chain lt (recursion_from_All (IsKnownAt None n) chain all)))
+pub staged_newest : (k n : ℕ) (o : Option Image) (chain new : List Version) → n < k → new ≡ with_image k o chain → All (IsKnownAt None n) chain
+    → All (IsKnownAt (Some k) n) new
+staged_newest k n o chain new lt is all =
+    subst (All (IsKnownAt (Some k) n)) (sym is)
+    (All-from_recursion (IsKnownAt (Some k) n) (with_image k o chain) (newest_known k n o chain lt (recursion_from_All (IsKnownAt None n) chain all)))

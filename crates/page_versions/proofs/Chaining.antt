@@ -63,7 +63,8 @@ seen_base_falls slots (v ∷ vs) seen = seen_falls slots v.commit vs seen
 pub purge_seen : (slots : List (Option ℕ)) (a : ℕ) (vs : List Version) → AllSeen slots a (purge_below slots a vs)
 purge_seen slots a [] = tt
 purge_seen slots a (v ∷ vs) =
-    elim (list_any (is_between v.commit a) slots) as (λ b. list_any (is_between v.commit a) slots ≡ b → AllSeen slots a (cond b (v ∷ purge_below slots v.commit vs) (purge_below slots a vs))) [
+    elim (list_any (is_between v.commit a) slots) as (λ b. list_any (is_between v.commit a) slots ≡ b
+    → AllSeen slots a (cond b (v ∷ purge_below slots v.commit vs) (purge_below slots a vs))) [
       | true ↦ λ e. (e, purge_seen slots v.commit vs)
       | false ↦ λ _. purge_seen slots a vs
     ] refl
@@ -93,11 +94,13 @@ seen_purged_base slots [] seen = refl
 seen_purged_base slots (v ∷ vs) seen = ap (λ xs. v ∷ xs) (seen_purge slots v.commit vs seen)
 
 -- the cut is one of the published part
-pub base-purged : (staged : Option ℕ) (slots : List (Option ℕ)) (chain : List Version) → base staged (purged staged slots chain) ≡ purged_base slots (base staged chain)
+pub base-purged : (staged : Option ℕ) (slots : List (Option ℕ)) (chain : List Version)
+    → base staged (purged staged slots chain) ≡ purged_base slots (base staged chain)
 base-purged None slots chain = refl
 base-purged (Some n) slots [] = refl
 base-purged (Some n) slots (v ∷ vs) =
-    elim (v.commit == n) as (λ b. (v.commit == n) ≡ b → unstaged n (cond b (v ∷ purged_base slots vs) (purged_base slots (v ∷ vs))) ≡ purged_base slots (cond b vs (v ∷ vs))) [
+    elim (v.commit == n) as (λ b. (v.commit == n) ≡ b
+    → unstaged n (cond b (v ∷ purged_base slots vs) (purged_base slots (v ∷ vs))) ≡ purged_base slots (cond b vs (v ∷ vs))) [
       | true ↦ λ e. ap (λ b. cond b (purged_base slots vs) (v ∷ purged_base slots vs)) e
       | false ↦ λ e. ap (λ b. cond b (purge_below slots v.commit vs) (purged_base slots (v ∷ vs))) e
     ] refl
@@ -113,9 +116,11 @@ purged-seen (Some n) slots (v ∷ vs) seen =
     ] seen
 
 -- so to cut twice is to cut once
-pub purged-purged : (staged : Option ℕ) (slots : List (Option ℕ)) (chain : List Version) → purged staged slots (purged staged slots chain) ≡ purged staged slots chain
+pub purged-purged : (staged : Option ℕ) (slots : List (Option ℕ)) (chain : List Version)
+    → purged staged slots (purged staged slots chain) ≡ purged staged slots chain
 purged-purged staged slots chain =
-    purged-seen staged slots (purged staged slots chain) (subst (IsSeen slots) (sym (base-purged staged slots chain)) (purged_base_seen slots (base staged chain)))
+    purged-seen staged slots (purged staged slots chain)
+    (subst (IsSeen slots) (sym (base-purged staged slots chain)) (purged_base_seen slots (base staged chain)))
 
 -- one version alone is seen
 pub short_seen : (slots : List (Option ℕ)) (chain : List Version) → length chain < 2 → IsSeen slots chain
@@ -144,7 +149,8 @@ some-purged (Some n) slots (v ∷ vs) some =
     elim (v.commit == n) as (λ b. 0 < length (cond b (v ∷ purged_base slots vs) (purged_base slots (v ∷ vs)))) [ true ↦ omega arith | false ↦ omega arith ]
 
 -- what is in front stays in front
-pub later-purged : (staged : Option ℕ) (s : ℕ) (slots : List (Option ℕ)) (chain : List Version) → IsLater staged s chain → IsLater staged s (purged staged slots chain)
+pub later-purged : (staged : Option ℕ) (s : ℕ) (slots : List (Option ℕ)) (chain : List Version) → IsLater staged s chain
+    → IsLater staged s (purged staged slots chain)
 later-purged None s slots [] later = tt
 later-purged None s slots (v ∷ vs) later = λ e. absurd (true≢false (sym e))
 later-purged (Some n) s slots [] later = tt
@@ -161,11 +167,13 @@ before_has_none n [] before = refl
 before_has_none n (v ∷ vs) before = other_number v.commit n before
 
 -- the whole chain falls
-pub chain_falls : (staged : Option ℕ) (slots : List (Option ℕ)) (chain : List Version) → IsBefore staged (base staged chain) → IsSeen slots (base staged chain) → IsFalling chain
+pub chain_falls : (staged : Option ℕ) (slots : List (Option ℕ)) (chain : List Version) → IsBefore staged (base staged chain) → IsSeen slots (base staged chain)
+    → IsFalling chain
 chain_falls None slots chain before seen = seen_base_falls slots chain seen
 chain_falls (Some n) slots [] before seen = tt
 chain_falls (Some n) slots (v ∷ vs) before seen =
-    elim (v.commit == n) as (λ b. (v.commit == n) ≡ b → IsBefore (Some n) (cond b vs (v ∷ vs)) → IsSeen slots (cond b vs (v ∷ vs)) → IsFallingBelow v.commit vs) [
+    elim (v.commit == n) as (λ b. (v.commit == n) ≡ b → IsBefore (Some n) (cond b vs (v ∷ vs)) → IsSeen slots (cond b vs (v ∷ vs))
+    → IsFallingBelow v.commit vs) [
       | true ↦ λ e b s. let same : v.commit ≡ n = grind (arith, nat_tests) in subst (λ c. IsFallingBelow c vs) (sym same) (behind n slots vs b s)
       | false ↦ λ e b s. seen_falls slots v.commit vs s
     ] refl before seen
@@ -180,7 +188,8 @@ version_at-base None s chain later = refl
 version_at-base (Some n) s [] later = refl
 version_at-base (Some n) s (v ∷ vs) later =
     elim (v.commit == n) as (λ b. (b ≡ true → s < v.commit) → version_at (cond b vs (v ∷ vs)) s ≡ version_at (v ∷ vs) s) [
-      | true ↦ λ l. let after : s < v.commit = l refl in let hidden : nat_le v.commit s ≡ false = grind (arith, nat_tests) in ap (λ b. cond b (Some v) (version_at vs s)) (sym hidden)
+      | true ↦ λ l. let after : s < v.commit = l refl in let hidden : nat_le v.commit s ≡ false = grind (arith, nat_tests) in
+          ap (λ b. cond b (Some v) (version_at vs s)) (sym hidden)
       | false ↦ λ l. refl
     ] later
 
@@ -202,7 +211,8 @@ pub take_at : {X : Type 0} (xs : List X) (i : ℕ) (x : X) → i < length xs →
 take_at xs i x within is = take_more xs i x within ∙ ap (λ y. take i xs ++ y ∷ []) (sym is)
 
 -- a version that is after the commit is passed over
-pub at_skip : (xs : List Version) (i : ℕ) (x : Version) (n : ℕ) → i < length xs → x ≡ get_or xs i x → n < x.commit → version_at (drop (i + 1) xs) n ≡ version_at (drop i xs) n
+pub at_skip : (xs : List Version) (i : ℕ) (x : Version) (n : ℕ) → i < length xs → x ≡ get_or xs i x → n < x.commit
+    → version_at (drop (i + 1) xs) n ≡ version_at (drop i xs) n
 at_skip xs i x n within is after =
     let hidden : nat_le x.commit n ≡ false = grind (arith, nat_tests) in
     ap (λ b. cond b (Some x) (version_at (drop (i + 1) xs) n)) (sym hidden) ∙ ap (λ ys. version_at ys n) (sym (drop_at xs i x within is))
@@ -213,7 +223,8 @@ at_found xs i x n within is le =
     ap (λ ys. version_at ys n) (drop_at xs i x within is) ∙ ap (λ b. cond b (Some x) (version_at (drop (i + 1) xs) n)) shows
 
 -- a step of a cut, over a version that is seen
-pub purge_keep : (slots : List (Option ℕ)) (xs : List Version) (i : ℕ) (x : Version) (above : ℕ) → i < length xs → x ≡ get_or xs i x → list_any (is_between x.commit above) slots ≡ true
+pub purge_keep : (slots : List (Option ℕ)) (xs : List Version) (i : ℕ) (x : Version) (above : ℕ) → i < length xs → x ≡ get_or xs i x
+    → list_any (is_between x.commit above) slots ≡ true
     → take (i + 1) xs ++ purge_below slots x.commit (drop (i + 1) xs) ≡ take i xs ++ purge_below slots above (drop i xs)
 purge_keep slots xs i x above within is seen =
     ap (λ ys. ys ++ purge_below slots x.commit (drop (i + 1) xs)) (take_at xs i x within is)
@@ -222,7 +233,8 @@ purge_keep slots xs i x above within is seen =
     ∙ ap (λ ys. take i xs ++ purge_below slots above ys) (sym (drop_at xs i x within is))
 
 -- and over one that is dropped
-pub purge_drop : (slots : List (Option ℕ)) (xs : List Version) (i : ℕ) (x : Version) (above : ℕ) → i < length xs → x ≡ get_or xs i x → list_any (is_between x.commit above) slots ≡ false
+pub purge_drop : (slots : List (Option ℕ)) (xs : List Version) (i : ℕ) (x : Version) (above : ℕ) → i < length xs → x ≡ get_or xs i x
+    → list_any (is_between x.commit above) slots ≡ false
     → take i (remove xs i) ++ purge_below slots above (drop i (remove xs i)) ≡ take i xs ++ purge_below slots above (drop i xs)
 purge_drop slots [] i x above within is gone = absurd (omega arith)
 purge_drop slots (y ∷ ys) zero x above within is gone =
@@ -231,13 +243,15 @@ purge_drop slots (y ∷ ys) zero x above within is gone =
 purge_drop slots (y ∷ ys) (suc i) x above within is gone = ap (λ zs. y ∷ zs) (purge_drop slots ys i x above (omega arith) is gone)
 
 -- whether an open snapshot passes a test that nothing passes else
-pub any_skip : (test : Option ℕ → Bool) (xs : List (Option ℕ)) (k : ℕ) → test None ≡ false → test (slice_index_or xs k None) ≡ false → list_any test (drop (suc k) xs) ≡ list_any test (drop k xs)
+pub any_skip : (test : Option ℕ → Bool) (xs : List (Option ℕ)) (k : ℕ) → test None ≡ false → test (slice_index_or xs k None) ≡ false
+    → list_any test (drop (suc k) xs) ≡ list_any test (drop k xs)
 any_skip test [] zero none fails = refl
 any_skip test [] (suc k) none fails = refl
 any_skip test (x ∷ xs) zero none fails = ap (λ b. b || list_any test xs) (sym fails)
 any_skip test (x ∷ xs) (suc k) none fails = any_skip test xs k none fails
 
-pub any_at : (test : Option ℕ → Bool) (xs : List (Option ℕ)) (k : ℕ) → test None ≡ false → test (slice_index_or xs k None) ≡ true → list_any test (drop k xs) ≡ true
+pub any_at : (test : Option ℕ → Bool) (xs : List (Option ℕ)) (k : ℕ) → test None ≡ false → test (slice_index_or xs k None) ≡ true
+    → list_any test (drop k xs) ≡ true
 any_at test [] zero none passes = absurd (true≢false (sym passes ∙ none))
 any_at test [] (suc k) none passes = absurd (true≢false (sym passes ∙ none))
 any_at test (x ∷ xs) zero none passes = ap (λ b. b || list_any test xs) passes
@@ -253,11 +267,13 @@ longer : {X : Type 0} (x : X) (xs : List X) → xs ≡ x ∷ xs → ⊥
 longer x xs is = let e : length xs ≡ length (x ∷ xs) = ap length is in omega arith
 
 -- where nothing is staged in front a cut leaves nothing staged in front
-pub base-purged-unstaged : (staged : Option ℕ) (slots : List (Option ℕ)) (chain : List Version) → base staged chain ≡ chain → base staged (purged staged slots chain) ≡ purged staged slots chain
+pub base-purged-unstaged : (staged : Option ℕ) (slots : List (Option ℕ)) (chain : List Version) → base staged chain ≡ chain
+    → base staged (purged staged slots chain) ≡ purged staged slots chain
 base-purged-unstaged None slots chain same = refl
 base-purged-unstaged (Some n) slots [] same = refl
 base-purged-unstaged (Some n) slots (v ∷ vs) same =
-    elim (v.commit == n) as (λ b. (v.commit == n) ≡ b → cond b vs (v ∷ vs) ≡ v ∷ vs → unstaged n (cond b (v ∷ purged_base slots vs) (purged_base slots (v ∷ vs))) ≡ cond b (v ∷ purged_base slots vs) (purged_base slots (v ∷ vs))) [
+    elim (v.commit == n) as (λ b. (v.commit == n) ≡ b → cond b vs (v ∷ vs) ≡ v ∷ vs
+    → unstaged n (cond b (v ∷ purged_base slots vs) (purged_base slots (v ∷ vs))) ≡ cond b (v ∷ purged_base slots vs) (purged_base slots (v ∷ vs))) [
       | true ↦ λ _ s. absurd (longer v vs s)
       | false ↦ λ e _. ap (λ b. cond b (purge_below slots v.commit vs) (purged_base slots (v ∷ vs))) e
     ] refl same
@@ -267,7 +283,8 @@ pub base-with_slot : (staged : Option ℕ) (slot : ℕ) (chain : List Version) �
 base-with_slot None slot chain = refl
 base-with_slot (Some n) slot [] = refl
 base-with_slot (Some n) slot (v ∷ vs) =
-    elim (v.commit == n) as (λ b. (v.commit == n) ≡ b → unstaged n (cond b (v ∷ newest_in_slot slot vs) (in_slot slot v ∷ vs)) ≡ newest_in_slot slot (cond b vs (v ∷ vs))) [
+    elim (v.commit == n) as (λ b. (v.commit == n) ≡ b
+    → unstaged n (cond b (v ∷ newest_in_slot slot vs) (in_slot slot v ∷ vs)) ≡ newest_in_slot slot (cond b vs (v ∷ vs))) [
       | true ↦ λ e. ap (λ b. cond b (newest_in_slot slot vs) (v ∷ newest_in_slot slot vs)) e
       | false ↦ λ e. ap (λ b. cond b vs (in_slot slot v ∷ vs)) e
     ] refl
@@ -299,11 +316,13 @@ later-with_slot (Some n) s slot [] later = tt
 later-with_slot (Some n) s slot (v ∷ vs) later =
     elim (v.commit == n) as (λ b. IsLater (Some n) s (cond b (v ∷ newest_in_slot slot vs) (in_slot slot v ∷ vs))) [ true ↦ later | false ↦ later ]
 
-pub unstaged-with_slot : (staged : Option ℕ) (slot : ℕ) (chain : List Version) → base staged chain ≡ chain → base staged (with_slot staged slot chain) ≡ with_slot staged slot chain
+pub unstaged-with_slot : (staged : Option ℕ) (slot : ℕ) (chain : List Version) → base staged chain ≡ chain
+    → base staged (with_slot staged slot chain) ≡ with_slot staged slot chain
 unstaged-with_slot None slot chain same = refl
 unstaged-with_slot (Some n) slot [] same = refl
 unstaged-with_slot (Some n) slot (v ∷ vs) same =
-    elim (v.commit == n) as (λ b. (v.commit == n) ≡ b → cond b vs (v ∷ vs) ≡ v ∷ vs → unstaged n (cond b (v ∷ newest_in_slot slot vs) (in_slot slot v ∷ vs)) ≡ cond b (v ∷ newest_in_slot slot vs) (in_slot slot v ∷ vs)) [
+    elim (v.commit == n) as (λ b. (v.commit == n) ≡ b → cond b vs (v ∷ vs) ≡ v ∷ vs
+    → unstaged n (cond b (v ∷ newest_in_slot slot vs) (in_slot slot v ∷ vs)) ≡ cond b (v ∷ newest_in_slot slot vs) (in_slot slot v ∷ vs)) [
       | true ↦ λ _ s. absurd (longer v vs s)
       | false ↦ λ e _. ap (λ b. cond b vs (in_slot slot v ∷ vs)) e
     ] refl same

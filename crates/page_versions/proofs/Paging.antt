@@ -74,19 +74,23 @@ chain_in-remove m id q = ap (λ o. unwrap_or o []) (map.get-remove page_cmp-tota
 
 -- a page's chain is changed by a function
 module _ (f : List Version → List Version) where
-  pub changed : (m n : ChainMap) (id : PageId) → ((q : PageId) → chain_in n q ≡ cond (is_page q id) (f (chain_in m id)) (chain_in m q)) → (q : PageId) → chain_in n q ≡ cond (is_page q id) (f (chain_in m q)) (chain_in m q)
+  pub changed : (m n : ChainMap) (id : PageId) → ((q : PageId) → chain_in n q ≡ cond (is_page q id) (f (chain_in m id)) (chain_in m q)) → (q : PageId)
+      → chain_in n q ≡ cond (is_page q id) (f (chain_in m q)) (chain_in m q)
   changed m n id is q =
       is q ∙ elim (is_page q id) as (λ b. is_page q id ≡ b → cond b (f (chain_in m id)) (chain_in m q) ≡ cond b (f (chain_in m q)) (chain_in m q)) [
         | true ↦ λ e. ap (λ p. f (chain_in m p)) (sym (page-is q id e))
         | false ↦ λ _. refl
       ] refl
 
-  pub changed-insert : (m : ChainMap) (id : PageId) (c d : List Version) → map.get m id ≡ Some c → d ≡ f c → (q : PageId) → chain_in (map.insert m id d) q ≡ cond (is_page q id) (f (chain_in m q)) (chain_in m q)
+  pub changed-insert : (m : ChainMap) (id : PageId) (c d : List Version) → map.get m id ≡ Some c → d ≡ f c → (q : PageId)
+      → chain_in (map.insert m id d) q ≡ cond (is_page q id) (f (chain_in m q)) (chain_in m q)
   changed-insert m id c d there is =
-      changed m (map.insert m id d) id (λ q. chain_in-insert m id d q ∙ ap (λ x. cond (is_page q id) x (chain_in m q)) (is ∙ ap f (ap (λ o. unwrap_or o []) (sym there))))
+      changed m (map.insert m id d) id (λ q. chain_in-insert m id d q
+      ∙ ap (λ x. cond (is_page q id) x (chain_in m q)) (is ∙ ap f (ap (λ o. unwrap_or o []) (sym there))))
 
   -- a page without a chain stays so
-  pub changed-absent : (m : ChainMap) (id : PageId) → chain_in m id ≡ [] → f [] ≡ [] → (q : PageId) → chain_in m q ≡ cond (is_page q id) (f (chain_in m q)) (chain_in m q)
+  pub changed-absent : (m : ChainMap) (id : PageId) → chain_in m id ≡ [] → f [] ≡ [] → (q : PageId)
+      → chain_in m q ≡ cond (is_page q id) (f (chain_in m q)) (chain_in m q)
   changed-absent m id none nil =
       changed m m id (λ q. elim (is_page q id) as (λ b. is_page q id ≡ b → chain_in m q ≡ cond b (f (chain_in m id)) (chain_in m q)) [
         | true ↦ λ e. ap (chain_in m) (page-is q id e) ∙ none ∙ sym nil ∙ ap f (sym none)
@@ -100,7 +104,8 @@ module _ (f : List Version → List Version) where
   pub done_more : (old now next : PageId → List Version) (ps : List PageId) (id : PageId) → ((q : PageId) → f (f (old q)) ≡ f (old q)) → Done old ps now
       → ((q : PageId) → next q ≡ cond (is_page q id) (f (now q)) (now q)) → Done old (ps ++ id ∷ []) next
   done_more old now next ps id once done step q =
-      step q ∙ ap (λ x. cond (is_page q id) (f x) x) (done q) ∙ at (is_listed ps q) (is_page q id) ∙ ap (λ b. cond b (f (old q)) (old q)) (sym (listed-append ps id q))
+      step q ∙ ap (λ x. cond (is_page q id) (f x) x) (done q) ∙ at (is_listed ps q) (is_page q id)
+      ∙ ap (λ b. cond b (f (old q)) (old q)) (sym (listed-append ps id q))
     where
       at : (l e : Bool) → cond e (f (cond l (f (old q)) (old q))) (cond l (f (old q)) (old q)) ≡ cond (l || e) (f (old q)) (old q)
       at true true = once q
@@ -117,12 +122,15 @@ filled-insert m id c filled some q =
     at true = some
     at false = filled q
 
-pub filled-remove : (m : ChainMap) (id : PageId) → ((q : PageId) → is_page q id ≡ false → IfSome (map.get m q) (λ chain. 0 < length chain)) → NoneEmpty (map.remove m id)
+pub filled-remove : (m : ChainMap) (id : PageId) → ((q : PageId) → is_page q id ≡ false → IfSome (map.get m q) (λ chain. 0 < length chain))
+    → NoneEmpty (map.remove m id)
 filled-remove m id filled q =
     subst (λ o. IfSome o (λ chain. 0 < length chain)) (sym (map.get-remove page_cmp-total m id q))
-    (elim (is_page q id) as (λ b. is_page q id ≡ b → IfSome (cond b None (map.get m q)) (λ chain. 0 < length chain)) [ true ↦ λ _. tt | false ↦ λ e. filled q e ] refl)
+    (elim (is_page q id) as (λ b. is_page q id ≡ b
+    → IfSome (cond b None (map.get m q)) (λ chain. 0 < length chain)) [ true ↦ λ _. tt | false ↦ λ e. filled q e ] refl)
 
-same_chain : (o p : Option (List Version)) → IfSome o (λ chain. 0 < length chain) → IfSome p (λ chain. 0 < length chain) → unwrap_or o [] ≡ unwrap_or p [] → o ≡ p
+same_chain : (o p : Option (List Version)) → IfSome o (λ chain. 0 < length chain) → IfSome p (λ chain. 0 < length chain) → unwrap_or o [] ≡ unwrap_or p []
+    → o ≡ p
 same_chain None None a b is = refl
 same_chain None (Some c) a b is = let none : length c ≡ 0 = ap length (sym is) in absurd (omega arith)
 same_chain (Some c) None a b is = let none : length c ≡ 0 = ap length is in absurd (omega arith)
@@ -173,13 +181,15 @@ below_from x (e ∷ es) all = ap (λ o. is_lt o && below_all page_cmp x es) all.
 sorted_from : {X : Type 0} (es : List (PageId × X)) → IsStrictlySortedBy page_cmp (keys_of es) → map.is_sorted page_cmp es ≡ true
 sorted_from [] sorted = refl
 sorted_from (e ∷ es) sorted =
-    ap (λ b. b && map.is_sorted page_cmp es) (below_from e.0 es (sorted_head page_cmp e.0 (keys_of es) sorted)) ∙ sorted_from es (sorted_tail page_cmp e.0 (keys_of es) sorted)
+    ap (λ b. b && map.is_sorted page_cmp es) (below_from e.0 es (sorted_head page_cmp e.0 (keys_of es) sorted))
+    ∙ sorted_from es (sorted_tail page_cmp e.0 (keys_of es) sorted)
 
 -- entries in order are those of the finite map that they stand for
 pub entries-of : {X : Type 0} (es : List (PageId × X)) → IsStrictlySortedBy page_cmp (keys_of es) → map.entries {R = page_cmp} (map.from_entries es) ≡ es
 entries-of es sorted =
     let is : T (map.is_sorted page_cmp es) = subst T (sym (sorted_from es sorted)) tt in
-    ap map.entries (map.same_map page_cmp-total page_cmp-exact (map.from_entries es) (map.from_sorted es) (λ q. map.get-from_entries page_cmp-total es q ∙ sym (map.get-from_sorted page_cmp es q is)))
+    ap map.entries (map.same_map page_cmp-total page_cmp-exact (map.from_entries es) (map.from_sorted es) (λ q. map.get-from_entries page_cmp-total es q
+    ∙ sym (map.get-from_sorted page_cmp es q is)))
     ∙ map.entries-from_sorted page_cmp es is
 
 -- a page that isn't listed after wasn't listed before

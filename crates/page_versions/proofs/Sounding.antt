@@ -26,7 +26,8 @@ pub base-base : (staged : Option ℕ) (chain : List Version) → IsBefore staged
 base-base None chain before = refl
 base-base (Some n) chain before = before_unstaged n (unstaged n chain) before
 
-module _ (m : ChainMap) (slots : List (Option ℕ)) (staged : Option ℕ) (touched older : List PageId) (used capacity : ℕ) (sound : IsSound m slots staged touched older used capacity) where
+module _ (m : ChainMap) (slots : List (Option ℕ)) (staged : Option ℕ) (touched older : List PageId) (used capacity : ℕ)
+    (sound : IsSound m slots staged touched older used capacity) where
   pub falls : (q : PageId) → IsFalling (chain_in m q)
   falls q = chain_falls staged slots (chain_in m q) (sound.before q) (sound.seen q)
 
@@ -42,23 +43,28 @@ module _ (m : ChainMap) (slots : List (Option ℕ)) (staged : Option ℕ) (touch
   few q out = above_one (length (base staged (chain_in m q))) (λ many. absurd (true≢false (sym (sound.long q many) ∙ out))) (λ less. less)
 
   -- an ended snapshot
-  module _ (n : ChainMap) (open' : List (Option ℕ)) (done : (q : PageId) → chain_in n q ≡ cond (is_listed older q) (purged staged open' (chain_in m q)) (chain_in m q)) where
+  module _ (n : ChainMap) (open' : List (Option ℕ)) (done : (q : PageId)
+      → chain_in n q ≡ cond (is_listed older q) (purged staged open' (chain_in m q)) (chain_in m q)) where
     end_is : (q : PageId) → chain_in n q ≡ purged staged open' (chain_in m q)
-    end_is q = done q ∙ elim (is_listed older q) as (λ b. is_listed older q ≡ b → cond b (purged staged open' (chain_in m q)) (chain_in m q) ≡ purged staged open' (chain_in m q)) [
-      | true ↦ λ _. refl
-      | false ↦ λ out. sym (purged-seen staged open' (chain_in m q) (short_seen open' (base staged (chain_in m q)) (few q out)))
-    ] refl
+    end_is q = done q ∙ elim (is_listed older q) as (λ b. is_listed older q ≡ b
+        → cond b (purged staged open' (chain_in m q)) (chain_in m q) ≡ purged staged open' (chain_in m q)) [
+          | true ↦ λ _. refl
+          | false ↦ λ out. sym (purged-seen staged open' (chain_in m q) (short_seen open' (base staged (chain_in m q)) (few q out)))
+        ] refl
 
     pub end_chains : (q : PageId) → chain_in n q ≡ needed staged open' (chain_in m q)
     end_chains q = end_is q ∙ sym (needed_of open' q)
 
     pub end_sound : (noted : List PageId) (now room : ℕ) → NoneEmpty n → ((s : ℕ) → Contains open' (Some s) → Contains slots (Some s))
-        → ((q : PageId) → is_listed older q ≡ true → 1 < length (base staged (chain_in n q)) → is_listed noted q ≡ true) → now ≤ room → IsSound n open' staged touched noted now room
+        → ((q : PageId) → is_listed older q ≡ true → 1 < length (base staged (chain_in n q)) → is_listed noted q ≡ true) → now ≤ room
+        → IsSound n open' staged touched noted now room
     end_sound noted now room filled opened kept fits = record {
       before = λ q. subst (IsBefore staged) (sym (base_is q)) (before-purged_base staged (base staged (chain_in m q)) (sound.before q));
       seen = λ q. subst (IsSeen open') (sym (base_is q)) (purged_base_seen open' (base staged (chain_in m q)));
       front = λ q out. subst (λ c. base staged c ≡ c) (sym (end_is q)) (base-purged-unstaged staged open' (chain_in m q) (sound.front q out));
-      long = λ q many. kept q (sound.long q (let shorter = length-purged_base open' (base staged (chain_in m q)) in let same : length (base staged (chain_in n q)) ≡ length (purged_base open' (base staged (chain_in m q))) = ap length (base_is q) in omega arith)) many;
+      long = λ q many. kept q (sound.long q (let shorter = length-purged_base open' (base staged (chain_in m q)) in
+          let same : length (base staged (chain_in n q)) ≡ length (purged_base open' (base staged (chain_in m q))) = ap length (base_is q) in omega arith))
+          many;
       filled = filled;
       later = λ s there q. subst (IsLater staged s) (sym (end_is q)) (later-purged staged s open' (chain_in m q) (sound.later s (opened s there) q));
       room = fits;
@@ -75,15 +81,17 @@ module _ (m : ChainMap) (slots : List (Option ℕ)) (staged : Option ℕ) (touch
   -- what is staged is published
   module _ (n : ChainMap) (done : (q : PageId) → chain_in n q ≡ cond (is_listed touched q) (purged_base slots (chain_in m q)) (chain_in m q)) where
     publish_is : (q : PageId) → chain_in n q ≡ purged_base slots (chain_in m q)
-    publish_is q = done q ∙ elim (is_listed touched q) as (λ b. is_listed touched q ≡ b → cond b (purged_base slots (chain_in m q)) (chain_in m q) ≡ purged_base slots (chain_in m q)) [
-      | true ↦ λ _. refl
-      | false ↦ λ out. sym (seen_purged_base slots (chain_in m q) (subst (IsSeen slots) (sound.front q out) (sound.seen q)))
-    ] refl
+    publish_is q = done q ∙ elim (is_listed touched q) as (λ b. is_listed touched q ≡ b
+        → cond b (purged_base slots (chain_in m q)) (chain_in m q) ≡ purged_base slots (chain_in m q)) [
+          | true ↦ λ _. refl
+          | false ↦ λ out. sym (seen_purged_base slots (chain_in m q) (subst (IsSeen slots) (sound.front q out) (sound.seen q)))
+        ] refl
 
     pub publish_chains : (q : PageId) → chain_in n q ≡ needed None slots (chain_in m q)
     publish_chains q = publish_is q ∙ sym (needed-is None slots (chain_in m q) tt (falls q))
 
-    pub publish_sound : (noted : List PageId) (now room : ℕ) → NoneEmpty n → ((q : PageId) → is_listed touched q ≡ true → 1 < length (chain_in n q) → is_listed noted q ≡ true)
+    pub publish_sound : (noted : List PageId) (now room : ℕ) → NoneEmpty n
+        → ((q : PageId) → is_listed touched q ≡ true → 1 < length (chain_in n q) → is_listed noted q ≡ true)
         → ((q : PageId) → is_listed older q ≡ true → is_listed noted q ≡ true) → now ≤ room → (rest : List PageId) → IsSound n slots None rest noted now room
     publish_sound noted now room filled long kept fits rest = record {
       before = λ q. tt;
@@ -91,7 +99,8 @@ module _ (m : ChainMap) (slots : List (Option ℕ)) (staged : Option ℕ) (touch
       front = λ q out. refl;
       long = λ q many. elim (is_listed touched q) as (λ b. is_listed touched q ≡ b → is_listed noted q ≡ true) [
         | true ↦ λ e. long q e many
-        | false ↦ λ e. let same : chain_in n q ≡ base staged (chain_in m q) = done q ∙ ap (λ b. cond b (purged_base slots (chain_in m q)) (chain_in m q)) e ∙ sym (sound.front q e) in
+        | false ↦ λ e. let same : chain_in n q ≡ base staged (chain_in m q) = done q ∙ ap (λ b. cond b (purged_base slots (chain_in m q)) (chain_in m q)) e
+            ∙ sym (sound.front q e) in
             kept q (sound.long q (subst (λ c. 1 < length c) same many))
       ] refl;
       filled = filled;
@@ -106,10 +115,11 @@ module _ (m : ChainMap) (slots : List (Option ℕ)) (staged : Option ℕ) (touch
   -- what is staged is taken back
   module _ (n : ChainMap) (done : (q : PageId) → chain_in n q ≡ cond (is_listed touched q) (base staged (chain_in m q)) (chain_in m q)) where
     retract_is : (q : PageId) → chain_in n q ≡ base staged (chain_in m q)
-    retract_is q = done q ∙ elim (is_listed touched q) as (λ b. is_listed touched q ≡ b → cond b (base staged (chain_in m q)) (chain_in m q) ≡ base staged (chain_in m q)) [
-      | true ↦ λ _. refl
-      | false ↦ λ out. sym (sound.front q out)
-    ] refl
+    retract_is q = done q ∙ elim (is_listed touched q) as (λ b. is_listed touched q ≡ b
+        → cond b (base staged (chain_in m q)) (chain_in m q) ≡ base staged (chain_in m q)) [
+          | true ↦ λ _. refl
+          | false ↦ λ out. sym (sound.front q out)
+        ] refl
 
     pub retract_chains : (q : PageId) → chain_in n q ≡ published staged (chain_in m q)
     retract_chains q = retract_is q ∙ sym (published-base staged (chain_in m q) (sound.before q) (falls q))
@@ -142,25 +152,33 @@ module _ (m : ChainMap) (slots : List (Option ℕ)) (staged : Option ℕ) (touch
   }
 
   -- an image is in a slot now
-  pub slot_sound : (id : PageId) (c : List Version) (slot : ℕ) → map.get m id ≡ Some c → IsSound (map.insert m id (with_slot staged slot c)) slots staged touched older used capacity
+  pub slot_sound : (id : PageId) (c : List Version) (slot : ℕ) → map.get m id ≡ Some c
+      → IsSound (map.insert m id (with_slot staged slot c)) slots staged touched older used capacity
   slot_sound id c slot there = record {
-    before = λ q. at (λ x. IsBefore staged (base staged x)) q (sound.before q) (λ b. subst (IsBefore staged) (sym (base-with_slot staged slot c)) (before-in_slot staged slot (base staged c) b));
-    seen = λ q. at (λ x. IsSeen slots (base staged x)) q (sound.seen q) (λ s. subst (IsSeen slots) (sym (base-with_slot staged slot c)) (seen-in_slot slots slot (base staged c) s));
+    before = λ q. at (λ x. IsBefore staged (base staged x)) q (sound.before q)
+        (λ b. subst (IsBefore staged) (sym (base-with_slot staged slot c)) (before-in_slot staged slot (base staged c) b));
+    seen = λ q. at (λ x. IsSeen slots (base staged x)) q (sound.seen q)
+        (λ s. subst (IsSeen slots) (sym (base-with_slot staged slot c)) (seen-in_slot slots slot (base staged c) s));
     front = λ q out. at (λ x. base staged x ≡ x) q (sound.front q out) (unstaged-with_slot staged slot c);
-    long = λ q. at (λ x. 1 < length (base staged x) → is_listed older q ≡ true) q (sound.long q) (λ l many. l (subst (λ k. 1 < k) (ap length (base-with_slot staged slot c) ∙ length-in_slot slot (base staged c)) many));
-    filled = filled-insert m id (with_slot staged slot c) sound.filled (some-with_slot staged slot c (subst (λ o. IfSome o (λ x. 0 < length x)) there (sound.filled id)));
+    long = λ q. at (λ x. 1 < length (base staged x) → is_listed older q ≡ true) q (sound.long q)
+        (λ l many. l (subst (λ k. 1 < k) (ap length (base-with_slot staged slot c) ∙ length-in_slot slot (base staged c)) many));
+    filled = filled-insert m id (with_slot staged slot c) sound.filled
+        (some-with_slot staged slot c (subst (λ o. IfSome o (λ x. 0 < length x)) there (sound.filled id)));
     later = λ s open' q. at (IsLater staged s) q (sound.later s open' q) (later-with_slot staged s slot c);
     room = sound.room;
   }
     where
-      at : (P : List Version → Type 0) (q : PageId) → P (chain_in m q) → (P c → P (with_slot staged slot c)) → P (chain_in (map.insert m id (with_slot staged slot c)) q)
-      at P q now then = subst P (sym (chain_in-insert m id (with_slot staged slot c) q)) (elim (is_page q id) as (λ b. is_page q id ≡ b → P (cond b (with_slot staged slot c) (chain_in m q))) [
-        | true ↦ λ e. then (subst P (ap (chain_in m) (page-is q id e) ∙ ap (λ o. unwrap_or o []) there) now)
-        | false ↦ λ _. now
-      ] refl)
+      at : (P : List Version → Type 0) (q : PageId) → P (chain_in m q) → (P c → P (with_slot staged slot c))
+          → P (chain_in (map.insert m id (with_slot staged slot c)) q)
+      at P q now then = subst P (sym (chain_in-insert m id (with_slot staged slot c) q))
+          (elim (is_page q id) as (λ b. is_page q id ≡ b → P (cond b (with_slot staged slot c) (chain_in m q))) [
+            | true ↦ λ e. then (subst P (ap (chain_in m) (page-is q id e) ∙ ap (λ o. unwrap_or o []) there) now)
+            | false ↦ λ _. now
+          ] refl)
 
 -- a commit is staged on what is published
-module _ (m n : ChainMap) (slots : List (Option ℕ)) (touched noted older : List PageId) (used capacity k : ℕ) (sound : IsSound m slots None touched older used capacity)
+module _ (m n : ChainMap) (slots : List (Option ℕ)) (touched noted older : List PageId) (used capacity k : ℕ)
+    (sound : IsSound m slots None touched older used capacity)
     (past : (q : PageId) → IsBefore (Some k) (chain_in m q)) (under : StagesUnder k m n touched noted) where
   pub stage_under : (q : PageId) → unstaged k (chain_in n q) ≡ chain_in m q
   stage_under q = under.under q ∙ before_unstaged k (chain_in m q) (past q)
@@ -180,11 +198,14 @@ module _ (m n : ChainMap) (slots : List (Option ℕ)) (touched noted older : Lis
   stage_once q = ap (unstaged k) (stage_under q) ∙ sym (under.under q)
 
   -- and taken back again
-  pub stage_back : (back : ChainMap) → NoneEmpty back → ((q : PageId) → chain_in back q ≡ cond (is_listed noted q) (unstaged k (chain_in n q)) (chain_in n q)) → back ≡ m
-  stage_back back filled done = same_table back m filled sound.filled (λ q. done q ∙ elim (is_listed noted q) as (λ b. is_listed noted q ≡ b → cond b (unstaged k (chain_in n q)) (chain_in n q) ≡ chain_in m q) [
-    | true ↦ λ _. stage_under q
-    | false ↦ λ out. under.others q out
-  ] refl)
+  pub stage_back : (back : ChainMap) → NoneEmpty back → ((q : PageId) → chain_in back q ≡ cond (is_listed noted q) (unstaged k (chain_in n q)) (chain_in n q))
+      → back ≡ m
+  stage_back back filled done =
+      same_table back m filled sound.filled (λ q. done q
+      ∙ elim (is_listed noted q) as (λ b. is_listed noted q ≡ b → cond b (unstaged k (chain_in n q)) (chain_in n q) ≡ chain_in m q) [
+        | true ↦ λ _. stage_under q
+        | false ↦ λ out. under.others q out
+      ] refl)
 
 -- a chain of earlier versions begins with one
 pub past_before : (k : ℕ) (chain : List Version) → All (λ v. v.commit < k) chain → IsBefore (Some k) chain
@@ -192,12 +213,14 @@ past_before k [] all = tt
 past_before k (v ∷ vs) all = all 0 v (omega arith)
 
 -- what is open under one key is open
-any_true : (test : Option ℕ → Bool) → test None ≡ false → (xs : List (Option ℕ)) → list_any test xs ≡ true → (k : ℕ) × (s : ℕ) × (slice_index_or xs k None ≡ Some s) × (test (Some s) ≡ true)
+any_true : (test : Option ℕ → Bool) → test None ≡ false → (xs : List (Option ℕ)) → list_any test xs ≡ true
+    → (k : ℕ) × (s : ℕ) × (slice_index_or xs k None ≡ Some s) × (test (Some s) ≡ true)
 any_true test none [] is = absurd (true≢false (sym is))
 any_true test none (None ∷ xs) is =
     let rest = any_true test none xs (ap (λ b. b || list_any test xs) (sym none) ∙ is) in (suc rest.0, rest.1, rest.2, rest.3)
 any_true test none (Some s ∷ xs) is =
-    elim (test (Some s)) as (λ b. test (Some s) ≡ b → (b || list_any test xs) ≡ true → (k : ℕ) × (t : ℕ) × (slice_index_or (Some s ∷ xs) k None ≡ Some t) × (test (Some t) ≡ true)) [
+    elim (test (Some s)) as (λ b. test (Some s) ≡ b → (b || list_any test xs) ≡ true
+    → (k : ℕ) × (t : ℕ) × (slice_index_or (Some s ∷ xs) k None ≡ Some t) × (test (Some t) ≡ true)) [
       | true ↦ λ e _. (zero, s, refl, e)
       | false ↦ λ _ more. let rest = any_true test none xs more in (suc rest.0, rest.1, rest.2, rest.3)
     ] refl is
@@ -213,7 +236,8 @@ any_there test (x ∷ xs) zero s at is = ap (λ b. b || list_any test xs) (ap te
 any_there test (x ∷ xs) (suc k) s at is = ap (λ b. test x || b) (any_there test xs k s at is) ∙ or_yes (test x)
 
 -- where each open snapshot stays open
-pub any_more : (test : Option ℕ → Bool) → test None ≡ false → (xs ys : List (Option ℕ)) → ((k s : ℕ) → slice_index_or xs k None ≡ Some s → slice_index_or ys k None ≡ Some s) → list_any test xs ≡ true → list_any test ys ≡ true
+pub any_more : (test : Option ℕ → Bool) → test None ≡ false → (xs ys : List (Option ℕ))
+    → ((k s : ℕ) → slice_index_or xs k None ≡ Some s → slice_index_or ys k None ≡ Some s) → list_any test xs ≡ true → list_any test ys ≡ true
 any_more test none xs ys keeps is = let found = any_true test none xs is in any_there test ys found.0 found.1 (keeps found.0 found.1 found.2) found.3
 
 pub contains_there : (xs : List (Option ℕ)) (k s : ℕ) → slice_index_or xs k None ≡ Some s → Contains xs (Some s)
@@ -245,23 +269,30 @@ pub ended_open : (xs : List (Option ℕ)) (i s : ℕ) → Contains (slice_set xs
 ended_open xs i s there = let key = key_of (slice_set xs i None) s there in contains_there xs key.0 s (set_there xs i key.0 s key.1)
 
 -- a snapshot more
-pub opened_keeps : (xs ys : List (Option ℕ)) (key : ℕ) → slice_index_or xs key None ≡ None → ((k : ℕ) → k ≢ key → slice_index_or ys k None ≡ slice_index_or xs k None)
+pub opened_keeps : (xs ys : List (Option ℕ)) (key : ℕ) → slice_index_or xs key None ≡ None
+    → ((k : ℕ) → k ≢ key → slice_index_or ys k None ≡ slice_index_or xs k None)
     → (k s : ℕ) → slice_index_or xs k None ≡ Some s → slice_index_or ys k None ≡ Some s
 opened_keeps xs ys key vacant others k s at =
-    others k (λ same. let none : slice_index_or xs k None ≡ None = ap (λ j. slice_index_or xs j None) same ∙ vacant in let both : Some s ≡ None = sym at ∙ none in cc) ∙ at
+    others k (λ same. let none : slice_index_or xs k None ≡ None = ap (λ j. slice_index_or xs j None) same ∙ vacant in let both : Some s ≡ None = sym at
+    ∙ none in cc) ∙ at
 
-pub opened_later : (staged : Option ℕ) (m : ChainMap) (xs ys : List (Option ℕ)) (key n : ℕ) → ((q : PageId) → All (IsKnownAt staged n) (chain_in m q)) → ((s : ℕ) → Contains xs (Some s) → (q : PageId) → IsLater staged s (chain_in m q))
-    → slice_index_or ys key None ≡ Some n → ((k : ℕ) → k ≢ key → slice_index_or ys k None ≡ slice_index_or xs k None) → (s : ℕ) → Contains ys (Some s) → (q : PageId) → IsLater staged s (chain_in m q)
+pub opened_later : (staged : Option ℕ) (m : ChainMap) (xs ys : List (Option ℕ)) (key n : ℕ) → ((q : PageId) → All (IsKnownAt staged n) (chain_in m q))
+    → ((s : ℕ) → Contains xs (Some s) → (q : PageId) → IsLater staged s (chain_in m q))
+    → slice_index_or ys key None ≡ Some n → ((k : ℕ) → k ≢ key → slice_index_or ys k None ≡ slice_index_or xs k None) → (s : ℕ) → Contains ys (Some s)
+    → (q : PageId) → IsLater staged s (chain_in m q)
 opened_later staged m xs ys key n known later changed others s there q =
     let at = key_of ys s there in
     elim (at.0 == key) as (λ b. (at.0 == key) ≡ b → IsLater staged s (chain_in m q)) [
-      | true ↦ λ e. let same : at.0 ≡ key = grind (arith, nat_tests) in let both : Some n ≡ Some s = sym changed ∙ ap (λ k. slice_index_or ys k None) (sym same) ∙ at.1 in
+      | true ↦ λ e. let same : at.0 ≡ key = grind (arith, nat_tests) in let both : Some n ≡ Some s = sym changed ∙ ap (λ k. slice_index_or ys k None) (sym same)
+          ∙ at.1 in
           let number : n ≡ s = cc in subst (λ t. IsLater staged t (chain_in m q)) number (known_later staged n (chain_in m q) (known q))
-      | false ↦ λ e. later s (contains_there xs at.0 s (sym (others at.0 (λ same. let is : (at.0 == key) ≡ true = grind (arith, nat_tests) in true≢false (sym is ∙ e))) ∙ at.1)) q
+      | false ↦ λ e. later s (contains_there xs at.0 s
+          (sym (others at.0 (λ same. let is : (at.0 == key) ≡ true = grind (arith, nat_tests) in true≢false (sym is ∙ e))) ∙ at.1)) q
     ] refl
 
 -- nothing is kept at first
-pub empty_sound : (m : ChainMap) (slots : List (Option ℕ)) (touched older : List PageId) (used capacity : ℕ) → m ≡ map.empty → used ≤ capacity → IsSound m slots None touched older used capacity
+pub empty_sound : (m : ChainMap) (slots : List (Option ℕ)) (touched older : List PageId) (used capacity : ℕ) → m ≡ map.empty → used ≤ capacity
+    → IsSound m slots None touched older used capacity
 empty_sound m slots touched older used capacity is fits = record {
   before = λ q. tt;
   seen = λ q. subst (IsSeen slots) (sym (none q)) tt;
@@ -276,7 +307,8 @@ empty_sound m slots touched older used capacity is fits = record {
     none q = ap (λ t. chain_in t q) is ∙ chain_in-empty q
 
 -- a chain of one version is started
-pub start_sound : (m : ChainMap) (slots : List (Option ℕ)) (touched older : List PageId) (used capacity : ℕ) (id : PageId) (v : Version) → IsSound m slots None touched older used capacity
+pub start_sound : (m : ChainMap) (slots : List (Option ℕ)) (touched older : List PageId) (used capacity : ℕ) (id : PageId) (v : Version)
+    → IsSound m slots None touched older used capacity
     → IsSound (map.insert m id (v ∷ [])) slots None touched older used capacity
 start_sound m slots touched older used capacity id v sound = record {
   before = λ q. tt;

@@ -25,4 +25,3 @@ pub use chain::Chain;
 pub use spaces::SpaceList;
 pub use version::{Image, Version};
 pub use versions::Versions;
-

@@ -50,7 +50,8 @@ tabs-cut bytes before behind cut =
 pub tabs-lacking : (bytes : List ℕ) → Lacks 9 bytes → replaced tab bytes ≡ bytes
 tabs-lacking bytes lacks = replaced-lacking tab (λ b. b ∷ []) 9 tab-other bytes lacks ∙ replaced-itself bytes
 
-pub lines-cut : (bytes before behind : List ℕ) → IsCut 10 bytes before behind → replaced line_or_tab bytes ≡ replaced tab before ++ (92 ∷ 110 ∷ replaced line_or_tab behind)
+pub lines-cut : (bytes before behind : List ℕ) → IsCut 10 bytes before behind
+    → replaced line_or_tab bytes ≡ replaced tab before ++ (92 ∷ 110 ∷ replaced line_or_tab behind)
 lines-cut bytes before behind cut = replaced-cut line_or_tab tab 10 line-other bytes before behind cut
 
 pub lines-lacking : (bytes : List ℕ) → Lacks 10 bytes → replaced line_or_tab bytes ≡ replaced tab bytes
@@ -58,7 +59,8 @@ lines-lacking bytes lacks = replaced-lacking line_or_tab tab 10 line-other bytes
 
 pub escaped-cut : (bytes before behind : List ℕ) → IsCut 92 bytes before behind → escaped bytes ≡ replaced line_or_tab before ++ (92 ∷ 92 ∷ escaped behind)
 escaped-cut bytes before behind cut =
-    escaped-replaced bytes ∙ (replaced-cut escaped_byte line_or_tab 92 escaped-other bytes before behind cut ∙ ap (λ r. replaced line_or_tab before ++ (92 ∷ 92 ∷ r)) (sym (escaped-replaced behind)))
+    escaped-replaced bytes ∙ (replaced-cut escaped_byte line_or_tab 92 escaped-other bytes before behind cut
+    ∙ ap (λ r. replaced line_or_tab before ++ (92 ∷ 92 ∷ r)) (sym (escaped-replaced behind)))
 
 pub escaped-lacking : (bytes : List ℕ) → Lacks 92 bytes → escaped bytes ≡ replaced line_or_tab bytes
 escaped-lacking bytes lacks = escaped-replaced bytes ∙ replaced-lacking escaped_byte line_or_tab 92 escaped-other bytes lacks

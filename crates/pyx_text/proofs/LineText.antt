@@ -32,7 +32,8 @@ pub attributes_text-append : (xs ys : List Attr) → attributes_text (xs ++ ys) 
 attributes_text-append xs ys = ap text_of (map-append attribute_line xs ys) ∙ text_of-append (map attribute_line xs) (map attribute_line ys)
 
 pub nodes_text-append : (xs ys : List Node) → nodes_text (xs ++ ys) ≡ nodes_text xs ++ nodes_text ys
-nodes_text-append xs ys = ap text_of (ap joined (map-append pyx_node xs ys) ∙ joined-append (map pyx_node xs) (map pyx_node ys)) ∙ text_of-append (pyx_of xs) (pyx_of ys)
+nodes_text-append xs ys = ap text_of (ap joined (map-append pyx_node xs ys) ∙ joined-append (map pyx_node xs) (map pyx_node ys))
+    ∙ text_of-append (pyx_of xs) (pyx_of ys)
 
 pub nodes_text-one : (n : Node) → nodes_text (n ∷ []) ≡ text_of (pyx_node n)
 nodes_text-one n = ap text_of (append-nil (pyx_node n))

@@ -13,27 +13,32 @@ ends_in_text-last (x ∷ []) n = refl
 ends_in_text-last (x ∷ y ∷ nodes) n = ends_in_text-last (y ∷ nodes) n
 
 -- the last node, found by its index
-pub ends_in_text-at : (nodes : List Node) (n : Node) → 0 < length nodes → n ≡ get_or nodes (length nodes - 1) n → ends_in_text nodes ≡ is_text_layer (out-Node n)
+pub ends_in_text-at : (nodes : List Node) (n : Node) → 0 < length nodes → n ≡ get_or nodes (length nodes - 1) n
+    → ends_in_text nodes ≡ is_text_layer (out-Node n)
 ends_in_text-at nodes n some at =
     let count : length nodes ≡ (length nodes - 1) + 1 = omega arith in
     let within : (length nodes - 1) < length nodes = omega arith in
     let split : nodes ≡ take (length nodes - 1) nodes ++ get_or nodes (length nodes - 1) n ∷ [] =
     sym (take-length nodes) ∙ (ap (λ k. take k nodes) count ∙ take_more nodes (length nodes - 1) n within) in
-    ap ends_in_text split ∙ (ends_in_text-last (take (length nodes - 1) nodes) (get_or nodes (length nodes - 1) n) ∙ ap (λ m. is_text_layer (out-Node m)) (sym at))
+    ap ends_in_text split ∙ (ends_in_text-last (take (length nodes - 1) nodes) (get_or nodes (length nodes - 1) n)
+    ∙ ap (λ m. is_text_layer (out-Node m)) (sym at))
 
-pub with_characters-last : (value : List ℕ) (nodes : List Node) (n : Node) → value ≢ [] → with_characters value (nodes ++ n ∷ []) ≡ nodes ++ added_to (out-Node n) value n
+pub with_characters-last : (value : List ℕ) (nodes : List Node) (n : Node) → value ≢ []
+    → with_characters value (nodes ++ n ∷ []) ≡ nodes ++ added_to (out-Node n) value n
 with_characters-last [] nodes n some = elim (some refl) [ ]
 with_characters-last (b ∷ bs) [] n some = refl
 with_characters-last (b ∷ bs) (x ∷ []) n some = refl
 with_characters-last (b ∷ bs) (x ∷ y ∷ nodes) n some = ap (λ r. x ∷ r) (with_characters-last (b ∷ bs) (y ∷ nodes) n some)
 
 -- the same by the last node's variant
-pub with_characters-Text : (value : List ℕ) (nodes : List Node) (first : List ℕ) → value ≢ [] → with_characters value (nodes ++ Text first ∷ []) ≡ nodes ++ Text (first ++ value) ∷ []
+pub with_characters-Text : (value : List ℕ) (nodes : List Node) (first : List ℕ) → value ≢ []
+    → with_characters value (nodes ++ Text first ∷ []) ≡ nodes ++ Text (first ++ value) ∷ []
 with_characters-Text value nodes first some = with_characters-last value nodes (Text first) some ∙ rw (outs-Text first) refl
 
 pub with_characters-Element : (value : List ℕ) (nodes : List Node) (name : List ℕ) (attrs : List Attr) (kids : List Node) → value ≢ []
     → with_characters value (nodes ++ Element name attrs kids ∷ []) ≡ nodes ++ Element name attrs kids ∷ Text value ∷ []
-with_characters-Element value nodes name attrs kids some = with_characters-last value nodes (Element name attrs kids) some ∙ rw (outs-Element name attrs kids) refl
+with_characters-Element value nodes name attrs kids some = with_characters-last value nodes (Element name attrs kids) some
+    ∙ rw (outs-Element name attrs kids) refl
 
 pub with_characters-Pi : (value : List ℕ) (nodes : List Node) (target text : List ℕ) → value ≢ []
     → with_characters value (nodes ++ Pi target text ∷ []) ≡ nodes ++ Pi target text ∷ Text value ∷ []

@@ -33,10 +33,12 @@ replaced-cut f g c same bytes before behind cut =
     ap (replaced f) cut.whole ∙ (replaced-append f before (c ∷ behind) ∙ ap (λ r. r ++ replaced f (c ∷ behind)) (replaced-lacking f g c same before cut.first))
 
 -- one turn of a loop that writes what stands before a mark, then the mark's own text, with the rest still to come
-pub turn : (line first second whole before mark rest all : List ℕ) → first ≡ line ++ before → second ≡ first ++ mark → whole ≡ before ++ (mark ++ rest) → line ++ whole ≡ all
+pub turn : (line first second whole before mark rest all : List ℕ) → first ≡ line ++ before → second ≡ first ++ mark → whole ≡ before ++ (mark ++ rest)
+    → line ++ whole ≡ all
     → second ++ rest ≡ all
 turn line first second whole before mark rest all wrote marked cut so_far =
-    ap (λ s. s ++ rest) (marked ∙ ap (λ s. s ++ mark) wrote) ∙ (append_assoc (line ++ before) mark rest ∙ (append_assoc line before (mark ++ rest) ∙ (ap (λ w. line ++ w) (sym cut) ∙ so_far)))
+    ap (λ s. s ++ rest) (marked ∙ ap (λ s. s ++ mark) wrote)
+    ∙ (append_assoc (line ++ before) mark rest ∙ (append_assoc line before (mark ++ rest) ∙ (ap (λ w. line ++ w) (sym cut) ∙ so_far)))
 
 -- the last turn
 pub last_turn : (line new whole rest all : List ℕ) → new ≡ line ++ rest → whole ≡ rest → line ++ whole ≡ all → new ≡ all

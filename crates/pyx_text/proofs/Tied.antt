@@ -22,10 +22,12 @@ or-cond false false = refl
 -- attributes in two parts
 pub has_attribute-append : (name : List ℕ) (xs ys : List Attr) → has_attribute name (xs ++ ys) ≡ (has_attribute name xs || has_attribute name ys)
 has_attribute-append name [] ys = refl
-has_attribute-append name (x ∷ xs) ys = ap (λ b. bytes_eq x.name name || b) (has_attribute-append name xs ys) ∙ or-assoc (bytes_eq x.name name) (has_attribute name xs) (has_attribute name ys)
+has_attribute-append name (x ∷ xs) ys = ap (λ b. bytes_eq x.name name || b) (has_attribute-append name xs ys)
+    ∙ or-assoc (bytes_eq x.name name) (has_attribute name xs) (has_attribute name ys)
 
 -- among the first of the attributes, or among the others
-pub among_parts : (name : List ℕ) (attrs : List Attr) (n : ℕ) → has_attribute name attrs ≡ (has_attribute name (take n attrs) || has_attribute name (drop n attrs))
+pub among_parts : (name : List ℕ) (attrs : List Attr) (n : ℕ)
+    → has_attribute name attrs ≡ (has_attribute name (take n attrs) || has_attribute name (drop n attrs))
 among_parts name attrs n = ap (has_attribute name) (sym (take-append-drop n attrs)) ∙ has_attribute-append name (take n attrs) (drop n attrs)
 
 -- another attribute, while there are few
@@ -36,6 +38,8 @@ few_more n attrs a lt =
     drop_all n (attrs ++ a ∷ []) all ∙ sym (drop_all n attrs most)
 
 -- another attribute behind them
-pub many_more : (n : ℕ) (bytes : List ℕ) (attrs : List Attr) (a : Attr) → n ≤ length attrs → has_attribute bytes (drop n (attrs ++ a ∷ [])) ≡ (has_attribute bytes (drop n attrs) || bytes_eq a.name bytes)
+pub many_more : (n : ℕ) (bytes : List ℕ) (attrs : List Attr) (a : Attr) → n ≤ length attrs
+    → has_attribute bytes (drop n (attrs ++ a ∷ [])) ≡ (has_attribute bytes (drop n attrs) || bytes_eq a.name bytes)
 many_more n bytes attrs a le =
-    ap (has_attribute bytes) (drop-append-le n attrs (a ∷ []) le) ∙ (has_attribute-append bytes (drop n attrs) (a ∷ []) ∙ ap (λ b. has_attribute bytes (drop n attrs) || b) (or-false (bytes_eq a.name bytes)))
+    ap (has_attribute bytes) (drop-append-le n attrs (a ∷ []) le)
+    ∙ (has_attribute-append bytes (drop n attrs) (a ∷ []) ∙ ap (λ b. has_attribute bytes (drop n attrs) || b) (or-false (bytes_eq a.name bytes)))

@@ -28,13 +28,16 @@ module _ (last : Option PageChange) (spaces : Spaces) (bytes : List ℕ) where
       let o : ℕ × List ℕ = (number_in c.1, drop 8 c.1) in
       let absent : has_space spaces (record { commit = c.0; ordinal = o.0 }) ≡ false =
       not_true _ (λ there. cc (sym none ∙ has_commit_of_space spaces (record { commit = c.0; ordinal = o.0 }) there)) in
-      rw enough (ap (λ (b : Bool). check b (length bytes) >>= λ own. number_at o.1 >>= id_1 last spaces bytes c o) (and_false (is_next_space last (record { commit = c.0; ordinal = o.0 })) _ absent))
+      rw enough (ap (λ (b : Bool). check b (length bytes) >>= λ own. number_at o.1 >>= id_1 last spaces bytes c o)
+      (and_false (is_next_space last (record { commit = c.0; ordinal = o.0 })) _ absent))
 
-  by_commit : (c : ℕ × List ℕ) → (check (is_next_commit last c.0 && (nat_le 8 (length c.1) || has_commit spaces c.0)) (length bytes) >>= λ came. id_4 last spaces bytes c)
+  by_commit : (c : ℕ × List ℕ)
+      → (check (is_next_commit last c.0 && (nat_le 8 (length c.1) || has_commit spaces c.0)) (length bytes) >>= λ came. id_4 last spaces bytes c)
       ≡ (check (is_next_commit last c.0 && has_commit spaces c.0) (length bytes) >>= λ came. id_4 last spaces bytes c)
   by_commit c = by_tests (is_next_commit last c.0) (nat_le 8 (length c.1)) (has_commit spaces c.0) (no_document c)
     where
-      by_tests : (a b h : Bool) → (b ≡ true → h ≡ false → id_4 last spaces bytes c ≡ Err (length bytes)) → (check (a && (b || h)) (length bytes) >>= λ came. id_4 last spaces bytes c) ≡ (check (a && h) (length bytes) >>= λ came. id_4 last spaces bytes c)
+      by_tests : (a b h : Bool) → (b ≡ true → h ≡ false → id_4 last spaces bytes c ≡ Err (length bytes))
+          → (check (a && (b || h)) (length bytes) >>= λ came. id_4 last spaces bytes c) ≡ (check (a && h) (length bytes) >>= λ came. id_4 last spaces bytes c)
       by_tests false b h none = refl
       by_tests true false h none = refl
       by_tests true true true none = refl

@@ -16,12 +16,15 @@ use Rattle.redo_log.proofs.Takes.{rest_is}
 abbrev pub place_of : Which → ℕ → LogEnd
 place_of file at = record { file = file; at = at }
 
-pub scans : (file : Which) (at : ℕ) (base : LogBase) (c : Image) (s : Scanned) (bytes rest : List ℕ) → bytes ≡ drop at (bytes_of c file) → s.end ≡ place_of file (at + (length bytes - length rest))
-    → AreRecords (store_before base) s.changes bytes rest → bytes ≡ flat_map record_of s.changes ++ rest → AreTaken (store_before base) s.changes → Scans file at base c s
+pub scans : (file : Which) (at : ℕ) (base : LogBase) (c : Image) (s : Scanned) (bytes rest : List ℕ) → bytes ≡ drop at (bytes_of c file)
+    → s.end ≡ place_of file (at + (length bytes - length rest))
+    → AreRecords (store_before base) s.changes bytes rest → bytes ≡ flat_map record_of s.changes ++ rest → AreTaken (store_before base) s.changes
+    → Scans file at base c s
 scans file at base c s bytes rest is end records spelled taken =
     let left : drop s.end.at (bytes_of c file) ≡ rest =
     ap (λ (e : LogEnd). drop e.at (bytes_of c file)) end
-    ∙ (sym (drop-drop (length bytes - length rest) at (bytes_of c file)) ∙ (ap (drop (length bytes - length rest)) (sym is) ∙ rest_is bytes (flat_map record_of s.changes) rest spelled)) in record {
+    ∙ (sym (drop-drop (length bytes - length rest) at (bytes_of c file))
+    ∙ (ap (drop (length bytes - length rest)) (sym is) ∙ rest_is bytes (flat_map record_of s.changes) rest spelled)) in record {
       file_is = ap (λ (e : LogEnd). e.file) end;
       records = subst (λ (z : List ℕ × List ℕ). AreRecords (store_before base) s.changes z.0 z.1) (λ k. (is k, sym left k)) records;
       taken = taken;

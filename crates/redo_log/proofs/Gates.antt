@@ -26,11 +26,13 @@ module _ (file : Which) (front : List ℕ) (gate : ℕ) (body rest : List ℕ) w
 
 -- after Ok the log may be appended to behind the record
 module _ (end : LogEnd) (body : List ℕ) (c : Image) (old : Image → Type 0) (here : old c) (r : IsAtRest end c old) where
-  pub rests_next : (next : LogEnd) (new : Image → Type 0) (d : Image) → next.file ≡ end.file → next.at ≡ end.at + length (tail_of body) → new d → FileIs end.file (recorded end body c) new → IsAtRest next d new
+  pub rests_next : (next : LogEnd) (new : Image → Type 0) (d : Image) → next.file ≡ end.file → next.at ≡ end.at + length (tail_of body) → new d
+      → FileIs end.file (recorded end body c) new → IsAtRest next d new
   rests_next next new d file_is at_is is only =
       let front = take end.at (bytes_of c end.file) in let rest = drop (end.at + 1 + length (tail_of body)) (bytes_of c end.file) in
       rests next.file next.at d new (through end.file front 1 body rest)
-      (length-through end.file front 1 body rest ∙ (ap (λ (n : ℕ). n + length (tail_of body)) (front_long end.file end.at (tail_of body) c old here r) ∙ sym at_is)) is
+      (length-through end.file front 1 body rest
+      ∙ (ap (λ (n : ℕ). n + length (tail_of body)) (front_long end.file end.at (tail_of body) c old here r) ∙ sym at_is)) is
       (λ i left. subst (λ (f : Which). Before f (through end.file front 1 body rest) i) (sym file_is) (next_closed end.file front 1 body rest i (only i left)))
 
 -- over a record in doubt, as it is read
@@ -47,9 +49,16 @@ module _ (end : LogEnd) (body : List ℕ) (c : Image) (old : Image → Type 0) (
         (length-through end.file r.front gate_now body r.rest ∙ ap (λ (n : ℕ). n + length (tail_of body)) r.long) left
         (λ i is. next_closed end.file r.front gate_now body r.rest i (s.synced i is ∙ file_is))
     rests_on false s = rests end.file end.at c new r.front r.long left
-        (λ i is. record { gate = gate_now; shut = λ one. absurd (cc (s.is_open.1 (gate_is end.file end.at (tail_of body) c old here r ∙ one))); rest = tail_of body ++ r.rest; is = s.synced i is ∙ file_is })
+        (λ i is. record {
+          gate = gate_now;
+          shut = λ one. absurd (cc (s.is_open.1 (gate_is end.file end.at (tail_of body) c old here r ∙ one)));
+          rest =
+              tail_of body ++ r.rest;
+          is = s.synced i is ∙ file_is;
+        })
 
-    pub settles : (sure : Bool) (next : LogEnd) → next ≡ (if sure then next_end end body else end) → IsSettled end.file end.at c new sure → Settles end next body c new sure
+    pub settles : (sure : Bool) (next : LogEnd) → next ≡ (if sure then next_end end body else end) → IsSettled end.file end.at c new sure
+        → Settles end next body c new sure
     settles sure next moved s = record {
       synced = s.synced;
       whole = whole_is end.file end.at (tail_of body) c old here r;

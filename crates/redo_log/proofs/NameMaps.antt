@@ -16,7 +16,8 @@ use Rattle.page_bytes.specs.declared.ids.DocEntry.{DocEntry}
 use Rattle.redo_log.specs.Names.{Names, by_bytes}
 
 module _ {A : Type 0} where
-  find-by_bytes : (es : List (String A × DocEntry)) (q : List ℕ) → find (slice_cmp nat_cmp) q (by_bytes es) ≡ lookup (is_at (λ k. slice_cmp nat_cmp q (string_bytes k))) es
+  find-by_bytes : (es : List (String A × DocEntry)) (q : List ℕ)
+      → find (slice_cmp nat_cmp) q (by_bytes es) ≡ lookup (is_at (λ k. slice_cmp nat_cmp q (string_bytes k))) es
   find-by_bytes [] q = refl
   find-by_bytes (e ∷ es) q = ap (cond (eq_by_cmp (slice_cmp nat_cmp) q (string_bytes e.0)) (Some e.1)) (find-by_bytes es q)
 
@@ -27,17 +28,20 @@ module _ {A : Type 0} where
   pub get-names_of : (m : BTreeMap (String A) DocEntry) (q : List ℕ) → finite.get (names_of m) q ≡ tree.get_by_text m q
   get-names_of m q = finite.get-from_entries nat_list_cmp_total (by_bytes m.entries) q ∙ find-by_bytes m.entries q
 
-  after_update : (m n : BTreeMap (String A) DocEntry) (bs : List ℕ) (w : Option DocEntry) → UpdatesBy string_cmp (λ k. slice_cmp nat_cmp bs (string_bytes k)) m n w → (q : List ℕ)
+  after_update : (m n : BTreeMap (String A) DocEntry) (bs : List ℕ) (w : Option DocEntry)
+      → UpdatesBy string_cmp (λ k. slice_cmp nat_cmp bs (string_bytes k)) m n w → (q : List ℕ)
       → finite.get (names_of n) q ≡ cond (eq_by_cmp (slice_cmp nat_cmp) q bs) w (finite.get (names_of m) q)
   after_update m n bs w u q =
       get-names_of n q ∙ (btree_map_updates_text bs m n w u q
       ∙ (ap (λ (b : Bool). cond b w (tree.get_by_text m q)) (sym (is_eq-slice_cmp bs q) ∙ (eq_by_cmp_equiv nat_list_cmp_total).symm bs q)
       ∙ ap (cond (eq_by_cmp (slice_cmp nat_cmp) q bs) w) (sym (get-names_of m q))))
 
-  pub names_of-insert : (m n : BTreeMap (String A) DocEntry) (bs : List ℕ) (e : DocEntry) → UpdatesBy string_cmp (λ k. slice_cmp nat_cmp bs (string_bytes k)) m n (Some e) → names_of n ≡ finite.insert (names_of m) bs e
+  pub names_of-insert : (m n : BTreeMap (String A) DocEntry) (bs : List ℕ) (e : DocEntry)
+      → UpdatesBy string_cmp (λ k. slice_cmp nat_cmp bs (string_bytes k)) m n (Some e) → names_of n ≡ finite.insert (names_of m) bs e
   names_of-insert m n bs e u = finite.same_map nat_list_cmp_total (finite.slice_cmp-IsAntisymmetric finite.nat_cmp-IsAntisymmetric) _ _
       (λ q. after_update m n bs (Some e) u q ∙ sym (finite.get-insert nat_list_cmp_total (names_of m) bs e q))
 
-  pub names_of-remove : (m n : BTreeMap (String A) DocEntry) (bs : List ℕ) → UpdatesBy string_cmp (λ k. slice_cmp nat_cmp bs (string_bytes k)) m n None → names_of n ≡ finite.remove (names_of m) bs
+  pub names_of-remove : (m n : BTreeMap (String A) DocEntry) (bs : List ℕ) → UpdatesBy string_cmp (λ k. slice_cmp nat_cmp bs (string_bytes k)) m n None
+      → names_of n ≡ finite.remove (names_of m) bs
   names_of-remove m n bs u = finite.same_map nat_list_cmp_total (finite.slice_cmp-IsAntisymmetric finite.nat_cmp-IsAntisymmetric) _ _
       (λ q. after_update m n bs None u q ∙ sym (finite.get-remove nat_list_cmp_total (names_of m) bs q))

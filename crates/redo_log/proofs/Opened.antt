@@ -51,7 +51,8 @@ module _ (commit : ℕ) (s : Store) (name bytes : List ℕ) where
       let c = bind_ok (number_at bytes) (entry_5 commit s name bytes) x e in
       let came = bind_ok (check (is_commit_of (entry_of name s.names) commit c.0.0) (length bytes)) (λ came. entry_4 commit s name bytes c.0) x c.2 in
       let o = bind_ok (number_at c.0.1) (entry_3 commit s name bytes c.0) x came.2 in
-      let own = bind_ok (check (is_space_of (entry_of name s.names) s.spaces (space_in commit s name bytes c.0 o.0)) (length bytes)) (λ own. entry_2 commit s name bytes c.0 o.0) x o.2 in
+      let own = bind_ok (check (is_space_of (entry_of name s.names) s.spaces (space_in commit s name bytes c.0 o.0)) (length bytes))
+      (λ own. entry_2 commit s name bytes c.0 o.0) x o.2 in
       let form = bind_ok (byte_at o.0.1) (entry_1 commit s name bytes c.0 o.0) x own.2 in
       let made : DocEntry × List ℕ = (record { space = space_in commit s name bytes c.0 o.0; clustered = form.0.0 == 1 }, form.0.1) in
       let known = bind_ok (check (nat_lt form.0.0 2) (length o.0.1)) (λ known. Ok made) x form.2 in
@@ -63,13 +64,15 @@ module _ (commit : ℕ) (s : Store) (name bytes : List ℕ) where
         check_ok _ (length bytes) own.0 own.1,
       )
 
-entry_if_taken : (sets : Bool) (commit : ℕ) (s : Store) (name bytes : List ℕ) (x : Option DocEntry × List ℕ) → IsBytes bytes → (sets || is_some (entry_of name s.names)) ≡ true → entry_if sets commit s name bytes ≡ Ok x
+entry_if_taken : (sets : Bool) (commit : ℕ) (s : Store) (name bytes : List ℕ) (x : Option DocEntry × List ℕ) → IsBytes bytes
+    → (sets || is_some (entry_of name s.names)) ≡ true → entry_if sets commit s name bytes ≡ Ok x
     → (is_some x.0 ≡ sets) × IsEntryTaken commit s name x.0
 entry_if_taken false commit s name bytes x fits there e =
     subst (λ (y : Option DocEntry × List ℕ). (is_some y.0 ≡ false) × IsEntryTaken commit s name y.0) (ok_is (None, bytes) x e) (refl, there)
 entry_if_taken true commit s name bytes x fits there e =
     let d = bind_ok (entry_at commit s name bytes) (λ (d : DocEntry × List ℕ). Ok (Some d.0, d.1)) x e in
-    subst (λ (y : Option DocEntry × List ℕ). (is_some y.0 ≡ true) × IsEntryTaken commit s name y.0) (ok_is (Some d.0.0, d.0.1) x d.2) (refl, entry_taken commit s name bytes d.0 fits d.1)
+    subst (λ (y : Option DocEntry × List ℕ). (is_some y.0 ≡ true) × IsEntryTaken commit s name y.0) (ok_is (Some d.0.0, d.0.1) x d.2)
+    (refl, entry_taken commit s name bytes d.0 fits d.1)
 
 module _ (commit : ℕ) (before : List LogName) (s : Store) (bytes : List ℕ) where
   name_taken : (x : LogName × List ℕ) → IsBytes bytes → name_at commit before s bytes ≡ Ok x → IsNameTaken commit before s x.0
@@ -80,8 +83,10 @@ module _ (commit : ℕ) (before : List LogName) (s : Store) (bytes : List ℕ) w
       let long = bind_ok (byte_at kind.0.1) (name_6 commit before s bytes kind.0) x known.2 in
       let name = bind_ok (bytes_at long.0.0 long.0.1) (name_5 commit before s bytes kind.0) x long.2 in
       let good = bind_ok (check (is_name name.0.0) (length kind.0.1)) (λ good. name_4 commit before s bytes kind.0 name.0) x name.2 in
-      let next = bind_ok (check (is_next_name (last_in before) (kind.0.0 == 1) name.0.0) (length kind.0.1)) (λ next. name_3 commit before s bytes kind.0 name.0) x good.2 in
-      let there = bind_ok (check (kind.0.0 == 1 || is_some (entry_of name.0.0 s.names)) (length kind.0.1)) (λ there. name_2 commit before s bytes kind.0 name.0) x next.2 in
+      let next = bind_ok (check (is_next_name (last_in before) (kind.0.0 == 1) name.0.0) (length kind.0.1))
+      (λ next. name_3 commit before s bytes kind.0 name.0) x good.2 in
+      let there = bind_ok (check (kind.0.0 == 1 || is_some (entry_of name.0.0 s.names)) (length kind.0.1))
+      (λ there. name_2 commit before s bytes kind.0 name.0) x next.2 in
       let entry = bind_ok (entry_if (kind.0.0 == 1) commit s name.0.0 name.0.1) (name_1 commit before s bytes kind.0 name.0) x there.2 in
       let t0 = byte_takes bytes kind.0.0 kind.0.1 fits kind.1 in
       let t1 = byte_takes kind.0.1 long.0.0 long.0.1 t0.rest_fits long.1 in
@@ -95,17 +100,25 @@ module _ (commit : ℕ) (before : List LogName) (s : Store) (bytes : List ℕ) w
         entry = taken.1;
       }
 
-names_taken : (commit n : ℕ) (done : List LogName) (s : Store) (bytes : List ℕ) (x : List LogName × List ℕ) → IsBytes bytes → names_at commit n done s bytes ≡ Ok x
+names_taken : (commit n : ℕ) (done : List LogName) (s : Store) (bytes : List ℕ) (x : List LogName × List ℕ) → IsBytes bytes
+    → names_at commit n done s bytes ≡ Ok x
     → (more : List LogName) × (x.0 ≡ done ++ more) × (length more ≡ n) × AreNamesTaken commit done s more × IsBytes x.1
 unfolding names_at
 names_taken commit zero done s bytes x fits e =
-    subst (λ (y : List LogName × List ℕ). (more : List LogName) × (y.0 ≡ done ++ more) × (length more ≡ 0) × AreNamesTaken commit done s more × IsBytes y.1) (ok_is (done, bytes) x e)
+    subst (λ (y : List LogName × List ℕ). (more : List LogName) × (y.0 ≡ done ++ more) × (length more ≡ 0) × AreNamesTaken commit done s more × IsBytes y.1)
+    (ok_is (done, bytes) x e)
     ([], sym (append-nil done), refl, tt, fits)
 names_taken commit (suc n) done s bytes x fits e =
     let first = bind_ok (name_at commit done s bytes) (λ (f : LogName × List ℕ). names_at commit n (done ++ f.0 ∷ []) (after_name f.0 s) f.1) x e in
     let t = name_takes commit done s bytes first.0 fits first.1 in
-    let rest = names_taken commit n (done ++ first.0.0 ∷ []) (after_name first.0.0 s) first.0.1 x t.rest_fits first.2 in
-    (first.0.0 ∷ rest.0, rest.1 ∙ append_assoc done (first.0.0 ∷ []) rest.0, ap suc rest.2, (name_taken commit done s bytes first.0 fits first.1, rest.3), rest.4)
+    let rest = names_taken commit n (done ++ first.0.0 ∷ []) (after_name first.0.0 s) first.0.1 x t.rest_fits first.2 in (
+      first.0.0 ∷ rest.0,
+      rest.1
+          ∙ append_assoc done (first.0.0 ∷ []) rest.0,
+      ap suc rest.2,
+      (name_taken commit done s bytes first.0 fits first.1, rest.3),
+      rest.4,
+    )
 
 -- ---- pages
 
@@ -139,7 +152,8 @@ module _ (last : Option PageChange) (spaces : Spaces) (bytes : List ℕ) where
         next = check_ok _ (length bytes) next.0 next.1;
       }
 
-image_taken : (there : Bool) (s : Store) (id : PageId) (bytes : List ℕ) (x : Option (List ℕ) × List ℕ) → IsBytes bytes → (there || map.contains_key s.pages id) ≡ true → image_if there bytes ≡ Ok x → IsImageTaken s id x.0
+image_taken : (there : Bool) (s : Store) (id : PageId) (bytes : List ℕ) (x : Option (List ℕ) × List ℕ) → IsBytes bytes
+    → (there || map.contains_key s.pages id) ≡ true → image_if there bytes ≡ Ok x → IsImageTaken s id x.0
 image_taken false s id bytes x fits known e = subst (λ (y : Option (List ℕ) × List ℕ). IsImageTaken s id y.0) (ok_is (None, bytes) x e) known
 image_taken true s id bytes x fits known e =
     let d = bind_ok (bytes_at 4096 bytes) (λ (d : List ℕ × List ℕ). Ok (Some d.0, d.1)) x e in
@@ -172,7 +186,8 @@ pages_taken : (n : ℕ) (done : List PageChange) (s : Store) (bytes : List ℕ) 
     → (more : List PageChange) × (x.0 ≡ done ++ more) × (length more ≡ n) × ArePagesTaken done s more
 unfolding pages_at
 pages_taken zero done s bytes x fits e =
-    subst (λ (y : List PageChange × List ℕ). (more : List PageChange) × (y.0 ≡ done ++ more) × (length more ≡ 0) × ArePagesTaken done s more) (ok_is (done, bytes) x e)
+    subst (λ (y : List PageChange × List ℕ). (more : List PageChange) × (y.0 ≡ done ++ more) × (length more ≡ 0) × ArePagesTaken done s more)
+    (ok_is (done, bytes) x e)
     ([], sym (append-nil done), refl, tt)
 pages_taken (suc n) done s bytes x fits e =
     let first = bind_ok (page_at done s bytes) (λ (f : PageChange × List ℕ). pages_at n (done ++ f.0 ∷ []) s f.1) x e in
@@ -219,7 +234,8 @@ both_true : (a b : Bool) → a ≡ true → b ≡ true → (a && b) ≡ true
 both_true true b e h = h
 both_true false b e h = e
 
-all_named : (pages : PageIds) (ns : List LogName) (left : ℕ) (u : Unit {0}) → names_housed pages ns left ≡ Ok u → IsTrue (list_all (λ n. has_home pages n.entry) ns)
+all_named : (pages : PageIds) (ns : List LogName) (left : ℕ) (u : Unit {0}) → names_housed pages ns left ≡ Ok u
+    → IsTrue (list_all (λ n. has_home pages n.entry) ns)
 all_named pages [] left u e = refl
 all_named pages (n ∷ ns) left u e =
     let h = bind_ok (check (has_home pages n.entry) (left - 1)) (λ housed. names_housed pages ns (left - length (name_change n))) u e in
@@ -241,7 +257,8 @@ record_taken s bytes x fits e =
     let exact = bind_ok (check (long.0.0 + length body.0.1 == length long.0.1) (length bytes)) (λ exact. record_1 s bytes long.0 body.0) x gate.2 in
     let pages = (after_names body.0.0.names s).pages in
     let housed = bind_ok (all_housed body.0.0 pages (length long.0.1)) (λ housed. Ok body.0) x exact.2 in
-    let named = bind_ok (names_housed (with_images no_image body.0.0.pages pages) body.0.0.names (length long.0.1 - 16)) (λ named. pages_housed body.0.0.pages (length long.0.1 - 24 - names_length body.0.0.names)) housed.0 housed.1 in
+    let named = bind_ok (names_housed (with_images no_image body.0.0.pages pages) body.0.0.names (length long.0.1 - 16))
+    (λ named. pages_housed body.0.0.pages (length long.0.1 - 24 - names_length body.0.0.names)) housed.0 housed.1 in
     let t0 = number_takes bytes long.0.0 long.0.1 fits long.1 in
     let t1 = body_takes s long.0.1 body.0 t0.rest_fits body.1 in
     let b = body_taken s long.0.1 body.0 t0.rest_fits body.1 in
@@ -283,7 +300,8 @@ behind_open : (bytes rest other : List ℕ) → bytes ≡ 1 ∷ rest → bytes �
 behind_open bytes rest other e f = ap (drop 1) (sym e ∙ f)
 
 -- what the bytes are records of is one list of changes, with one end
-pub records_are_one : (cs ds : List Change) (s : Store) (bytes end fin : List ℕ) → AreRecords s cs bytes end → AreRecords s ds bytes fin → (cs ≡ ds) × (end ≡ fin)
+pub records_are_one : (cs ds : List Change) (s : Store) (bytes end fin : List ℕ) → AreRecords s cs bytes end → AreRecords s ds bytes fin
+    → (cs ≡ ds) × (end ≡ fin)
 records_are_one [] [] s bytes end fin r q = (refl, sym r.0 ∙ q.0)
 records_are_one [] (d ∷ ds) s bytes end fin r q = absurd (not_open end q.0 r.1 (sym r.0 ∙ q.2))
 records_are_one (c ∷ cs) [] s bytes end fin r q = absurd (not_open fin r.0 q.1 (sym q.0 ∙ r.2))
@@ -293,8 +311,10 @@ records_are_one (c ∷ cs) (d ∷ ds) s bytes end fin r q =
     let more = records_are_one cs ds (after c s) r.1 end fin r.4 (subst (λ (y : Change × List ℕ). AreRecords (after y.0 s) ds y.1 fin) (sym read) q.4) in
     (λ i. (read i).0 ∷ more.0 i, more.1)
 
-no_wrong : (s : Store) (bytes rest next : List ℕ) (c : Change) (left : ℕ) → bytes ≡ 1 ∷ rest → record_at s rest ≡ Ok (c, next) → ((bytes ≡ []) × (left ≡ 0)) ⊎ ((other : List ℕ) × (bytes ≡ 1 ∷ other) × (record_at s other ≡ Err left)) → ⊥
-no_wrong s bytes rest next c left is read wrong = ⊎_elim (λ none. cc (sym is ∙ none.0)) (λ w. cc (sym read ∙ (ap (record_at s) (behind_open bytes rest w.0 is w.1) ∙ w.2))) wrong
+no_wrong : (s : Store) (bytes rest next : List ℕ) (c : Change) (left : ℕ) → bytes ≡ 1 ∷ rest → record_at s rest ≡ Ok (c, next)
+    → ((bytes ≡ []) × (left ≡ 0)) ⊎ ((other : List ℕ) × (bytes ≡ 1 ∷ other) × (record_at s other ≡ Err left)) → ⊥
+no_wrong s bytes rest next c left is read wrong =
+    ⊎_elim (λ none. cc (sym is ∙ none.0)) (λ w. cc (sym read ∙ (ap (record_at s) (behind_open bytes rest w.0 is w.1) ∙ w.2))) wrong
 
 -- bytes that are records are refused nowhere
 pub records_are_sure : (cs ds : List Change) (s : Store) (bytes end : List ℕ) (left : ℕ) → AreRecords s cs bytes end → IsRefused s ds bytes left → ⊥

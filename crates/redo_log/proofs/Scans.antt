@@ -34,13 +34,15 @@ module _ (first : Store) (bytes : List ℕ) where
 
   module _ (s : Store) (rest : List ℕ) (done : List Change) where
     -- a record more
-    pub follows : (gate : ℕ) (behind : List ℕ) (c : Change) (next : List ℕ) (t : Store) (now : List Change) → Follow s rest done → rest ≡ gate ∷ behind → gate ≡ 1 → record_at s behind ≡ Ok (c, next) → t ≡ after c s → now ≡ done ++ c ∷ []
+    pub follows : (gate : ℕ) (behind : List ℕ) (c : Change) (next : List ℕ) (t : Store) (now : List Change) → Follow s rest done → rest ≡ gate ∷ behind
+        → gate ≡ 1 → record_at s behind ≡ Ok (c, next) → t ≡ after c s → now ≡ done ++ c ∷ []
         → Follow t next now
     follows gate behind c next t now so_far is open_gate read moved more cs end h =
         subst (λ (l : List Change). AreRecords first l bytes end) (sym (ap (λ (l : List Change). l ++ cs) more ∙ append_assoc done (c ∷ []) cs))
         (so_far (c ∷ cs) end (behind, next, is ∙ ap (λ (g : ℕ). g ∷ behind) open_gate, read, subst (λ (z : Store). AreRecords z cs next end) moved h))
 
-    pub refuses : (gate : ℕ) (behind : List ℕ) (c : Change) (next : List ℕ) (t : Store) (now : List Change) → Refuse s rest done → rest ≡ gate ∷ behind → gate ≡ 1 → record_at s behind ≡ Ok (c, next) → t ≡ after c s → now ≡ done ++ c ∷ []
+    pub refuses : (gate : ℕ) (behind : List ℕ) (c : Change) (next : List ℕ) (t : Store) (now : List Change) → Refuse s rest done → rest ≡ gate ∷ behind
+        → gate ≡ 1 → record_at s behind ≡ Ok (c, next) → t ≡ after c s → now ≡ done ++ c ∷ []
         → Refuse t next now
     refuses gate behind c next t now so_far is open_gate read moved more cs left h =
         subst (λ (l : List Change). IsRefused first l bytes left) (sym (ap (λ (l : List Change). l ++ cs) more ∙ append_assoc done (c ∷ []) cs))
@@ -55,6 +57,7 @@ module _ (first : Store) (bytes : List ℕ) where
     gate_fails (ends.Wrong left) so_far h = (done ++ [], so_far [] left (inl (no_byte rest left h)))
     gate_fails ends.NoMemory so_far h = tt
 
-    pub record_fails : (e : ReadEnd) (gate : ℕ) (behind : List ℕ) → Refuse s rest done → rest ≡ gate ∷ behind → gate ≡ 1 → Fails e (record_at s behind) → Refuses first bytes e
+    pub record_fails : (e : ReadEnd) (gate : ℕ) (behind : List ℕ) → Refuse s rest done → rest ≡ gate ∷ behind → gate ≡ 1 → Fails e (record_at s behind)
+        → Refuses first bytes e
     record_fails (ends.Wrong left) gate behind so_far is open_gate h = (done ++ [], so_far [] left (inr (behind, is ∙ ap (λ (g : ℕ). g ∷ behind) open_gate, h)))
     record_fails ends.NoMemory gate behind so_far is open_gate h = tt

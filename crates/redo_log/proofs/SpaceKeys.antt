@@ -34,9 +34,11 @@ module _ {K X : Type 0} (R : K → K → Ordering) (o : IsTotalOrder R) where
 
   -- a map that is made of entries in order has these entries
   pub entries-from_entries : (es : List (K × X)) → IsStrictlySortedBy R (keys_of es) → finite.entries (finite.from_entries {R = R} es) ≡ es
-  entries-from_entries [] s = no_entries (finite.entries (finite.empty {X = X} {R = R})) (sym (finite.len-entries (finite.empty {X = X} {R = R})) ∙ finite.len-empty R X)
+  entries-from_entries [] s =
+      no_entries (finite.entries (finite.empty {X = X} {R = R})) (sym (finite.len-entries (finite.empty {X = X} {R = R})) ∙ finite.len-empty R X)
   entries-from_entries (e ∷ es) s =
-      finite.entries-insert o (finite.from_entries es) e.0 e.1 ∙ (ap (put R e.0 e.1) (entries-from_entries es (rest_sorted R e.0 (keys_of es) s)) ∙ put_first e.0 e.1 es s)
+      finite.entries-insert o (finite.from_entries es) e.0 e.1
+      ∙ (ap (put R e.0 e.1) (entries-from_entries es (rest_sorted R e.0 (keys_of es) s)) ∙ put_first e.0 e.1 es s)
 
 by_first : (a b c d : Bool) → (a ≡ true → b ≡ true) → (c ≡ true → d ≡ true) → (a || c) ≡ true → (b || d) ≡ true
 by_first a true c d f g h = refl
@@ -50,7 +52,8 @@ weaker_any p q f (x ∷ xs) e = by_first (p x) (q x) (list_any p xs) (list_any q
 -- a document's space has a document's commit
 pub has_commit_of_space : (spaces : Spaces) (s : Space) → has_space spaces s ≡ true → has_commit spaces s.commit ≡ true
 has_commit_of_space spaces s e =
-    weaker_any (eq_by_cmp space_cmp s) (λ t. t.commit == s.commit) (λ t tied. eq-eqb _ _ (ap (λ (x : Space). x.commit) (sym (space_cmp-exact s t (equal (space_cmp s t) tied)))))
+    weaker_any (eq_by_cmp space_cmp s) (λ t. t.commit == s.commit)
+    (λ t tied. eq-eqb _ _ (ap (λ (x : Space). x.commit) (sym (space_cmp-exact s t (equal (space_cmp s t) tied)))))
     (finite.keys spaces) (sym (finite.contains_key-keys spaces s) ∙ e)
   where
     equal : (r : Ordering) → is_eq r ≡ true → r ≡ Equal

@@ -68,7 +68,12 @@ number_takes bytes n rest fits e =
     let n-is : from_be_bytes w64 (take 8 bytes) ≡ n = ap (λ (p : ℕ × List ℕ). p.0) g.1 in
     let rest-is : drop 8 bytes ≡ rest = ap (λ (p : ℕ × List ℕ). p.1) g.1 in
     let front : to_be_bytes w64 n ≡ take 8 bytes = be_bytes_8 (take 8 bytes) n (omega (arith, length-take 8 bytes)) (IsBytes-take 8 bytes fits) (sym n-is) in
-    record { parts = sym (take-append-drop 8 bytes) ∙ (ap (λ (l : List ℕ). l ++ drop 8 bytes) (sym front) ∙ ap (λ (l : List ℕ). to_be_bytes w64 n ++ l) rest-is); rest_fits = subst IsBytes rest-is (IsBytes-drop 8 bytes fits) }
+    record {
+      parts = sym (take-append-drop 8 bytes)
+          ∙ (ap (λ (l : List ℕ). l ++ drop 8 bytes) (sym front) ∙ ap (λ (l : List ℕ). to_be_bytes w64 n ++ l) rest-is);
+      rest_fits =
+          subst IsBytes rest-is (IsBytes-drop 8 bytes fits);
+    }
 
 pub byte_takes : (bytes : List ℕ) (b : ℕ) (rest : List ℕ) → IsBytes bytes → byte_at bytes ≡ Ok (b, rest) → Takes bytes (b ∷ []) rest
 byte_takes bytes b rest fits e = let is = byte_is bytes b rest e in record { parts = is; rest_fits = λ i. subst IsBytes is fits (suc i) }
@@ -79,7 +84,11 @@ bytes_take n bytes text rest fits e =
     let long : n ≤ length bytes = ltb-false _ _ g.0 in
     let text-is : take n bytes ≡ text = ap (λ (p : List ℕ × List ℕ). p.0) g.1 in
     let rest-is : drop n bytes ≡ rest = ap (λ (p : List ℕ × List ℕ). p.1) g.1 in (
-      record { parts = sym (take-append-drop n bytes) ∙ (ap (λ (l : List ℕ). l ++ drop n bytes) text-is ∙ ap (λ (l : List ℕ). text ++ l) rest-is); rest_fits = subst IsBytes rest-is (IsBytes-drop n bytes fits) },
+      record {
+        parts = sym (take-append-drop n bytes) ∙ (ap (λ (l : List ℕ). l ++ drop n bytes) text-is ∙ ap (λ (l : List ℕ). text ++ l) rest-is);
+        rest_fits =
+            subst IsBytes rest-is (IsBytes-drop n bytes fits);
+      },
       ap length (sym text-is) ∙ omega (arith, length-take n bytes),
     )
 
@@ -109,7 +118,8 @@ module _ (commit : ℕ) (s : Store) (name bytes : List ℕ) where
   abbrev pub entry_5 : ℕ × List ℕ → Result (DocEntry × List ℕ) ℕ
   entry_5 c = check (is_commit_of (entry_of name s.names) commit c.0) (length bytes) >>= λ came. entry_4 c
 
-  pub entry_takes : (x : DocEntry × List ℕ) → IsBytes bytes → entry_at commit s name bytes ≡ Ok x → Takes bytes (space_bytes x.0.space ++ form_byte x.0.clustered ∷ []) x.1
+  pub entry_takes : (x : DocEntry × List ℕ) → IsBytes bytes → entry_at commit s name bytes ≡ Ok x
+      → Takes bytes (space_bytes x.0.space ++ form_byte x.0.clustered ∷ []) x.1
   unfolding entry_at
   entry_takes x fits e =
       let c = bind_ok (number_at bytes) entry_5 x e in
@@ -117,7 +127,8 @@ module _ (commit : ℕ) (s : Store) (name bytes : List ℕ) where
       let o = bind_ok (number_at c.0.1) (entry_3 c.0) x came.2 in
       let own = bind_ok (check (is_space_of (entry_of name s.names) s.spaces (space_in c.0 o.0)) (length bytes)) (λ own. entry_2 c.0 o.0) x o.2 in
       let form = bind_ok (byte_at o.0.1) (entry_1 c.0 o.0) x own.2 in
-      let known = bind_ok (check (nat_lt form.0.0 2) (length o.0.1)) (λ known. Ok (record { space = space_in c.0 o.0; clustered = form.0.0 == 1 }, form.0.1)) x form.2 in
+      let known = bind_ok (check (nat_lt form.0.0 2) (length o.0.1))
+      (λ known. Ok (record { space = space_in c.0 o.0; clustered = form.0.0 == 1 }, form.0.1)) x form.2 in
       let t0 = number_takes bytes c.0.0 c.0.1 fits c.1 in
       let t1 = number_takes c.0.1 o.0.0 o.0.1 t0.rest_fits o.1 in
       let t2 = byte_takes o.0.1 form.0.0 form.0.1 t1.rest_fits form.1 in
@@ -125,18 +136,26 @@ module _ (commit : ℕ) (s : Store) (name bytes : List ℕ) where
       let all = takes-then bytes (number c.0.0 ++ number o.0.0) o.0.1 (form.0.0 ∷ []) form.0.1 spaced t2 in
       let made : DocEntry × List ℕ = (record { space = space_in c.0 o.0; clustered = form.0.0 == 1 }, form.0.1) in
       subst (λ (y : DocEntry × List ℕ). Takes bytes (space_bytes y.0.space ++ form_byte y.0.clustered ∷ []) y.1) (ok_is made x known.2)
-      (subst (λ (b : ℕ). Takes bytes ((number c.0.0 ++ number o.0.0) ++ b ∷ []) form.0.1) (sym (form_is form.0.0 (check_ok (nat_lt form.0.0 2) (length o.0.1) known.0 known.1))) all)
+      (subst (λ (b : ℕ). Takes bytes ((number c.0.0 ++ number o.0.0) ++ b ∷ []) form.0.1)
+      (sym (form_is form.0.0 (check_ok (nat_lt form.0.0 2) (length o.0.1) known.0 known.1))) all)
 
-entry_if_takes : (sets : Bool) (commit : ℕ) (s : Store) (name bytes : List ℕ) (x : Option DocEntry × List ℕ) → IsBytes bytes → entry_if sets commit s name bytes ≡ Ok x
+entry_if_takes : (sets : Bool) (commit : ℕ) (s : Store) (name bytes : List ℕ) (x : Option DocEntry × List ℕ) → IsBytes bytes
+    → entry_if sets commit s name bytes ≡ Ok x
     → (behind : List ℕ) × Takes bytes behind x.1 × (named_bytes name x.0 ≡ form_byte sets ∷ (name_bytes name ++ behind))
 entry_if_takes false commit s name bytes x fits e =
-    subst (λ (y : Option DocEntry × List ℕ). (behind : List ℕ) × Takes bytes behind y.1 × (named_bytes name y.0 ≡ 0 ∷ (name_bytes name ++ behind))) (ok_is (None, bytes) x e)
+    subst (λ (y : Option DocEntry × List ℕ). (behind : List ℕ) × Takes bytes behind y.1 × (named_bytes name y.0 ≡ 0 ∷ (name_bytes name ++ behind)))
+    (ok_is (None, bytes) x e)
     ([], record { parts = refl; rest_fits = fits }, ap (λ (l : List ℕ). 0 ∷ l) (sym (append-nil (name_bytes name))))
 entry_if_takes true commit s name bytes x fits e =
     let d = bind_ok (entry_at commit s name bytes) (λ (d : DocEntry × List ℕ). Ok (Some d.0, d.1)) x e in
     let t = entry_takes commit s name bytes d.0 fits d.1 in
-    subst (λ (y : Option DocEntry × List ℕ). (behind : List ℕ) × Takes bytes behind y.1 × (named_bytes name y.0 ≡ 1 ∷ (name_bytes name ++ behind))) (ok_is (Some d.0.0, d.0.1) x d.2)
-    (space_bytes d.0.0.space ++ form_byte d.0.0.clustered ∷ [], t, ap (λ (l : List ℕ). 1 ∷ l) (append_assoc (name_bytes name) (space_bytes d.0.0.space) (form_byte d.0.0.clustered ∷ [])))
+    subst (λ (y : Option DocEntry × List ℕ). (behind : List ℕ) × Takes bytes behind y.1 × (named_bytes name y.0 ≡ 1 ∷ (name_bytes name ++ behind)))
+    (ok_is (Some d.0.0, d.0.1) x d.2) (
+      space_bytes d.0.0.space ++ form_byte d.0.0.clustered ∷ [],
+      t,
+      ap (λ (l : List ℕ). 1 ∷ l)
+          (append_assoc (name_bytes name) (space_bytes d.0.0.space) (form_byte d.0.0.clustered ∷ [])),
+    )
 
 module _ (commit : ℕ) (before : List LogName) (s : Store) (bytes : List ℕ) where
   abbrev pub name_1 : ℕ × List ℕ → List ℕ × List ℕ → Option DocEntry × List ℕ → Result (LogName × List ℕ) ℕ
@@ -184,19 +203,29 @@ module _ (commit : ℕ) (before : List LogName) (s : Store) (bytes : List ℕ) w
       let all = takes-then bytes (kind.0.0 ∷ []) kind.0.1 (name_bytes name.0.0 ++ t3.0) entry.0.1 t0 behind in
       let made : LogName × List ℕ = (record { name = name.0.0; entry = entry.0.0 }, entry.0.1) in
       subst (λ (y : LogName × List ℕ). Takes bytes (name_change y.0) y.1) (ok_is made x entry.2)
-      (subst (λ (l : List ℕ). Takes bytes l entry.0.1) (ap (λ (k : ℕ). k ∷ (name_bytes name.0.0 ++ t3.0)) (sym (form_is kind.0.0 (check_ok (nat_lt kind.0.0 2) (length bytes) known.0 known.1))) ∙ sym t3.2) all)
+      (subst (λ (l : List ℕ). Takes bytes l entry.0.1)
+      (ap (λ (k : ℕ). k ∷ (name_bytes name.0.0 ++ t3.0)) (sym (form_is kind.0.0 (check_ok (nat_lt kind.0.0 2) (length bytes) known.0 known.1)))
+      ∙ sym t3.2) all)
 
-pub names_take : (commit n : ℕ) (done : List LogName) (s : Store) (bytes : List ℕ) (x : List LogName × List ℕ) → IsBytes bytes → names_at commit n done s bytes ≡ Ok x
+pub names_take : (commit n : ℕ) (done : List LogName) (s : Store) (bytes : List ℕ) (x : List LogName × List ℕ) → IsBytes bytes
+    → names_at commit n done s bytes ≡ Ok x
     → (more : List LogName) × (x.0 ≡ done ++ more) × (length more ≡ n) × Takes bytes (flat_map name_change more) x.1
 unfolding names_at
 names_take commit zero done s bytes x fits e =
-    subst (λ (y : List LogName × List ℕ). (more : List LogName) × (y.0 ≡ done ++ more) × (length more ≡ 0) × Takes bytes (flat_map name_change more) y.1) (ok_is (done, bytes) x e)
+    subst (λ (y : List LogName × List ℕ). (more : List LogName) × (y.0 ≡ done ++ more) × (length more ≡ 0) × Takes bytes (flat_map name_change more) y.1)
+    (ok_is (done, bytes) x e)
     ([], sym (append-nil done), refl, record { parts = refl; rest_fits = fits })
 names_take commit (suc n) done s bytes x fits e =
     let first = bind_ok (name_at commit done s bytes) (λ (f : LogName × List ℕ). names_at commit n (done ++ f.0 ∷ []) (after_name f.0 s) f.1) x e in
     let t = name_takes commit done s bytes first.0 fits first.1 in
-    let rest = names_take commit n (done ++ first.0.0 ∷ []) (after_name first.0.0 s) first.0.1 x t.rest_fits first.2 in
-    (first.0.0 ∷ rest.0, rest.1 ∙ append_assoc done (first.0.0 ∷ []) rest.0, ap suc rest.2, takes-then bytes (name_change first.0.0) first.0.1 (flat_map name_change rest.0) x.1 t rest.3)
+    let rest = names_take commit n (done ++ first.0.0 ∷ []) (after_name first.0.0 s) first.0.1 x t.rest_fits first.2 in (
+      first.0.0 ∷ rest.0,
+      rest.1
+          ∙ append_assoc done (first.0.0 ∷ []) rest.0,
+      ap suc rest.2,
+      takes-then bytes (name_change first.0.0) first.0.1
+          (flat_map name_change rest.0) x.1 t rest.3,
+    )
 
 -- ---- pages
 
@@ -238,9 +267,11 @@ module _ (last : Option PageChange) (spaces : Spaces) (bytes : List ℕ) where
       let all = takes-then bytes (number c.0.0 ++ number o.0.0) o.0.1 (number n.0.0) n.0.1 spaced t2 in
       subst (λ (y : PageId × List ℕ). Takes bytes (space_bytes y.0.space ++ number y.0.number) y.1) (ok_is (id_in c.0 o.0 n.0, n.0.1) x next.2) all
 
-image_takes : (there : Bool) (bytes : List ℕ) (x : Option (List ℕ) × List ℕ) → IsBytes bytes → image_if there bytes ≡ Ok x → (behind : List ℕ) × Takes bytes behind x.1 × (image_bytes x.0 ≡ form_byte there ∷ behind)
+image_takes : (there : Bool) (bytes : List ℕ) (x : Option (List ℕ) × List ℕ) → IsBytes bytes → image_if there bytes ≡ Ok x
+    → (behind : List ℕ) × Takes bytes behind x.1 × (image_bytes x.0 ≡ form_byte there ∷ behind)
 image_takes false bytes x fits e =
-    subst (λ (y : Option (List ℕ) × List ℕ). (behind : List ℕ) × Takes bytes behind y.1 × (image_bytes y.0 ≡ 0 ∷ behind)) (ok_is (None, bytes) x e) ([], record { parts = refl; rest_fits = fits }, refl)
+    subst (λ (y : Option (List ℕ) × List ℕ). (behind : List ℕ) × Takes bytes behind y.1 × (image_bytes y.0 ≡ 0 ∷ behind)) (ok_is (None, bytes) x e)
+    ([], record { parts = refl; rest_fits = fits }, refl)
 image_takes true bytes x fits e =
     let d = bind_ok (bytes_at 4096 bytes) (λ (d : List ℕ × List ℕ). Ok (Some d.0, d.1)) x e in
     subst (λ (y : Option (List ℕ) × List ℕ). (behind : List ℕ) × Takes bytes behind y.1 × (image_bytes y.0 ≡ 1 ∷ behind)) (ok_is (Some d.0.0, d.0.1) x d.2)
@@ -274,7 +305,9 @@ module _ (before : List PageChange) (s : Store) (bytes : List ℕ) where
       let t1 = byte_takes id.0.1 kind.0.0 kind.0.1 t0.rest_fits kind.1 in
       let t2 = image_takes (kind.0.0 == 1) kind.0.1 image.0 t1.rest_fits image.1 in
       let behind = takes-then id.0.1 (kind.0.0 ∷ []) kind.0.1 t2.0 image.0.1 t1 t2.1 in
-      let shown : Takes id.0.1 (image_bytes image.0.0) image.0.1 = subst (λ (l : List ℕ). Takes id.0.1 l image.0.1) (ap (λ (k : ℕ). k ∷ t2.0) (sym (form_is kind.0.0 (check_ok (nat_lt kind.0.0 2) (length id.0.1) known.0 known.1))) ∙ sym t2.2) behind in
+      let shown : Takes id.0.1 (image_bytes image.0.0) image.0.1 =
+      subst (λ (l : List ℕ). Takes id.0.1 l image.0.1)
+      (ap (λ (k : ℕ). k ∷ t2.0) (sym (form_is kind.0.0 (check_ok (nat_lt kind.0.0 2) (length id.0.1) known.0 known.1))) ∙ sym t2.2) behind in
       let all = takes-then bytes (space_bytes id.0.0.space ++ number id.0.0.number) id.0.1 (image_bytes image.0.0) image.0.1 t0 shown in
       let made : PageChange × List ℕ = (record { id = id.0.0; page = image.0.0 }, image.0.1) in
       subst (λ (y : PageChange × List ℕ). Takes bytes (page_change y.0) y.1) (ok_is made x image.2) all
@@ -283,13 +316,20 @@ pub pages_take : (n : ℕ) (done : List PageChange) (s : Store) (bytes : List �
     → (more : List PageChange) × (x.0 ≡ done ++ more) × (length more ≡ n) × Takes bytes (flat_map page_change more) x.1
 unfolding pages_at
 pages_take zero done s bytes x fits e =
-    subst (λ (y : List PageChange × List ℕ). (more : List PageChange) × (y.0 ≡ done ++ more) × (length more ≡ 0) × Takes bytes (flat_map page_change more) y.1) (ok_is (done, bytes) x e)
+    subst (λ (y : List PageChange × List ℕ). (more : List PageChange) × (y.0 ≡ done ++ more) × (length more ≡ 0) × Takes bytes (flat_map page_change more) y.1)
+    (ok_is (done, bytes) x e)
     ([], sym (append-nil done), refl, record { parts = refl; rest_fits = fits })
 pages_take (suc n) done s bytes x fits e =
     let first = bind_ok (page_at done s bytes) (λ (f : PageChange × List ℕ). pages_at n (done ++ f.0 ∷ []) s f.1) x e in
     let t = page_takes done s bytes first.0 fits first.1 in
-    let rest = pages_take n (done ++ first.0.0 ∷ []) s first.0.1 x t.rest_fits first.2 in
-    (first.0.0 ∷ rest.0, rest.1 ∙ append_assoc done (first.0.0 ∷ []) rest.0, ap suc rest.2, takes-then bytes (page_change first.0.0) first.0.1 (flat_map page_change rest.0) x.1 t rest.3)
+    let rest = pages_take n (done ++ first.0.0 ∷ []) s first.0.1 x t.rest_fits first.2 in (
+      first.0.0 ∷ rest.0,
+      rest.1
+          ∙ append_assoc done (first.0.0 ∷ []) rest.0,
+      ap suc rest.2,
+      takes-then bytes (page_change first.0.0) first.0.1
+          (flat_map page_change rest.0) x.1 t rest.3,
+    )
 
 -- ---- records
 
@@ -329,12 +369,16 @@ module _ (s : Store) (bytes : List ℕ) where
       let u1 = takes-then bytes (number commit.0.0) commit.0.1 (number named.0.0) named.0.1 t0 t1 in
       let u2 = takes-then bytes (number commit.0.0 ++ number named.0.0) named.0.1 (flat_map name_change t2.0) names.0.1 u1 t2.3 in
       let u3 = takes-then bytes ((number commit.0.0 ++ number named.0.0) ++ flat_map name_change t2.0) names.0.1 (number paged.0.0) paged.0.1 u2 t3 in
-      let u4 = takes-then bytes (((number commit.0.0 ++ number named.0.0) ++ flat_map name_change t2.0) ++ number paged.0.0) paged.0.1 (flat_map page_change t4.0) pages.0.1 u3 t4.3 in
+      let u4 = takes-then bytes (((number commit.0.0 ++ number named.0.0) ++ flat_map name_change t2.0) ++ number paged.0.0) paged.0.1
+      (flat_map page_change t4.0) pages.0.1 u3 t4.3 in
       let made : Change × List ℕ = (record { commit = commit.0.0; names = names.0.0; pages = pages.0.0 }, pages.0.1) in
       let counted : Takes bytes (body_of (record { commit = commit.0.0; names = t2.0; pages = t4.0 })) pages.0.1 =
-      subst (λ (z : ℕ × ℕ). Takes bytes ((((number commit.0.0 ++ number z.0) ++ flat_map name_change t2.0) ++ number z.1) ++ flat_map page_change t4.0) pages.0.1) (λ k. (sym t2.2 k, sym t4.2 k)) u4 in
+      subst (λ (z : ℕ × ℕ). Takes bytes
+      ((((number commit.0.0 ++ number z.0) ++ flat_map name_change t2.0) ++ number z.1) ++ flat_map page_change t4.0) pages.0.1)
+      (λ k. (sym t2.2 k, sym t4.2 k)) u4 in
       subst (λ (y : Change × List ℕ). Takes bytes (body_of y.0) y.1) (ok_is made x pages.2)
-      (subst (λ (z : List LogName × List PageChange). Takes bytes (body_of (record { commit = commit.0.0; names = z.0; pages = z.1 })) pages.0.1) (λ k. (sym t2.1 k, sym t4.1 k)) counted)
+      (subst (λ (z : List LogName × List PageChange). Takes bytes (body_of (record { commit = commit.0.0; names = z.0; pages = z.1 })) pages.0.1)
+      (λ k. (sym t2.1 k, sym t4.1 k)) counted)
 
 -- what is read is spelled so, and a gate stands behind it
 module _ (s : Store) (bytes : List ℕ) where
@@ -350,7 +394,8 @@ module _ (s : Store) (bytes : List ℕ) where
   abbrev pub record_4 : ℕ × List ℕ → Result (Change × List ℕ) ℕ
   record_4 long = body_at s long.1 >>= record_3 long
 
-  pub record_takes : (x : Change × List ℕ) → IsBytes bytes → record_at s bytes ≡ Ok x → Takes bytes (number (length (body_of x.0)) ++ body_of x.0) x.1 × (0 < length x.1)
+  pub record_takes : (x : Change × List ℕ) → IsBytes bytes → record_at s bytes ≡ Ok x
+      → Takes bytes (number (length (body_of x.0)) ++ body_of x.0) x.1 × (0 < length x.1)
   unfolding record_at
   record_takes x fits e =
       let long = bind_ok (number_at bytes) record_4 x e in
@@ -361,7 +406,8 @@ module _ (s : Store) (bytes : List ℕ) where
       let t0 = number_takes bytes long.0.0 long.0.1 fits long.1 in
       let t1 = body_takes s long.0.1 body.0 t0.rest_fits body.1 in
       let all = takes-then bytes (number long.0.0) long.0.1 (body_of body.0.0) body.0.1 t0 t1 in
-      let count : long.0.0 + length body.0.1 ≡ length long.0.1 = eqb-true _ _ (check_ok (long.0.0 + length body.0.1 == length long.0.1) (length bytes) exact.0 exact.1) in
+      let count : long.0.0 + length body.0.1 ≡ length long.0.1 =
+      eqb-true _ _ (check_ok (long.0.0 + length body.0.1 == length long.0.1) (length bytes) exact.0 exact.1) in
       let same : long.0.0 ≡ length (body_of body.0.0) = omega (arith, count, ap length t1.parts, length-append (body_of body.0.0) body.0.1) in
       subst (λ (y : Change × List ℕ). Takes bytes (number (length (body_of y.0)) ++ body_of y.0) y.1 × (0 < length y.1)) (ok_is body.0 x housed.2)
       (subst (λ (n : ℕ). Takes bytes (number n ++ body_of body.0.0) body.0.1) same all, ltb-true _ _ (check_ok (nat_lt 0 (length body.0.1)) 0 gate.0 gate.1))
@@ -373,11 +419,14 @@ records_take (c ∷ cs) s bytes end fits r =
     let behind = subst IsBytes r.2 fits in
     let t = record_takes s r.0 (c, r.1) (λ i. behind (suc i)) r.3 in
     let rest = records_take cs (after c s) r.1 end t.0.rest_fits r.4 in
-    r.2 ∙ (ap (λ (l : List ℕ). 1 ∷ l) (t.0.parts ∙ ap (λ (l : List ℕ). (number (length (body_of c)) ++ body_of c) ++ l) rest) ∙ sym (append_assoc (record_of c) (flat_map record_of cs) end))
+    r.2 ∙ (ap (λ (l : List ℕ). 1 ∷ l) (t.0.parts ∙ ap (λ (l : List ℕ). (number (length (body_of c)) ++ body_of c) ++ l) rest)
+    ∙ sym (append_assoc (record_of c) (flat_map record_of cs) end))
 
 -- how far the rest is
 pub rest_is : (bytes front rest : List ℕ) → bytes ≡ front ++ rest → drop (length bytes - length rest) bytes ≡ rest
-rest_is bytes front rest is = ap (drop (length bytes - length rest)) is ∙ drop_at front rest (length bytes - length rest) (omega (arith, ap length is, length-append front rest))
+rest_is bytes front rest is = ap (drop (length bytes - length rest)) is
+    ∙ drop_at front rest (length bytes - length rest) (omega (arith, ap length is, length-append front rest))
 
-pub record_spelled : (s : Store) (bytes : List ℕ) (c : Change) (rest : List ℕ) → IsBytes bytes → record_at s bytes ≡ Ok (c, rest) → 1 ∷ bytes ≡ record_of c ++ rest
+pub record_spelled : (s : Store) (bytes : List ℕ) (c : Change) (rest : List ℕ) → IsBytes bytes → record_at s bytes ≡ Ok (c, rest)
+    → 1 ∷ bytes ≡ record_of c ++ rest
 record_spelled s bytes c rest fits e = ap (λ (l : List ℕ). 1 ∷ l) (record_takes s bytes (c, rest) fits e).0.parts

@@ -34,7 +34,8 @@ AtAnyMoment end body c old i = gate.AtAnyMoment end.file end.at (tail_of body) c
 abbrev pub IsInDoubt : LogEnd → List ℕ → (Image → Type 0) → Type 0
 IsInDoubt end body images = gate.IsInDoubt end.file end.at (tail_of body) images
 
--- After a settling each image has the file as it is read, with the record; the answer is whether its gate is 1, and the log's gate is the next one or the old one.
+-- After a settling each image has the file as it is read, with the record; the answer is whether its gate is 1, and the
+-- log's gate is the next one or the old one.
 pub record Settles (end new : LogEnd) (body : List ℕ) (c : Image) (images : Image → Type 0) (stands : Bool) : Type 0 where
   pub synced : FileIs end.file (bytes_of c end.file) images
   pub whole : HasBody end body c c

@@ -213,13 +213,15 @@ abbrev pub names_length : List LogName → ℕ
 names_length [] = 0
 names_length (n ∷ ns) = length (name_change n) + names_length ns
 
--- Each document has its page 0 after these changes, whose body begins where so many bytes are left; the pages are those that are there after the changes of names.
+-- Each document has its page 0 after these changes, whose body begins where so many bytes are left; the pages are those
+-- that are there after the changes of names.
 abbrev pub all_housed : Change → PageIds → ℕ → Result (Unit {0}) ℕ
 all_housed c pages left = do
   named ← names_housed (with_images no_image c.pages pages) c.names (left - 16)
   pages_housed c.pages (left - 24 - names_length c.names)
 
--- A record, from its length on: the length, the body, the next gate. First the fields in their order, the next gate among them; then whether the length is the body's; then the documents without page 0.
+-- A record, from its length on: the length, the body, the next gate. First the fields in their order, the next gate among
+-- them; then whether the length is the body's; then the documents without page 0.
 unfoldable pub record_at : Store → List ℕ → Result (Change × List ℕ) ℕ
 record_at s bytes = do
   long ← number_at bytes
@@ -236,7 +238,8 @@ IsClosed (gate ∷ rest) = gate ≡ 1 → ⊥
 
 abbrev pub AreRecords : Store → List Change → List ℕ → List ℕ → Type 0
 AreRecords s [] bytes end = (bytes ≡ end) × IsClosed end
-AreRecords s (c ∷ cs) bytes end = (rest : List ℕ) × (next : List ℕ) × (bytes ≡ 1 ∷ rest) × (record_at s rest ≡ Ok (c, next)) × AreRecords (after c s) cs next end
+AreRecords s (c ∷ cs) bytes end =
+    (rest : List ℕ) × (next : List ℕ) × (bytes ≡ 1 ∷ rest) × (record_at s rest ≡ Ok (c, next)) × AreRecords (after c s) cs next end
 
 -- Behind these records a gate is past the end of the file, or is open and its record has a wrong field.
 abbrev pub IsWrong : Store → List ℕ → ℕ → Type 0
@@ -244,4 +247,5 @@ IsWrong s bytes left = ((bytes ≡ []) × (left ≡ 0)) ⊎ ((rest : List ℕ) �
 
 abbrev pub IsRefused : Store → List Change → List ℕ → ℕ → Type 0
 IsRefused s [] bytes left = IsWrong s bytes left
-IsRefused s (c ∷ cs) bytes left = (rest : List ℕ) × (next : List ℕ) × (bytes ≡ 1 ∷ rest) × (record_at s rest ≡ Ok (c, next)) × IsRefused (after c s) cs next left
+IsRefused s (c ∷ cs) bytes left =
+    (rest : List ℕ) × (next : List ℕ) × (bytes ≡ 1 ∷ rest) × (record_at s rest ≡ Ok (c, next)) × IsRefused (after c s) cs next left

@@ -16,7 +16,8 @@ use Rattle.redo_log.specs.Reading.{last_in, is_name, is_next_name, is_commit_of,
 abbrev pub IsEntryTaken : ℕ → Store → List ℕ → Option DocEntry → Type 0
 IsEntryTaken commit s name None = IsTrue (is_some (entry_of name s.names))
 IsEntryTaken commit s name (Some e) =
-    (e.space.commit < 2 ^ 64) × (e.space.ordinal < 2 ^ 64) × IsTrue (is_commit_of (entry_of name s.names) commit e.space.commit) × IsTrue (is_space_of (entry_of name s.names) s.spaces e.space)
+    (e.space.commit < 2 ^ 64) × (e.space.ordinal < 2 ^ 64) × IsTrue (is_commit_of (entry_of name s.names) commit e.space.commit)
+    × IsTrue (is_space_of (entry_of name s.names) s.spaces e.space)
 
 pub record IsNameTaken (commit : ℕ) (done : List LogName) (s : Store) (n : LogName) : Type 0 where
   pub name : IsTrue (is_name n.name)

@@ -38,4 +38,3 @@ pub use fields::{byte_at, bytes_at, check, number_at};
 pub use laws::{record_laws, scan_laws};
 pub use names::{is_name, text_of};
 pub use scanning::{LogBase, ScanEnd, Scanned, scan};
-

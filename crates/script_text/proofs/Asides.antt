@@ -19,7 +19,8 @@ use Rattle.script_text.proofs.ScriptLines.{text_is_text}
 abbrev pub at : ℕ → Reading → Reading
 at n r = record r { lines = n }
 
-pub step_ok : (s : ℕ) (line : Line) (behind : List Line) (r q : Reading) → read_line s line behind (at (next_line r.lines) r) ≡ Ok q → after s (line ∷ behind) r ≡ after s behind q
+pub step_ok : (s : ℕ) (line : Line) (behind : List Line) (r q : Reading) → read_line s line behind (at (next_line r.lines) r) ≡ Ok q
+    → after s (line ∷ behind) r ≡ after s behind q
 step_ok s line behind r q e = ap (λ x. at_line (next_line r.lines) x >>= after s behind) e
 
 ascii_nil : IsAscii []
@@ -35,13 +36,16 @@ dot_text = text_is_text (codes ".") (IsUtf8-from_ascii (codes ".") (ascii_cons 4
 pub session_text : is_text (codes "SESSION") ≡ true
 session_text =
     text_is_text (codes "SESSION") (IsUtf8-from_ascii (codes "SESSION")
-    (ascii_cons 83 (codes "ESSION") (lit< tt) (ascii_cons 69 (codes "SSION") (lit< tt) (ascii_cons 83 (codes "SION") (lit< tt) (ascii_cons 83 (codes "ION") (lit< tt)
+    (ascii_cons 83 (codes "ESSION") (lit< tt)
+    (ascii_cons 69 (codes "SSION") (lit< tt) (ascii_cons 83 (codes "SION") (lit< tt) (ascii_cons 83 (codes "ION") (lit< tt)
     (ascii_cons 73 (codes "ON") (lit< tt) (ascii_cons 79 (codes "N") (lit< tt) (ascii_cons 78 [] (lit< tt) ascii_nil))))))))
 
 pub order_utf8 : IsUtf8 (codes "ORDER")
 order_utf8 =
     IsUtf8-from_ascii (codes "ORDER")
-    (ascii_cons 79 (codes "RDER") (lit< tt) (ascii_cons 82 (codes "DER") (lit< tt) (ascii_cons 68 (codes "ER") (lit< tt) (ascii_cons 69 (codes "R") (lit< tt) (ascii_cons 82 [] (lit< tt) ascii_nil)))))
+    (ascii_cons 79 (codes "RDER") (lit< tt)
+    (ascii_cons 82 (codes "DER") (lit< tt)
+    (ascii_cons 68 (codes "ER") (lit< tt) (ascii_cons 69 (codes "R") (lit< tt) (ascii_cons 82 [] (lit< tt) ascii_nil)))))
 
 pub spaced_utf8 : (most : ℕ) (ns : List ℕ) → most < 2 ^ 64 → AreNumbers most ns → IsUtf8 (spaced ns)
 spaced_utf8 most [] small ok = IsUtf8-nil
@@ -51,7 +55,8 @@ spaced_utf8 most (n ∷ ns) small ok =
     (IsUtf8-append (decimal n) (spaced ns) (IsUtf8-from_ascii (decimal n) (IsAscii-decimal n few)) (spaced_utf8 most ns small ok.2))
 
 -- a line of this kind
-pub by_kind : (s : ℕ) (kind : LineKind) (line : Line) (behind : List Line) (r q : Reading) → kind_of line ≡ kind → is_text line ≡ true → r.in_load ≡ false → read_kind s kind line behind r ≡ Ok q
+pub by_kind : (s : ℕ) (kind : LineKind) (line : Line) (behind : List Line) (r q : Reading) → kind_of line ≡ kind → is_text line ≡ true → r.in_load ≡ false
+    → read_kind s kind line behind r ≡ Ok q
     → read_line s line behind r ≡ Ok q
 by_kind s kind line behind r q is text outside e =
     ap (λ t. if t then (if r.in_load then Ok (loaded line r) else read_kind s (kind_of line) line behind r) else Err NotUtf8) text
@@ -69,7 +74,8 @@ words_spaced most n (k ∷ ns) small within ok =
 numbers_spaced : (most : ℕ) (ns : List ℕ) → most < 2 ^ 64 → AreNumbers most ns → numbers most (map decimal ns) ≡ Some ns
 numbers_spaced most [] small ok = refl
 numbers_spaced most (n ∷ ns) small ok =
-    ap (λ o. both o (numbers most (map decimal ns))) (named_found most n (decimal n) small refl ok.0 ok.1) ∙ ap (both (Some n)) (numbers_spaced most ns small ok.2)
+    ap (λ o. both o (numbers most (map decimal ns))) (named_found most n (decimal n) small refl ok.0 ok.1)
+    ∙ ap (both (Some n)) (numbers_spaced most ns small ok.2)
 
 -- ---- lines beside the calls
 
@@ -85,10 +91,12 @@ order_line : (s : ℕ) (n : ℕ) (ns : List ℕ) (behind : List Line) (b : Readi
     → after s (line_of_aside (ordered (n ∷ ns)) ∷ behind) (at m b) ≡ after s behind (at (next_line m) (plus (n ∷ ns) b))
 order_line s n ns behind b m small ok outside =
     let line : Line = codes "ORDER" ++ spaced (n ∷ ns) in
-    let given : numbers s (split_words (behind_space line)) ≡ Some (n ∷ ns) = ap (numbers s) (words_spaced s n ns small ok.1 ok.2) ∙ numbers_spaced s (n ∷ ns) small ok in
+    let given : numbers s (split_words (behind_space line)) ≡ Some (n ∷ ns) = ap (numbers s) (words_spaced s n ns small ok.1 ok.2)
+    ∙ numbers_spaced s (n ∷ ns) small ok in
     let text : is_text line ≡ true = text_is_text line (IsUtf8-append (codes "ORDER") (spaced (n ∷ ns)) order_utf8 (spaced_utf8 s (n ∷ ns) small ok)) in
     step_ok s line behind (at m b) (at (next_line m) (plus (n ∷ ns) b))
-    (by_kind s Order line behind (at (next_line m) b) (at (next_line m) (plus (n ∷ ns) b)) refl text outside (ap (λ o. with_numbers o (at (next_line m) b)) given))
+    (by_kind s Order line behind (at (next_line m) b) (at (next_line m) (plus (n ∷ ns) b)) refl text outside
+    (ap (λ o. with_numbers o (at (next_line m) b)) given))
 
 aside_line : (s : ℕ) (a : Aside) (behind : List Line) (b : Reading) (m : ℕ) → s < 2 ^ 64 → IsAside s a → b.in_load ≡ false
     → after s (line_of_aside a ∷ behind) (at m b) ≡ after s behind (at (next_line m) (plus (numbers_of a) b))
@@ -102,9 +110,11 @@ aside_line s (ordered (n ∷ ns)) behind b m small ok outside = order_line s n n
 -- Lines that are no call leave all but the order and the number of lines.
 pub asides_read : (s : ℕ) (behind : List Line) (asides : List Aside) (b : Reading) (m : ℕ) → s < 2 ^ 64 → AreAsides s asides → b.in_load ≡ false
     → (n : ℕ) × (after s (lines_of_asides asides ++ behind) (at m b) ≡ after s behind (at n (plus (order_of asides) b)))
-asides_read s behind [] b m small ok outside = (m, ap (λ o. after s behind (let made : Reading = record b { order = o; lines = m } in made)) (sym (append-nil b.order)))
+asides_read s behind [] b m small ok outside =
+    (m, ap (λ o. after s behind (let made : Reading = record b { order = o; lines = m } in made)) (sym (append-nil b.order)))
 asides_read s behind (a ∷ asides) b m small ok outside =
     let rest = asides_read s behind asides (plus (numbers_of a) b) (next_line m) small ok.1 outside in (
       rest.0,
-      aside_line s a (lines_of_asides asides ++ behind) b m small ok.0 outside ∙ (rest.1 ∙ ap (λ r. after s behind (at rest.0 r)) (plus_plus (numbers_of a) (order_of asides) b)),
+      aside_line s a (lines_of_asides asides ++ behind) b m small ok.0 outside
+          ∙ (rest.1 ∙ ap (λ r. after s behind (at rest.0 r)) (plus_plus (numbers_of a) (order_of asides) b)),
     )

@@ -90,9 +90,11 @@ pub sessions_fit : (s : ℕ) → s < 2 ^ 32 → s < 2 ^ 64
 sessions_fit s small = omega arith
 
 -- a line begins in one way
-pub line_once : (s t : ℕ) (a b : Row) (x y : List ℕ) → IsSession s → IsSession t → line_of s (row_word a ++ x) ≡ line_of t (row_word b ++ y) → (s ≡ t) × (a ≡ b) × (x ≡ y)
+pub line_once : (s t : ℕ) (a b : Row) (x y : List ℕ) → IsSession s → IsSession t → line_of s (row_word a ++ x) ≡ line_of t (row_word b ++ y)
+    → (s ≡ t) × (a ≡ b) × (x ≡ y)
 line_once s t a b x y p q e =
-    let parts = cut_once (decimal s) (decimal t) (row_word a ++ x) (row_word b ++ y) (has_space-decimal s (sessions_fit s p)) (has_space-decimal t (sessions_fit t q)) e in
+    let parts = cut_once (decimal s) (decimal t) (row_word a ++ x) (row_word b ++ y) (has_space-decimal s (sessions_fit s p))
+    (has_space-decimal t (sessions_fit t q)) e in
     let row = row_once a b x y parts.1 in
     (decimal_injective s t (sessions_fit s p) (sessions_fit t q) parts.0, row.0, row.1)
 
@@ -101,7 +103,8 @@ line_once s t a b x y p q e =
 pub line_open : (line : Line) (more : List Line) (rest : List ℕ) → text_of (line ∷ more) ++ rest ≡ line ++ 10 ∷ (text_of more ++ rest)
 line_open line more rest = append_assoc line (10 ∷ text_of more) rest
 
-pub lines_once : (ls ms : List Line) (x y : List ℕ) → AreLines ls → AreLines ms → length ls ≡ length ms → text_of ls ++ x ≡ text_of ms ++ y → (ls ≡ ms) × (x ≡ y)
+pub lines_once : (ls ms : List Line) (x y : List ℕ) → AreLines ls → AreLines ms → length ls ≡ length ms → text_of ls ++ x ≡ text_of ms ++ y
+    → (ls ≡ ms) × (x ≡ y)
 lines_once [] [] x y p q same e = (refl, e)
 lines_once [] (b ∷ ms) x y p q same e = absurd (omega arith)
 lines_once (a ∷ ls) [] x y p q same e = absurd (omega arith)
@@ -131,7 +134,8 @@ lines_more [] line p q = (q, tt)
 lines_more (l ∷ ls) line p q = (p.0, lines_more ls line p.1 q)
 
 -- one line more
-pub line_read : (count : ℕ) (ls : List Line) (line : Line) (rest more whole : List ℕ) → LinesSoFar count ls rest whole → IsCutLine rest line more → IsUtf8 line → LinesSoFar (count + 1) (ls ++ line ∷ []) more whole
+pub line_read : (count : ℕ) (ls : List Line) (line : Line) (rest more whole : List ℕ) → LinesSoFar count ls rest whole → IsCutLine rest line more → IsUtf8 line
+    → LinesSoFar (count + 1) (ls ++ line ∷ []) more whole
 line_read count ls line rest more whole so cut utf8 = record {
   length_is = length-append ls (line ∷ []) ∙ ap (λ n. n + 1) so.length_is;
   are = lines_more ls line so.are (utf8, cut.plain);
@@ -156,7 +160,8 @@ no_lines_one made other a b x y none empty same p q e =
     let right : text_of (lines_behind b) ++ y ≡ y = ap (λ v. text_of (lines_behind v) ++ y) q ∙ ap (λ l. text_of l ++ y) empty in
     (p ∙ (same ∙ sym q), sym left ∙ (e ∙ right))
 
-whole_one : (made a b : Event) (rest x y : List ℕ) → lines_behind made ≡ [] → IsWhole rest made a → IsWhole rest made b → text_of (lines_behind a) ++ x ≡ text_of (lines_behind b) ++ y → (a ≡ b) × (x ≡ y)
+whole_one : (made a b : Event) (rest x y : List ℕ) → lines_behind made ≡ [] → IsWhole rest made a → IsWhole rest made b
+    → text_of (lines_behind a) ++ x ≡ text_of (lines_behind b) ++ y → (a ≡ b) × (x ≡ y)
 whole_one made a b rest x y none p q e = no_lines_one made made a b x y none none refl p.1 q.1 e
 
 numbered_one : (made : ℕ → Event) (a b : Event) (rest x y : List ℕ) → ((n : ℕ) → lines_behind (made n) ≡ []) → IsNumbered rest made a → IsNumbered rest made b
@@ -183,7 +188,8 @@ lines_of_answer : (s : ℕ) (all : List Line) (e : Event) (x : List ℕ) → e �
 lines_of_answer s all e x p = ap (λ v. text_of (lines_behind v) ++ x) p
 
 -- what a row tells is one event
-pub row_one : (row : Row) (s : ℕ) (rest : List ℕ) (a b : Event) (x y : List ℕ) → IsRow row s rest a → IsRow row s rest b → text_of (lines_behind a) ++ x ≡ text_of (lines_behind b) ++ y → (a ≡ b) × (x ≡ y)
+pub row_one : (row : Row) (s : ℕ) (rest : List ℕ) (a b : Event) (x y : List ℕ) → IsRow row s rest a → IsRow row s rest b
+    → text_of (lines_behind a) ++ x ≡ text_of (lines_behind b) ++ y → (a ≡ b) × (x ≡ y)
 row_one rows.BeganUpdate s rest a b x y p q e = whole_one (Began s Updating) a b rest x y refl p q e
 row_one rows.BeganRead s rest a b x y p q e = numbered_one (λ n. Began s (Reading n)) a b rest x y (λ n. refl) p q e
 row_one rows.Granted s rest a b x y p q e =
@@ -193,7 +199,8 @@ row_one rows.Refused s rest a b x y p q e =
     let parts = quoted_one p.0 q.0 (codes " by " ++ decimal p.1) (codes " by " ++ decimal q.1) refl refl (p.4 ∙ sym q.4) in
     let digits : decimal p.1 ≡ decimal q.1 = append_cancel_left (codes " by ") (decimal p.1) (decimal q.1) parts.1 in
     let holder = decimal_injective p.1 q.1 (sessions_fit p.1 p.3) (sessions_fit q.1 q.3) digits in
-    no_lines_one (Refused s p.0 p.1 []) (Refused s q.0 q.1 []) a b x y refl refl (ap (λ n. Refused s n p.1 []) parts.0 ∙ ap (λ h. Refused s q.0 h []) holder) p.5 q.5 e
+    no_lines_one (Refused s p.0 p.1 []) (Refused s q.0 q.1 []) a b x y refl refl (ap (λ n. Refused s n p.1 []) parts.0
+    ∙ ap (λ h. Refused s q.0 h []) holder) p.5 q.5 e
 row_one rows.Done s rest a b x y p q e = whole_one (answer_event s says.Done) a b rest x y refl p q e
 row_one rows.Answer s rest a b x y p q e =
     let count : length p.0 ≡ length q.0 = decimal_injective (length p.0) (length q.0) p.2 q.2 (p.3 ∙ sym q.3) in
@@ -207,7 +214,8 @@ row_one rows.Ended s rest a b x y p q e = whole_one (Ended s) a b rest x y refl 
 row_one rows.RolledBack s rest a b x y p q e = whole_one (RolledBack s) a b rest x y refl p q e
 row_one rows.Doubt s rest a b x y p q e = numbered_one (λ n. Doubt s n no_mark) a b rest x y (λ n. refl) p q e
 row_one rows.Settled s rest a b x y p q e =
-    let parts = cut_once (decimal p.0) (decimal q.0) (stands_text p.1) (stands_text q.1) (has_space-decimal p.0 (sessions_fit p.0 p.2)) (has_space-decimal q.0 (sessions_fit q.0 q.2)) (p.3 ∙ sym q.3) in
+    let parts = cut_once (decimal p.0) (decimal q.0) (stands_text p.1) (stands_text q.1) (has_space-decimal p.0 (sessions_fit p.0 p.2))
+    (has_space-decimal q.0 (sessions_fit q.0 q.2)) (p.3 ∙ sym q.3) in
     let other = decimal_injective p.0 q.0 (sessions_fit p.0 p.2) (sessions_fit q.0 q.2) parts.0 in
     let stands = stands_once p.1 q.1 parts.1 in
     no_lines_one (Settled s p.0 p.1) (Settled s q.0 q.1) a b x y refl refl (ap (λ n. Settled s n p.1) other ∙ ap (λ t. Settled s q.0 t) stands) p.4 q.4 e
@@ -253,7 +261,8 @@ nothing : IsOneLine []
 nothing = one_line_simple [] refl
 
 answer_row : (s : ℕ) (call : Option Call) (what : Says) → IsSession s → IsAnswer what → HasRow (Answered s (record { call = call; says = what }))
-answer_row s call says.Done small is = record { row = rows.Done; session = s; rest = []; small = small; lines = refl; is = (refl, refl); one_line = nothing; behind = tt }
+answer_row s call says.Done small is =
+    record { row = rows.Done; session = s; rest = []; small = small; lines = refl; is = (refl, refl); one_line = nothing; behind = tt }
 answer_row s call (says.Lines all) small is = record {
   row = rows.Answer;
   session = s;
@@ -277,8 +286,20 @@ answer_row s call (says.Error code) small is = record {
 answer_row s call _ small is = absurd is
 
 pub printed_row : (e : Event) → IsPrinted e → HasRow e
-printed_row (Began s Updating) p = record { row = rows.BeganUpdate; session = s; rest = []; small = p.0; lines = refl; is = (refl, refl); one_line = nothing; behind = tt }
-printed_row (Began s (Reading n)) p = record { row = rows.BeganRead; session = s; rest = decimal n; small = p.0; lines = refl; is = (n, p.1, refl, refl); one_line = one_line_decimal n p.1; behind = tt }
+printed_row (Began s Updating) p =
+    record { row = rows.BeganUpdate; session = s; rest = []; small = p.0; lines = refl; is = (refl, refl); one_line = nothing; behind = tt }
+printed_row (Began s (Reading n)) p =
+    record {
+      row = rows.BeganRead;
+      session = s;
+      rest = decimal n;
+      small = p.0;
+      lines = refl;
+      is = (n, p.1, refl, refl);
+      one_line =
+          one_line_decimal n p.1;
+      behind = tt;
+    }
 printed_row (Granted s needs) p = record {
   row = rows.Granted;
   session = s;
@@ -301,10 +322,33 @@ printed_row (Refused s name holder needs) p = record {
   behind = tt;
 }
 printed_row (Answered s reply) p = answer_row s reply.call reply.says p.0 p.1
-printed_row (Committed s n) p = record { row = rows.Committed; session = s; rest = decimal n; small = p.0; lines = refl; is = (n, p.1, refl, refl); one_line = one_line_decimal n p.1; behind = tt }
+printed_row (Committed s n) p =
+    record {
+      row = rows.Committed;
+      session = s;
+      rest = decimal n;
+      small = p.0;
+      lines = refl;
+      is = (n, p.1, refl, refl);
+      one_line =
+          one_line_decimal n p.1;
+      behind = tt;
+    }
 printed_row (Ended s) p = record { row = rows.Ended; session = s; rest = []; small = p; lines = refl; is = (refl, refl); one_line = nothing; behind = tt }
-printed_row (RolledBack s) p = record { row = rows.RolledBack; session = s; rest = []; small = p; lines = refl; is = (refl, refl); one_line = nothing; behind = tt }
-printed_row (Doubt s n mark) p = record { row = rows.Doubt; session = s; rest = decimal n; small = p.0; lines = refl; is = (n, p.1, refl, refl); one_line = one_line_decimal n p.1; behind = tt }
+printed_row (RolledBack s) p =
+    record { row = rows.RolledBack; session = s; rest = []; small = p; lines = refl; is = (refl, refl); one_line = nothing; behind = tt }
+printed_row (Doubt s n mark) p =
+    record {
+      row = rows.Doubt;
+      session = s;
+      rest = decimal n;
+      small = p.0;
+      lines = refl;
+      is = (n, p.1, refl, refl);
+      one_line = one_line_decimal n p.1;
+      behind =
+          tt;
+    }
 printed_row (Settled by s stands) p = record {
   row = rows.Settled;
   session = by;
@@ -373,25 +417,38 @@ unmarked_event : (s : ℕ) (code : Code) → HasNoMark code → told (answer_eve
 unmarked_event s code h = ap (λ c. answer_event s (says.Error c)) (unmarked code h)
 
 pub row_read : (row : Row) (s : ℕ) (rest : List ℕ) (e : Event) → IsSession s → IsPlain rest → IsRow row s rest e → IsReadAs row s rest e
-row_read rows.BeganUpdate s rest e small plain is = whole_read rows.BeganUpdate s rest (Began s Updating) e is (record { printed = (small, tt); same = refl; lines = refl })
-row_read rows.BeganRead s rest e small plain is = as_read rows.BeganRead s rest (decimal is.0) (Began s (Reading is.0)) e is.2 is.3 (record { printed = (small, is.1); same = refl; lines = refl })
+row_read rows.BeganUpdate s rest e small plain is =
+    whole_read rows.BeganUpdate s rest (Began s Updating) e is (record { printed = (small, tt); same = refl; lines = refl })
+row_read rows.BeganRead s rest e small plain is =
+    as_read rows.BeganRead s rest (decimal is.0) (Began s (Reading is.0)) e is.2 is.3 (record { printed = (small, is.1); same = refl; lines = refl })
 row_read rows.Granted s rest e small plain is =
     as_read rows.Granted s rest (needs_text is.0) (Granted s is.0) e is.3 is.4
     (record { printed = (small, is.1, names_of_text is.0 is.2 (subst IsPlain (sym is.3) plain)); same = refl; lines = refl })
 row_read rows.Refused s rest e small plain is =
     as_read rows.Refused s rest (quoted is.0 ++ (codes " by " ++ decimal is.1)) (Refused s is.0 is.1 []) e is.4 is.5
-    (record { printed = (small, (is.2, quoted_is_plain is.0 (codes " by " ++ decimal is.1) (subst IsPlain (sym is.4) plain)), is.3); same = refl; lines = refl })
-row_read rows.Done s rest e small plain is = whole_read rows.Done s rest (answer_event s says.Done) e is (record { printed = (small, tt); same = refl; lines = refl })
+    (record {
+      printed = (small, (is.2, quoted_is_plain is.0 (codes " by " ++ decimal is.1) (subst IsPlain (sym is.4) plain)), is.3);
+      same = refl;
+      lines =
+          refl;
+    })
+row_read rows.Done s rest e small plain is =
+    whole_read rows.Done s rest (answer_event s says.Done) e is (record { printed = (small, tt); same = refl; lines = refl })
 row_read rows.Answer s rest e small plain is =
-    as_read rows.Answer s rest (decimal (length is.0)) (answer_event s (says.Lines is.0)) e is.3 is.4 (record { printed = (small, (is.1, is.2)); same = refl; lines = refl })
+    as_read rows.Answer s rest (decimal (length is.0)) (answer_event s (says.Lines is.0)) e is.3 is.4
+    (record { printed = (small, (is.1, is.2)); same = refl; lines = refl })
 row_read rows.Error s rest e small plain is =
-    as_read rows.Error s rest (code_text is.0) (answer_event s (says.Error is.0)) e is.3 is.4 (record { printed = (small, is.1); same = unmarked_event s is.0 is.2; lines = refl })
-row_read rows.Committed s rest e small plain is = as_read rows.Committed s rest (decimal is.0) (Committed s is.0) e is.2 is.3 (record { printed = (small, is.1); same = refl; lines = refl })
+    as_read rows.Error s rest (code_text is.0) (answer_event s (says.Error is.0)) e is.3 is.4
+    (record { printed = (small, is.1); same = unmarked_event s is.0 is.2; lines = refl })
+row_read rows.Committed s rest e small plain is =
+    as_read rows.Committed s rest (decimal is.0) (Committed s is.0) e is.2 is.3 (record { printed = (small, is.1); same = refl; lines = refl })
 row_read rows.Ended s rest e small plain is = whole_read rows.Ended s rest (Ended s) e is (record { printed = small; same = refl; lines = refl })
 row_read rows.RolledBack s rest e small plain is = whole_read rows.RolledBack s rest (RolledBack s) e is (record { printed = small; same = refl; lines = refl })
-row_read rows.Doubt s rest e small plain is = as_read rows.Doubt s rest (decimal is.0) (Doubt s is.0 no_mark) e is.2 is.3 (record { printed = (small, is.1); same = refl; lines = refl })
+row_read rows.Doubt s rest e small plain is =
+    as_read rows.Doubt s rest (decimal is.0) (Doubt s is.0 no_mark) e is.2 is.3 (record { printed = (small, is.1); same = refl; lines = refl })
 row_read rows.Settled s rest e small plain is =
-    as_read rows.Settled s rest (decimal is.0 ++ (codes " " ++ stands_text is.1)) (Settled s is.0 is.1) e is.3 is.4 (record { printed = (small, is.2); same = refl; lines = refl })
+    as_read rows.Settled s rest (decimal is.0 ++ (codes " " ++ stands_text is.1)) (Settled s is.0 is.1) e is.3 is.4
+    (record { printed = (small, is.2); same = refl; lines = refl })
 row_read rows.Left s rest e small plain is = whole_read rows.Left s rest (Left s) e is (record { printed = small; same = refl; lines = refl })
 
 -- ---- texts that no row tells
@@ -402,7 +459,8 @@ answer_missing s count digits behind small is none e more row same =
     let count_is : length row.0 ≡ count = decimal_injective (length row.0) count row.2 small (row.3 ∙ sym is) in
     none row.0 more count_is row.1 (sym (lines_of_answer s row.0 e more row.4) ∙ same)
 
-pub holder_missing : (s : ℕ) (name rest whole : List ℕ) → quoted name ++ rest ≡ whole → begins_quoted rest ≡ false → ((digits : List ℕ) → rest ≢ codes " by " ++ digits)
+pub holder_missing : (s : ℕ) (name rest whole : List ℕ) → quoted name ++ rest ≡ whole → begins_quoted rest ≡ false
+    → ((digits : List ℕ) → rest ≢ codes " by " ++ digits)
     → (e : Event) → IsRow rows.Refused s whole e → ⊥
 holder_missing s name rest whole is other none e row =
     let parts = quoted_one row.0 name (codes " by " ++ decimal row.1) rest refl other (row.4 ∙ sym is) in

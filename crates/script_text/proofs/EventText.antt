@@ -71,7 +71,8 @@ pub needs_parts : (xs ns : List Need) (first : Need) → xs ≡ ns → 1 ≤ len
     → need_text first ++ others_text (take (length xs - 1) (drop 1 xs)) ≡ needs_text ns
 needs_parts [] ns first same some at = absurd (omega arith)
 needs_parts (x ∷ xs) ns first same some at =
-    ap (λ l. need_text first ++ others_text l) (tail_all x xs) ∙ (ap (λ m. need_text m ++ others_text xs) at ∙ (sym (needs_text-cons x xs) ∙ ap needs_text same))
+    ap (λ l. need_text first ++ others_text l) (tail_all x xs)
+    ∙ (ap (λ m. need_text m ++ others_text xs) at ∙ (sym (needs_text-cons x xs) ∙ ap needs_text same))
 
 -- the first line of an answer, and its lines
 pub answer_parts : (n session : ℕ) (all : List Line) → n ≡ length all

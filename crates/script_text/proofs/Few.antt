@@ -25,12 +25,15 @@ Few (Ok r) = AreFew r
 Few (Err e) = Unit {0}
 
 -- a reading with the same sessions but for the last one's calls
-same_sessions : (r : Reading) (calls : List CallText) (last : Option CallText) → AreFew r → length (if r.begun == 0 then r.ended else r.ended ++ (calls ++ option_to_list last) ∷ []) ≤ r.begun
+same_sessions : (r : Reading) (calls : List CallText) (last : Option CallText) → AreFew r
+    → length (if r.begun == 0 then r.ended else r.ended ++ (calls ++ option_to_list last) ∷ []) ≤ r.begun
 same_sessions r calls last few = by_test (r.begun == 0) few.there
   where
-    by_test : (b : Bool) → length (if b then r.ended else r.ended ++ (r.calls ++ option_to_list r.last) ∷ []) ≤ r.begun → length (if b then r.ended else r.ended ++ (calls ++ option_to_list last) ∷ []) ≤ r.begun
+    by_test : (b : Bool) → length (if b then r.ended else r.ended ++ (r.calls ++ option_to_list r.last) ∷ []) ≤ r.begun
+        → length (if b then r.ended else r.ended ++ (calls ++ option_to_list last) ∷ []) ≤ r.begun
     by_test true there = there
-    by_test false there = omega (arith, there, length-append r.ended ((r.calls ++ option_to_list r.last) ∷ []), length-append r.ended ((calls ++ option_to_list last) ∷ []))
+    by_test false there = omega
+        (arith, there, length-append r.ended ((r.calls ++ option_to_list r.last) ∷ []), length-append r.ended ((calls ++ option_to_list last) ∷ []))
 
 few_continued : (line : Line) (call : Option CallText) (r : Reading) → AreFew r → Few (with_continuation line call r)
 few_continued line None r few = tt
@@ -47,7 +50,8 @@ few_numbers (Some ns) r few = record { there = few.there; begun = few.begun }
 few_session : (r : Reading) → AreFew r → r.begun < SESSIONS_MAX → AreFew (with_session r)
 few_session r few below = record { there = by_test (r.begun + 1 == 0) (length-append (sessions_of r) ([] ∷ [])); begun = omega (arith, below) }
   where
-    by_test : (b : Bool) → length (sessions_of r ++ [] ∷ []) ≡ length (sessions_of r) + 1 → length (if b then sessions_of r else sessions_of r ++ ([] ++ []) ∷ []) ≤ r.begun + 1
+    by_test : (b : Bool) → length (sessions_of r ++ [] ∷ []) ≡ length (sessions_of r) + 1
+        → length (if b then sessions_of r else sessions_of r ++ ([] ++ []) ∷ []) ≤ r.begun + 1
     by_test true long = omega (arith, few.there)
     by_test false long = omega (arith, few.there, long)
 
@@ -70,7 +74,9 @@ few_kind sessions Call line behind r few = by_first (r.begun == 0)
     by_second true = tt
     by_second false = by_third (stays_open line behind)
 
-    by_first : (b : Bool) → Few (if b then Err BadScript else (if nat_le CALLS_MAX r.count then Err TooManyCalls else (if stays_open line behind then Err LoadOpen else Ok (with_call line r))))
+    by_first : (b : Bool) → Few
+        (if b then Err BadScript else
+        (if nat_le CALLS_MAX r.count then Err TooManyCalls else (if stays_open line behind then Err LoadOpen else Ok (with_call line r))))
     by_first true = tt
     by_first false = by_second (nat_le CALLS_MAX r.count)
 
@@ -105,7 +111,8 @@ few_after : (sessions : ℕ) (lines : List Line) (r : Reading) → AreFew r → 
 few_after sessions [] r few = few
 few_after sessions (line ∷ behind) r few = go_on (step sessions line behind r) (few_step sessions line behind r few) (λ next. few_after sessions behind next)
   where
-    go_on : (read : Result Reading RefusedScript) → Few read → ((next : Reading) → AreFew next → Few (after sessions behind next)) → Few (read >>= after sessions behind)
+    go_on : (read : Result Reading RefusedScript) → Few read → ((next : Reading) → AreFew next → Few (after sessions behind next))
+        → Few (read >>= after sessions behind)
     go_on (Ok next) few more = more next few
     go_on (Err e) few more = tt
 
@@ -115,7 +122,8 @@ sessions_length (Err e) = 0
 
 -- a script has no more sessions than there may be
 pub few_sessions : (lines : List Line) (s : Script) → script lines ≡ Ok s → length s.sessions ≤ SESSIONS_MAX
-few_sessions lines s is = of_read (after (sessions_in false lines) lines start) (few_after (sessions_in false lines) lines start (record { there = lit≤ tt; begun = lit≤ tt })) is
+few_sessions lines s is =
+    of_read (after (sessions_in false lines) lines start) (few_after (sessions_in false lines) lines start (record { there = lit≤ tt; begun = lit≤ tt })) is
   where
     of_read : (read : Result Reading RefusedScript) → Few read → (read >>= (λ r. Ok (script_of r))) ≡ Ok s → length s.sessions ≤ SESSIONS_MAX
     of_read (Ok r) few is =

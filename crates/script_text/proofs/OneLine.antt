@@ -98,7 +98,8 @@ encodes_doubled : (cs : List ℕ) → encodes (doubled cs) ≡ doubled (encodes 
 encodes_doubled [] = refl
 encodes_doubled (c ∷ cs) = by_test (nat_eq c 39) refl (encodes_doubled cs)
   where
-    by_test : (t : Bool) → nat_eq c 39 ≡ t → encodes (doubled cs) ≡ doubled (encodes cs) → encodes (if t then c ∷ c ∷ doubled cs else c ∷ doubled cs) ≡ doubled (encode c ++ encodes cs)
+    by_test : (t : Bool) → nat_eq c 39 ≡ t → encodes (doubled cs) ≡ doubled (encodes cs)
+        → encodes (if t then c ∷ c ∷ doubled cs else c ∷ doubled cs) ≡ doubled (encode c ++ encodes cs)
     by_test true test e =
         let is : c ≡ 39 = grind (arith, test) in
         let one : encode c ≡ 39 ∷ [] = ap encode is ∙ encode_ascii 39 (lit< tt) in

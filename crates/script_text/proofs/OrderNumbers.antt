@@ -42,19 +42,24 @@ below_it m n within other = omega arith
 -- a number that is written so is found
 pub named_found : (most n : ℕ) (word : List ℕ) → most < 2 ^ 64 → decimal n ≡ word → 0 < n → n ≤ most → number_named most word ≡ Some n
 named_found zero n word small e some within = absurd (omega arith)
-named_found (suc m) n word small e some within = by_test (bytes_eq (decimal (suc m)) word) refl (λ less. let few : m < 2 ^ 64 = omega arith in named_found m n word few e some less)
+named_found (suc m) n word small e some within =
+    by_test (bytes_eq (decimal (suc m)) word) refl (λ less. let few : m < 2 ^ 64 = omega arith in named_found m n word few e some less)
   where
-    by_test : (t : Bool) → bytes_eq (decimal (suc m)) word ≡ t → (n ≤ m → number_named m word ≡ Some n) → (if t then Some (suc m) else number_named m word) ≡ Some n
-    by_test true test below = let few : n < 2 ^ 64 = omega arith in ap Some (decimal_injective (suc m) n small few ((bytes_eq-Decides (decimal (suc m)) word).0 test ∙ sym e))
+    by_test : (t : Bool) → bytes_eq (decimal (suc m)) word ≡ t → (n ≤ m → number_named m word ≡ Some n)
+        → (if t then Some (suc m) else number_named m word) ≡ Some n
+    by_test true test below = let few : n < 2 ^ 64 = omega arith in
+        ap Some (decimal_injective (suc m) n small few ((bytes_eq-Decides (decimal (suc m)) word).0 test ∙ sym e))
     by_test false test below =
-        let other : n ≡ suc m → ⊥ = λ same. let found = (bytes_eq-Decides (decimal (suc m)) word).1 (ap decimal (sym same) ∙ e) in let clash : true ≡ false = sym found ∙ test in cc in
+        let other : n ≡ suc m → ⊥ = λ same. let found = (bytes_eq-Decides (decimal (suc m)) word).1 (ap decimal (sym same) ∙ e) in let clash : true ≡ false =
+        sym found ∙ test in cc in
         below (below_it m n within other)
 
 -- what no number up to the last is written as is not found
 named_none : (most : ℕ) (word : List ℕ) → ((n : ℕ) → 0 < n → n ≤ most → decimal n ≢ word) → number_named most word ≡ None
 named_none zero word none = refl
 named_none (suc m) word none =
-    rw (other_bytes (decimal (suc m)) word (none (suc m) (omega arith) (omega arith))) (named_none m word (λ n some within. let less : n ≤ suc m = omega arith in none n some less))
+    rw (other_bytes (decimal (suc m)) word (none (suc m) (omega arith) (omega arith)))
+    (named_none m word (λ n some within. let less : n ≤ suc m = omega arith in none n some less))
 
 pub no_number_named : (most : ℕ) (word : List ℕ) → most < 2 ^ 64 → ((n : ℕ) → n < 2 ^ 64 → decimal n ≢ word) → number_named most word ≡ None
 no_number_named most word small none = named_none most word (λ n some within. let few : n < 2 ^ 64 = omega arith in none n few)
@@ -95,7 +100,8 @@ with_more-none a b given None none e = refl
 with_more-none a b given (Some ns) none e = let found : with_more a None ≡ Some (b ++ ns) = ap (with_more a) (sym none) ∙ e in cc
 
 -- what is said of the words that are left is said of all
-pub lists_as : {T : Type 0} (r : Result T Stop) (a orig new : List ℕ) (given whole : Option (List ℕ)) → with_more a given ≡ with_more orig whole → Lists r a new given → Lists r orig new whole
+pub lists_as : {T : Type 0} (r : Result T Stop) (a orig new : List ℕ) (given whole : Option (List ℕ)) → with_more a given ≡ with_more orig whole
+    → Lists r a new given → Lists r orig new whole
 lists_as (Ok x) a orig new given whole e l = sym e ∙ l
 lists_as (Err (stops.Refused why)) a orig new given whole e l = (with_more-none a orig given whole l.0 e, l.1)
 lists_as (Err stops.NoMemory) a orig new given whole e l = tt

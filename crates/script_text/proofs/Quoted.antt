@@ -123,23 +123,27 @@ unquoted_none (b ∷ bs) none =
     let parts = neither (nat_eq b 39) (has_quote bs) none in
     unquoted_other b bs parts.0 ∙ ap (in_name b) (unquoted_none bs parts.1)
 
-behind_twice : (name before : List ℕ) (o : Option (List ℕ × List ℕ)) → behind_name name (behind_name before (in_name 39 o)) ≡ behind_name ((name ++ before) ++ 39 ∷ []) o
+behind_twice : (name before : List ℕ) (o : Option (List ℕ × List ℕ))
+    → behind_name name (behind_name before (in_name 39 o)) ≡ behind_name ((name ++ before) ++ 39 ∷ []) o
 behind_twice name before None = refl
 behind_twice name before (Some found) =
     ap (λ n. Some (n, found.1)) (sym (append_assoc name before (39 ∷ found.0)) ∙ sym (append_assoc (name ++ before) (39 ∷ []) found.0))
 
 -- a name goes on behind two quotes
-pub name_goes_on : (name rest before next whole : List ℕ) → rest ≡ before ++ 39 ∷ (39 ∷ next) → has_quote before ≡ false → behind_name name (unquoted rest) ≡ unquoted whole
+pub name_goes_on : (name rest before next whole : List ℕ) → rest ≡ before ++ 39 ∷ (39 ∷ next) → has_quote before ≡ false
+    → behind_name name (unquoted rest) ≡ unquoted whole
     → behind_name ((name ++ before) ++ 39 ∷ []) (unquoted next) ≡ unquoted whole
 name_goes_on name rest before next whole is none e =
     sym (behind_twice name before (unquoted next)) ∙ (ap (behind_name name) (sym (unquoted_cut before (39 ∷ next) none) ∙ ap unquoted (sym is)) ∙ e)
 
 -- and ends at one
-pub name_ends : (name rest before next whole : List ℕ) → rest ≡ before ++ 39 ∷ next → has_quote before ≡ false → begins_quoted next ≡ false → behind_name name (unquoted rest) ≡ unquoted whole
+pub name_ends : (name rest before next whole : List ℕ) → rest ≡ before ++ 39 ∷ next → has_quote before ≡ false → begins_quoted next ≡ false
+    → behind_name name (unquoted rest) ≡ unquoted whole
     → unquoted whole ≡ Some (name ++ before, next)
 name_ends name rest before next whole is none other e =
     sym e ∙ (ap (λ b. behind_name name (unquoted b)) is
-    ∙ (ap (behind_name name) (unquoted_cut before next none ∙ ap (behind_name before) (unquoted_last next other)) ∙ ap (λ b. Some (name ++ b, next)) (append-nil before)))
+    ∙ (ap (behind_name name) (unquoted_cut before next none ∙ ap (behind_name before) (unquoted_last next other))
+    ∙ ap (λ b. Some (name ++ b, next)) (append-nil before)))
 
 -- and there is none where no quote ends it
 pub name_is_open : (name rest whole : List ℕ) → has_quote rest ≡ false → behind_name name (unquoted rest) ≡ unquoted whole → unquoted whole ≡ None
@@ -182,7 +186,8 @@ need_open n rest = append_assoc (quoted n.name) (codes " " ++ mode_text n.mode) 
 -- a text begins with one need
 pub need_one : (n m : Need) (x y : List ℕ) → need_text n ++ x ≡ need_text m ++ y → (n ≡ m) × (x ≡ y)
 need_one n m x y e =
-    let parts = quoted_one n.name m.name (codes " " ++ (mode_text n.mode ++ x)) (codes " " ++ (mode_text m.mode ++ y)) refl refl (sym (need_open n x) ∙ (e ∙ need_open m y)) in
+    let parts = quoted_one n.name m.name (codes " " ++ (mode_text n.mode ++ x)) (codes " " ++ (mode_text m.mode ++ y)) refl refl (sym (need_open n x)
+    ∙ (e ∙ need_open m y)) in
     let behind : 32 ∷ (mode_text n.mode ++ x) ≡ 32 ∷ (mode_text m.mode ++ y) = parts.1 in
     let tails : mode_text n.mode ++ x ≡ mode_text m.mode ++ y = cc in
     let modes = mode_one n.mode m.mode x y tails in
@@ -194,7 +199,8 @@ need_one n m x y e =
 others_open : (n : Need) (ns : List Need) (rest : List ℕ) → others_text (n ∷ ns) ++ rest ≡ codes ", " ++ (need_text n ++ (others_text ns ++ rest))
 others_open n ns rest = ap (λ r. codes ", " ++ r) (append_assoc (need_text n) (others_text ns) rest)
 
-others_tails : (n m : Need) (ns ms : List Need) (rest : List ℕ) → others_text (n ∷ ns) ++ rest ≡ others_text (m ∷ ms) → need_text n ++ (others_text ns ++ rest) ≡ need_text m ++ others_text ms
+others_tails : (n m : Need) (ns ms : List Need) (rest : List ℕ) → others_text (n ∷ ns) ++ rest ≡ others_text (m ∷ ms)
+    → need_text n ++ (others_text ns ++ rest) ≡ need_text m ++ others_text ms
 others_tails n m ns ms rest e =
     append_cancel_left (codes ", ") (need_text n ++ (others_text ns ++ rest)) (need_text m ++ others_text ms) (sym (others_open n ns rest) ∙ e)
 
@@ -208,10 +214,12 @@ others_split (n ∷ ns) (m ∷ ms) rest e =
     let more = others_split ns ms rest one.1 in
     (more.0, more.1, ap (λ x. x ∷ ms) (sym one.0) ∙ ap (λ l. n ∷ l) more.2)
 
-pub needs_split : (ns ms : List Need) (rest : List ℕ) → 0 < length ns → needs_text ns ++ rest ≡ needs_text ms → (ks : List Need) × (others_text ks ≡ rest) × (ms ≡ ns ++ ks)
+pub needs_split : (ns ms : List Need) (rest : List ℕ) → 0 < length ns → needs_text ns ++ rest ≡ needs_text ms
+    → (ks : List Need) × (others_text ks ≡ rest) × (ms ≡ ns ++ ks)
 needs_split [] ms rest some e = absurd (omega arith)
 needs_split (n ∷ ns) [] rest some e =
-    let opened : need_text n ++ (others_text ns ++ rest) ≡ [] = sym (append_assoc (need_text n) (others_text ns) rest) ∙ (ap (λ x. x ++ rest) (sym (needs_text-cons n ns)) ∙ e) in
+    let opened : need_text n ++ (others_text ns ++ rest) ≡ [] = sym (append_assoc (need_text n) (others_text ns) rest)
+    ∙ (ap (λ x. x ++ rest) (sym (needs_text-cons n ns)) ∙ e) in
     let clash : 39 ∷ (doubled n.name ++ 39 ∷ (codes " " ++ (mode_text n.mode ++ (others_text ns ++ rest)))) ≡ [] =
     sym (quoted_open n.name (codes " " ++ (mode_text n.mode ++ (others_text ns ++ rest)))) ∙ (sym (need_open n (others_text ns ++ rest)) ∙ opened) in
     cc
@@ -244,7 +252,8 @@ AreUtf8-more [] n are one = one
 AreUtf8-more (m ∷ ns) n are one = (are.0, AreUtf8-more ns n are.1 one)
 
 -- one need more was read
-pub needs_go_on : (ns : List Need) (n : Need) (rest more next whole : List ℕ) → 0 < length ns → needs_text ns ++ rest ≡ whole → rest ≡ codes ", " ++ more → need_text n ++ next ≡ more
+pub needs_go_on : (ns : List Need) (n : Need) (rest more next whole : List ℕ) → 0 < length ns → needs_text ns ++ rest ≡ whole → rest ≡ codes ", " ++ more
+    → need_text n ++ next ≡ more
     → needs_text (ns ++ n ∷ []) ++ next ≡ whole
 needs_go_on ns n rest more next whole some e is one =
     ap (λ x. x ++ next) (needs_text-more ns n some)
@@ -263,7 +272,8 @@ needs_stop ns rest more whole some e is none ms same =
     by_others (k ∷ ks) e = let tails : need_text k ++ others_text ks ≡ more = cc in none k (others_text ks) tails
 
 -- behind a need stands something else than a comma
-pub needs_end : (ns : List Need) (rest whole : List ℕ) → 0 < length ns → needs_text ns ++ rest ≡ whole → ((more : List ℕ) → rest ≢ codes ", " ++ more) → rest ≢ []
+pub needs_end : (ns : List Need) (rest whole : List ℕ) → 0 < length ns → needs_text ns ++ rest ≡ whole → ((more : List ℕ) → rest ≢ codes ", " ++ more)
+    → rest ≢ []
     → (ms : List Need) → needs_text ms ≢ whole
 needs_end ns rest whole some e other left ms same =
     let split = needs_split ns ms rest some (e ∙ sym same) in
@@ -287,19 +297,22 @@ quoted_from_name (Some found) rest whole is read =
     (read.0, both.0 ∙ sym is, both.1)
 
 -- a name behind a quote is a name between quotes
-pub quoted_read : (r : Result (Option NameText) NoMemory) (rest whole : List ℕ) → whole ≡ 39 ∷ rest → IfOk r (λ found. ReadsName found rest) → IfOk r (λ found. ReadsQuoted found whole)
+pub quoted_read : (r : Result (Option NameText) NoMemory) (rest whole : List ℕ) → whole ≡ 39 ∷ rest → IfOk r (λ found. ReadsName found rest)
+    → IfOk r (λ found. ReadsQuoted found whole)
 quoted_read (Ok found) rest whole is read = quoted_from_name found rest whole is read
 quoted_read (Err e) rest whole is read = tt
 
 -- behind a name stands no mode
-pub no_mode : (name rest whole : List ℕ) → quoted name ++ rest ≡ whole → begins_quoted rest ≡ false → ((mode : LockMode) (more : List ℕ) → codes " " ++ (mode_text mode ++ more) ≢ rest)
+pub no_mode : (name rest whole : List ℕ) → quoted name ++ rest ≡ whole → begins_quoted rest ≡ false
+    → ((mode : LockMode) (more : List ℕ) → codes " " ++ (mode_text mode ++ more) ≢ rest)
     → (need : Need) (more : List ℕ) → need_text need ++ more ≢ whole
 no_mode name rest whole is other none need more same =
     let parts = quoted_one need.name name (codes " " ++ (mode_text need.mode ++ more)) rest refl other (sym (need_open need more) ∙ (same ∙ sym is)) in
     none need.mode more parts.1
 
 -- where no name stands, no need does
-pub no_name : (whole : List ℕ) → ((name rest : List ℕ) → begins_quoted rest ≡ false → quoted name ++ rest ≢ whole) → (need : Need) (more : List ℕ) → need_text need ++ more ≢ whole
+pub no_name : (whole : List ℕ) → ((name rest : List ℕ) → begins_quoted rest ≡ false → quoted name ++ rest ≢ whole) → (need : Need) (more : List ℕ)
+    → need_text need ++ more ≢ whole
 no_name whole none need more same = none need.name (codes " " ++ (mode_text need.mode ++ more)) refl (sym (need_open need more) ∙ same)
 
 -- needs that were read so far, and what is left
@@ -307,6 +320,8 @@ abbrev pub NeedsSoFar : List Need → List ℕ → List ℕ → Type 0
 NeedsSoFar needs rest whole = (0 < length needs) × AreUtf8 needs × (needs_text needs ++ rest ≡ whole)
 
 -- one need more
-pub need_read : (ns : List Need) (n : Need) (rest more next whole : List ℕ) → 0 < length ns → AreUtf8 ns → needs_text ns ++ rest ≡ whole → rest ≡ codes ", " ++ more
+pub need_read : (ns : List Need) (n : Need) (rest more next whole : List ℕ) → 0 < length ns → AreUtf8 ns → needs_text ns ++ rest ≡ whole
+    → rest ≡ codes ", " ++ more
     → IsUtf8 n.name → need_text n ++ next ≡ more → NeedsSoFar (ns ++ n ∷ []) next whole
-need_read ns n rest more next whole some are e is utf8 one = (omega (arith, length-append ns (n ∷ [])), AreUtf8-more ns n are (utf8, tt), needs_go_on ns n rest more next whole some e is one)
+need_read ns n rest more next whole some are e is utf8 one =
+    (omega (arith, length-append ns (n ∷ [])), AreUtf8-more ns n are (utf8, tt), needs_go_on ns n rest more next whole some e is one)

@@ -32,7 +32,8 @@ none_behind : (bytes : List ℕ) (i : ℕ) → i ≡ length bytes → take (leng
 none_behind bytes i end = let none : length bytes - i ≡ 0 = omega arith in rw none refl
 
 -- bytes without one
-pub first_whole : (bytes : List ℕ) (i : ℕ) → bytes ≢ [] → i ≡ length bytes → ((k : ℕ) → k < i → get_or bytes k 0 ≢ 10) → IsFirst bytes bytes (take (length bytes - i) (drop i bytes))
+pub first_whole : (bytes : List ℕ) (i : ℕ) → bytes ≢ [] → i ≡ length bytes → ((k : ℕ) → k < i → get_or bytes k 0 ≢ 10)
+    → IsFirst bytes bytes (take (length bytes - i) (drop i bytes))
 first_whole bytes i some end lacks =
     let first = first_of_one bytes some (plain_by_index bytes (λ k h. let less : k < i = omega arith in lacks k less)) in
     let none = none_behind bytes i end in

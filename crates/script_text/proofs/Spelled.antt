@@ -15,13 +15,17 @@ use Rattle.script_text.proofs.Asides.{at, step_ok, dot_text, session_text, by_ki
 abbrev opened : Bool → Line → Reading → Reading
 opened t line r = record r { calls = r.calls ++ option_to_list r.last; last = Some (call_of line); count = r.count + 1; in_load = t }
 
-call_line : (s : ℕ) (line : Line) (behind : List Line) (r : Reading) (t : Bool) → IsUtf8 line → kind_of line ≡ Call → r.in_load ≡ false → (r.begun == 0) ≡ false → nat_le CALLS_MAX r.count ≡ false
+call_line : (s : ℕ) (line : Line) (behind : List Line) (r : Reading) (t : Bool) → IsUtf8 line → kind_of line ≡ Call → r.in_load ≡ false → (r.begun == 0) ≡ false
+    → nat_le CALLS_MAX r.count ≡ false
     → opens_load line ≡ t → (t && not (has_end behind)) ≡ false → read_line s line behind r ≡ Ok (opened t line r)
 call_line s line behind r t utf8 is outside begun few opens ended =
     by_kind s Call line behind r (opened t line r) is (text_is_text line utf8) outside
-    (ap (λ x. if x then Err BadScript else (if nat_le CALLS_MAX r.count then Err TooManyCalls else (if opens_load line && not (has_end behind) then Err LoadOpen else Ok (opened (opens_load line) line r)))) begun
+    (ap (λ x. if x then Err BadScript else
+    (if nat_le CALLS_MAX r.count then Err TooManyCalls else
+    (if opens_load line && not (has_end behind) then Err LoadOpen else Ok (opened (opens_load line) line r)))) begun
     ∙ (ap (λ x. if x then Err TooManyCalls else (if opens_load line && not (has_end behind) then Err LoadOpen else Ok (opened (opens_load line) line r))) few
-    ∙ (ap (λ x. if x && not (has_end behind) then Err LoadOpen else Ok (opened x line r)) opens ∙ ap (λ x. if x then Err LoadOpen else Ok (opened t line r)) ended)))
+    ∙ (ap (λ x. if x && not (has_end behind) then Err LoadOpen else Ok (opened x line r)) opens
+    ∙ ap (λ x. if x then Err LoadOpen else Ok (opened t line r)) ended)))
 
 -- a reading inside of a LOAD, and one behind a call
 abbrev loading : Reading → CallText → Reading
@@ -35,7 +39,8 @@ pyx_read : (s : ℕ) (behind : List Line) (b : Reading) (pyx : List Line) (c : C
     → (n : ℕ) × (after s ((pyx ++ codes "." ∷ []) ++ behind) (at m (loading b c)) ≡ after s behind (at n (closed b (record c { pyx = c.pyx ++ pyx }))))
 pyx_read s behind b [] c ok m = (
   next_line m,
-  step_ok s (codes ".") behind (at m (loading b c)) (at (next_line m) (closed b c)) (ap (λ t. if t then Ok (at (next_line m) (closed b c)) else Err NotUtf8) dot_text)
+  step_ok s (codes ".") behind (at m (loading b c)) (at (next_line m) (closed b c))
+      (ap (λ t. if t then Ok (at (next_line m) (closed b c)) else Err NotUtf8) dot_text)
       ∙ ap (λ p. after s behind (at (next_line m) (closed b (record c { pyx = p })))) (sym (append-nil c.pyx)),
 )
 pyx_read s behind b (line ∷ more) c ok m =
@@ -68,9 +73,12 @@ opens_load-more (a ∷ b ∷ c ∷ d ∷ []) l e = stays_shut _ _ e
 opens_load-more (a ∷ b ∷ c ∷ d ∷ f ∷ more) l e = e
 
 -- the lines that continue a call
-more_read : (s : ℕ) (behind : List Line) (b : Reading) (more : List MoreLine) (c : CallText) → s < 2 ^ 64 → opens_load c.text ≡ false → AreContinuations s more → (m : ℕ)
-    → (n : ℕ) × (after s (lines_of_more more ++ behind) (at m (closed b c)) ≡ after s behind (at n (closed (plus (order_of_more more) b) (record c { text = joined_by_newlines c.text more }))))
-more_read s behind b [] c small other_word ok m = (m, ap (λ o. after s behind (at m (closed (let made : Reading = record b { order = o } in made) c))) (sym (append-nil b.order)))
+more_read : (s : ℕ) (behind : List Line) (b : Reading) (more : List MoreLine) (c : CallText) → s < 2 ^ 64 → opens_load c.text ≡ false → AreContinuations s more
+    → (m : ℕ)
+    → (n : ℕ) × (after s (lines_of_more more ++ behind) (at m (closed b c))
+    ≡ after s behind (at n (closed (plus (order_of_more more) b) (record c { text = joined_by_newlines c.text more }))))
+more_read s behind b [] c small other_word ok m =
+    (m, ap (λ o. after s behind (at m (closed (let made : Reading = record b { order = o } in made) c))) (sym (append-nil b.order)))
 more_read s behind b (x ∷ more) c small other_word ok m =
     let next : CallText = continued x.line c in
     let now : Reading = plus (order_of x.between) b in
@@ -81,10 +89,12 @@ more_read s behind b (x ∷ more) c small other_word ok m =
       ap (λ l. after s l (at m (closed b c))) (append_assoc (lines_of_asides x.between) (x.line ∷ lines_of_more more) behind)
           ∙ (between.1
           ∙ (step_ok s x.line lines (at between.0 (closed now c)) (at (next_line between.0) (closed now next))
-          (by_kind s Continuation x.line lines (at (next_line between.0) (closed now c)) (at (next_line between.0) (closed now next)) ok.2 (text_is_text x.line ok.1) refl
+          (by_kind s Continuation x.line lines (at (next_line between.0) (closed now c)) (at (next_line between.0) (closed now next)) ok.2
+          (text_is_text x.line ok.1) refl
           (ap (λ t. if t then Err BadScript else Ok (at (next_line between.0) (closed now next))) other_word))
           ∙ (rest.1
-          ∙ ap (λ r. after s behind (at rest.0 (closed r (record c { text = joined_by_newlines c.text (x ∷ more) })))) (plus_plus (order_of x.between) (order_of_more more) b)))),
+          ∙ ap (λ r. after s behind (at rest.0 (closed r (record c { text = joined_by_newlines c.text (x ∷ more) }))))
+          (plus_plus (order_of x.between) (order_of_more more) b)))),
     )
 
 ended_inside : (pyx behind : List Line) → has_end ((pyx ++ codes "." ∷ []) ++ behind) ≡ true
@@ -99,14 +109,16 @@ ended_inside (line ∷ more) behind = ap (λ t. is_end line || t) (ended_inside 
 abbrev one_more : Reading → Reading
 one_more r = record r { calls = r.calls ++ option_to_list r.last; count = r.count + 1 }
 
-call_read : (s : ℕ) (behind : List Line) (r : Reading) (c : CallLines) → s < 2 ^ 64 → IsCall s c → r.in_load ≡ false → (r.begun == 0) ≡ false → nat_le CALLS_MAX r.count ≡ false
+call_read : (s : ℕ) (behind : List Line) (r : Reading) (c : CallLines) → s < 2 ^ 64 → IsCall s c → r.in_load ≡ false → (r.begun == 0) ≡ false
+    → nat_le CALLS_MAX r.count ≡ false
     → (n : ℕ) × (after s (lines_of_call c ++ behind) r ≡ after s behind (at n (closed (plus (order_of_call c) (one_more r)) (call_spelled c))))
 call_read s behind r (load first pyx) small ok outside begun few =
     let more : List Line = (pyx ++ codes "." ∷ []) ++ behind in
     let ended : (true && not (has_end more)) ≡ false = ap not (ended_inside pyx behind) in
     let line = call_line s first more (at (next_line r.lines) r) true ok.0 ok.1 outside begun few ok.2 ended in
     let rest = pyx_read s behind (one_more r) pyx (call_of first) ok.3 (next_line r.lines) in
-    let same = ap (λ o. after s behind (at rest.0 (closed (let made : Reading = record (one_more r) { order = o } in made) (call_spelled (load first pyx))))) (sym (append-nil r.order)) in
+    let same = ap (λ o. after s behind (at rest.0 (closed (let made : Reading = record (one_more r) { order = o } in made) (call_spelled (load first pyx)))))
+    (sym (append-nil r.order)) in
     (rest.0, step_ok s first more r _ line ∙ (rest.1 ∙ same))
 call_read s behind r (other first more) small ok outside begun few =
     let line = call_line s first (lines_of_more more ++ behind) (at (next_line r.lines) r) false ok.0 ok.1 outside begun few ok.2 refl in
@@ -114,12 +126,17 @@ call_read s behind r (other first more) small ok outside begun few =
     (rest.0, step_ok s first (lines_of_more more ++ behind) r _ line ∙ rest.1)
 
 -- a call and the lines after it
-part_read : (s : ℕ) (behind : List Line) (r : Reading) (c : CallPart) → s < 2 ^ 64 → IsCall s c.call → AreAsides s c.after → r.in_load ≡ false → (r.begun == 0) ≡ false → nat_le CALLS_MAX r.count ≡ false
-    → (n : ℕ) × (after s (lines_of_call c.call ++ (lines_of_asides c.after ++ behind)) r ≡ after s behind (at n (closed (plus (order_of_call c.call ++ order_of c.after) (one_more r)) (call_spelled c.call))))
+part_read : (s : ℕ) (behind : List Line) (r : Reading) (c : CallPart) → s < 2 ^ 64 → IsCall s c.call → AreAsides s c.after → r.in_load ≡ false
+    → (r.begun == 0) ≡ false → nat_le CALLS_MAX r.count ≡ false
+    → (n : ℕ) × (after s (lines_of_call c.call ++ (lines_of_asides c.after ++ behind)) r
+    ≡ after s behind (at n (closed (plus (order_of_call c.call ++ order_of c.after) (one_more r)) (call_spelled c.call))))
 part_read s behind r c small call asides outside begun few =
     let first = call_read s (lines_of_asides c.after ++ behind) r c.call small call outside begun few in
-    let rest = asides_read s behind c.after (closed (plus (order_of_call c.call) (one_more r)) (call_spelled c.call)) first.0 small asides refl in
-    (rest.0, first.1 ∙ (rest.1 ∙ ap (λ q. after s behind (at rest.0 (closed q (call_spelled c.call)))) (plus_plus (order_of_call c.call) (order_of c.after) (one_more r))))
+    let rest = asides_read s behind c.after (closed (plus (order_of_call c.call) (one_more r)) (call_spelled c.call)) first.0 small asides refl in (
+      rest.0,
+      first.1 ∙ (rest.1
+          ∙ ap (λ q. after s behind (at rest.0 (closed q (call_spelled c.call)))) (plus_plus (order_of_call c.call) (order_of c.after) (one_more r))),
+    )
 
 -- what is read after some calls of one session
 record IsBehind (cs : List CallPart) (r q : Reading) : Type 0 where
@@ -136,7 +153,8 @@ le_false a b h = grind (arith, h)
 count_more : (a b : ℕ) → (a + 1) + b ≡ a + suc b
 count_more a b = omega arith
 
-calls_read : (s : ℕ) (behind : List Line) (cs : List CallPart) (r : Reading) → s < 2 ^ 64 → AreCalls s cs → r.in_load ≡ false → (r.begun == 0) ≡ false → r.count + length cs ≤ CALLS_MAX
+calls_read : (s : ℕ) (behind : List Line) (cs : List CallPart) (r : Reading) → s < 2 ^ 64 → AreCalls s cs → r.in_load ≡ false → (r.begun == 0) ≡ false
+    → r.count + length cs ≤ CALLS_MAX
     → (q : Reading) × (after s (lines_of_calls cs ++ behind) r ≡ after s behind q) × IsBehind cs r q
 calls_read s behind [] r small ok outside begun few =
     let is : IsBehind [] r r = record {
@@ -178,8 +196,10 @@ not_zero n = grind arith
 sessions_so_far : (q : Reading) → (q.begun == 0) ≡ false → sessions_of q ≡ q.ended ++ (q.calls ++ option_to_list q.last) ∷ []
 sessions_so_far q begun = ap (λ t. if t then q.ended else q.ended ++ (q.calls ++ option_to_list q.last) ∷ []) begun
 
-pub sessions_read : (s : ℕ) (ss : List SessionPart) (r : Reading) → s < 2 ^ 64 → AreSessions s ss → r.in_load ≡ false → r.begun + length ss ≤ SESSIONS_MAX → r.count + calls_in ss ≤ CALLS_MAX
-    → (q : Reading) × (after s (lines_of_sessions ss) r ≡ Ok q) × (sessions_of q ≡ sessions_of r ++ sessions_spelled ss) × (q.order ≡ r.order ++ order_of_sessions ss)
+pub sessions_read : (s : ℕ) (ss : List SessionPart) (r : Reading) → s < 2 ^ 64 → AreSessions s ss → r.in_load ≡ false → r.begun + length ss ≤ SESSIONS_MAX
+    → r.count + calls_in ss ≤ CALLS_MAX
+    → (q : Reading) × (after s (lines_of_sessions ss) r ≡ Ok q) × (sessions_of q ≡ sessions_of r ++ sessions_spelled ss)
+    × (q.order ≡ r.order ++ order_of_sessions ss)
 sessions_read s [] r small ok outside few within = (r, refl, sym (append-nil (sessions_of r)), sym (append-nil r.order))
 sessions_read s (p ∷ ss) r small ok outside few within =
     let lines : List Line = lines_of_calls p.calls ++ lines_of_sessions ss in
@@ -188,7 +208,8 @@ sessions_read s (p ∷ ss) r small ok outside few within =
     let begins : Reading = with_session first in
     let less : r.begun < SESSIONS_MAX = omega arith in
     let line : read_line s (codes "SESSION") behind first ≡ Ok begins =
-    by_kind s Session (codes "SESSION") behind first begins refl session_text outside (ap (λ t. if t then Err TooManySessions else Ok begins) (le_false SESSIONS_MAX r.begun less)) in
+    by_kind s Session (codes "SESSION") behind first begins refl session_text outside
+    (ap (λ t. if t then Err TooManySessions else Ok begins) (le_false SESSIONS_MAX r.begun less)) in
     let between = asides_read s lines p.before begins (next_line r.lines) small ok.0 outside in
     let ready : Reading = at between.0 (plus (order_of p.before) begins) in
     let some : r.count + length p.calls ≤ CALLS_MAX = omega arith in
@@ -199,8 +220,10 @@ sessions_read s (p ∷ ss) r small ok outside few within =
     let rest = sessions_read s ss calls.0 small ok.2 is.outside few_left within_left in
     let begun : (calls.0.begun == 0) ≡ false = ap (λ n. n == 0) is.begun ∙ not_zero r.begun in
     let now : sessions_of calls.0 ≡ sessions_of r ++ calls_spelled p.calls ∷ [] =
-    sessions_so_far calls.0 begun ∙ (ap (λ e. e ++ (calls.0.calls ++ option_to_list calls.0.last) ∷ []) is.ended ∙ ap (λ c. sessions_of r ++ c ∷ []) is.calls) in
-    let numbers : calls.0.order ≡ r.order ++ (order_of p.before ++ order_of_calls p.calls) = is.order ∙ append_assoc r.order (order_of p.before) (order_of_calls p.calls) in (
+    sessions_so_far calls.0 begun
+    ∙ (ap (λ e. e ++ (calls.0.calls ++ option_to_list calls.0.last) ∷ []) is.ended ∙ ap (λ c. sessions_of r ++ c ∷ []) is.calls) in
+    let numbers : calls.0.order ≡ r.order ++ (order_of p.before ++ order_of_calls p.calls) = is.order
+    ∙ append_assoc r.order (order_of p.before) (order_of_calls p.calls) in (
       rest.0,
       step_ok s (codes "SESSION") behind r begins line ∙ (between.1 ∙ (calls.1 ∙ rest.1)),
       rest.2 ∙ (ap (λ l. l ++ sessions_spelled ss) now ∙ append_assoc (sessions_of r) (calls_spelled p.calls ∷ []) (sessions_spelled ss)),

@@ -30,11 +30,13 @@ moved : (a b : Row) (s t : ℕ) (x y : List ℕ) (e : Event) → s ≡ t → a �
 moved a b s t x y e p q r is = subst (λ v. IsRow b t v e) r (subst (λ v. IsRow v t x e) q (subst (λ v. IsRow a v x e) p is))
 
 -- a text begins with one event, but for what it does not tell
-event_once : (a b : Event) (x y : List ℕ) → IsPrinted a → IsPrinted b → text_of (event_lines a) ++ x ≡ text_of (event_lines b) ++ y → (told a ≡ told b) × (x ≡ y)
+event_once : (a b : Event) (x y : List ℕ) → IsPrinted a → IsPrinted b → text_of (event_lines a) ++ x ≡ text_of (event_lines b) ++ y
+    → (told a ≡ told b) × (x ≡ y)
 event_once a b x y p q e =
     let f = printed_row a p in
     let g = printed_row b q in
-    let cut = cut_line_once (start_of a f) (start_of b g) (text_of (lines_behind (told a)) ++ x) (text_of (lines_behind (told b)) ++ y) (start_is_plain a f) (start_is_plain b g)
+    let cut = cut_line_once (start_of a f) (start_of b g) (text_of (lines_behind (told a)) ++ x) (text_of (lines_behind (told b)) ++ y) (start_is_plain a f)
+    (start_is_plain b g)
     (sym (event_open a f x) ∙ (e ∙ event_open b g y)) in
     let start = line_once f.session g.session f.row g.row f.rest g.rest f.small g.small cut.0 in
     let is = moved f.row g.row f.session g.session f.rest g.rest (told a) start.0 start.1 start.2 f.is in
@@ -54,14 +56,17 @@ no_event_in_line bytes plain e more p same =
     let h = printed_row e p in
     newline_inside (start_of e h) (text_of (lines_behind (told e)) ++ more) (subst IsPlain (sym same ∙ event_open e h more) plain)
 
-first_line_of : (bytes line behind : List ℕ) → IsCutLine bytes line behind → (e : Event) (h : HasRow e) (more : List ℕ) → text_of (event_lines e) ++ more ≡ bytes
+first_line_of : (bytes line behind : List ℕ) → IsCutLine bytes line behind → (e : Event) (h : HasRow e) (more : List ℕ)
+    → text_of (event_lines e) ++ more ≡ bytes
     → (start_of e h ≡ line) × (text_of (lines_behind (told e)) ++ more ≡ behind)
 first_line_of bytes line behind cut e h more same =
-    cut_line_once (start_of e h) line (text_of (lines_behind (told e)) ++ more) behind (start_is_plain e h) cut.plain (sym (event_open e h more) ∙ (same ∙ cut.whole))
+    cut_line_once (start_of e h) line (text_of (lines_behind (told e)) ++ more) behind (start_is_plain e h) cut.plain (sym (event_open e h more)
+    ∙ (same ∙ cut.whole))
 
 -- nor does what has no such first line
 pub no_event_at_line : (bytes line behind : List ℕ) → IsCutLine bytes line behind
-    → ((s : ℕ) (row : Row) (rest : List ℕ) → IsSession s → line_of s (row_word row ++ rest) ≢ line) → (e : Event) (more : List ℕ) → IsPrinted e → text_of (event_lines e) ++ more ≢ bytes
+    → ((s : ℕ) (row : Row) (rest : List ℕ) → IsSession s → line_of s (row_word row ++ rest) ≢ line) → (e : Event) (more : List ℕ) → IsPrinted e
+    → text_of (event_lines e) ++ more ≢ bytes
 no_event_at_line bytes line behind cut none e more p same =
     let h = printed_row e p in
     none h.session h.row h.rest h.small (first_line_of bytes line behind cut e h more same).0
@@ -133,9 +138,11 @@ pub record ReadSoFar (read : List Event) (rest whole : List ℕ) : Type 0 where
   pub told : map told read ≡ read
 
 -- one event more
-pub read_more : (read : List Event) (e : Event) (rest next whole : List ℕ) → ReadSoFar read rest whole → IsPrinted e → told e ≡ e → text_of (event_lines e) ++ next ≡ rest → ReadSoFar (read ++ e ∷ []) next whole
+pub read_more : (read : List Event) (e : Event) (rest next whole : List ℕ) → ReadSoFar read rest whole → IsPrinted e → told e ≡ e
+    → text_of (event_lines e) ++ next ≡ rest → ReadSoFar (read ++ e ∷ []) next whole
 read_more read e rest next whole so p q is = record {
-  text = ap (λ t. t ++ next) (text-append read (e ∷ []) ∙ ap (λ t. text read ++ t) (text-one e)) ∙ (append_assoc (text read) (text_of (event_lines e)) next ∙ (ap (λ t. text read ++ t) is ∙ so.text));
+  text = ap (λ t. t ++ next) (text-append read (e ∷ []) ∙ ap (λ t. text read ++ t) (text-one e))
+      ∙ (append_assoc (text read) (text_of (event_lines e)) next ∙ (ap (λ t. text read ++ t) is ∙ so.text));
   printed = ArePrinted-more read e so.printed p;
   told = told-more read e so.told q;
 }
@@ -158,14 +165,16 @@ pub text_is_utf8 : (journal : List Event) → ArePrinted journal → IsUtf8 (tex
 text_is_utf8 journal p = lines_utf8 (journal_lines journal) (lines_of_journal journal p)
 
 -- what is read from a journal's text is what the text tells
-pub told_again : (bytes : List ℕ) (read : Option (List Event)) → Tells bytes read → (journal : List Event) → ArePrinted journal → text journal ≡ bytes → read ≡ Some (map told journal)
+pub told_again : (bytes : List ℕ) (read : Option (List Event)) → Tells bytes read → (journal : List Event) → ArePrinted journal → text journal ≡ bytes
+    → read ≡ Some (map told journal)
 told_again bytes None none journal p e = absurd (none journal p e)
 told_again bytes (Some found) is journal p e = ap Some (sym is.told ∙ text_tells_its_journal found journal is.printed p (is.written ∙ sym e))
 
 -- ---- the answers of the program
 
 -- an event is read by its row, unless memory ran out
-pub event_answered : (r : Result (Option EventText) NoMemory) (bytes line behind : List ℕ) (s : ℕ) (row : Row) (rest : List ℕ) → IsCutLine bytes line behind → IsSession s
+pub event_answered : (r : Result (Option EventText) NoMemory) (bytes line behind : List ℕ) (s : ℕ) (row : Row) (rest : List ℕ) → IsCutLine bytes line behind
+    → IsSession s
     → line_of s (row_word row ++ rest) ≡ line → IfOk r (λ found. ReadsBehind found row s rest behind) → IfOk r (λ found. ReadsEvent found bytes)
 event_answered (Ok found) bytes line behind s row rest cut small start is = event_read found bytes line behind s row rest cut small start is
 event_answered (Err e) bytes line behind s row rest cut small start is = tt

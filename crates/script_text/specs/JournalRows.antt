@@ -65,7 +65,8 @@ abbrev pub IsRow : Row → ℕ → List ℕ → Event → Type 0
 IsRow rows.BeganUpdate s rest e = IsWhole rest (Began s Updating) e
 IsRow rows.BeganRead s rest e = IsNumbered rest (λ n. Began s (Reading n)) e
 IsRow rows.Granted s rest e = (needs : List Need) × (0 < length needs) × AreUtf8 needs × (needs_text needs ≡ rest) × (e ≡ Granted s needs)
-IsRow rows.Refused s rest e = (name : List ℕ) × (holder : ℕ) × IsUtf8 name × IsSession holder × (quoted name ++ (codes " by " ++ decimal holder) ≡ rest) × (e ≡ Refused s name holder [])
+IsRow rows.Refused s rest e =
+    (name : List ℕ) × (holder : ℕ) × IsUtf8 name × IsSession holder × (quoted name ++ (codes " by " ++ decimal holder) ≡ rest) × (e ≡ Refused s name holder [])
 IsRow rows.Done s rest e = IsWhole rest (answer_event s says.Done) e
 IsRow rows.Answer s rest e = (all : List Line) × AreLines all × (length all < 2 ^ 64) × (decimal (length all) ≡ rest) × (e ≡ answer_event s (says.Lines all))
 IsRow rows.Error s rest e = (code : Code) × InRange code × HasNoMark code × (code_text code ≡ rest) × (e ≡ answer_event s (says.Error code))
@@ -73,5 +74,6 @@ IsRow rows.Committed s rest e = IsNumbered rest (λ n. Committed s n) e
 IsRow rows.Ended s rest e = IsWhole rest (Ended s) e
 IsRow rows.RolledBack s rest e = IsWhole rest (RolledBack s) e
 IsRow rows.Doubt s rest e = IsNumbered rest (λ n. Doubt s n no_mark) e
-IsRow rows.Settled s rest e = (other : ℕ) × (stands : Bool) × IsSession other × (decimal other ++ (codes " " ++ stands_text stands) ≡ rest) × (e ≡ Settled s other stands)
+IsRow rows.Settled s rest e =
+    (other : ℕ) × (stands : Bool) × IsSession other × (decimal other ++ (codes " " ++ stands_text stands) ≡ rest) × (e ≡ Settled s other stands)
 IsRow rows.Left s rest e = IsWhole rest (Left s) e

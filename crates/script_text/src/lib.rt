@@ -20,4 +20,3 @@ pub use limits::{CALLS_MAX, SESSIONS_MAX};
 pub use scripts::by_lines::read_script;
 pub use scripts::fault::{RefusedScript, ScriptFault, ScriptRefusal};
 pub use scripts::session_calls::{CallTextList, CallTextListList, NumberList, Script};
-

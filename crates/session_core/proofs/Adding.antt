@@ -43,22 +43,72 @@ use Rattle.session_core.proofs.Stepping.{count_same, forests_same}
 
 module _ (B : Base) (past : List Event) where
   pub step_began_update : (s : ℕ) → state s past ≡ Idle → Follows (Began s kinds.Updating) past → IsStep B (Began s kinds.Updating) past
-  step_began_update s idle follows = record { in_order = in_order (Began s kinds.Updating) past follows; locks = (tt, follows.0); serial = tt; snapshots = tt; unfinished = tt; refusals = idle; settling = (tt, follows.1); marks = (tt, tt); next = tt }
+  step_began_update s idle follows =
+      record {
+        in_order = in_order (Began s kinds.Updating) past follows;
+        locks = (tt, follows.0);
+        serial = tt;
+        snapshots = tt;
+        unfinished = tt;
+        refusals =
+            idle;
+        settling = (tt, follows.1);
+        marks = (tt, tt);
+        next = tt;
+      }
 
-  pub step_began_read : (s n : ℕ) → state s past ≡ Idle → n ≡ B.numbers.commit + commit_count past → Follows (Began s (kinds.Reading n)) past → IsStep B (Began s (kinds.Reading n)) past
-  step_began_read s n idle number follows = record { in_order = in_order (Began s (kinds.Reading n)) past follows; locks = (tt, follows.0); serial = tt; snapshots = number; unfinished = tt; refusals = idle; settling = (tt, follows.1); marks = (tt, tt); next = tt }
+  pub step_began_read : (s n : ℕ) → state s past ≡ Idle → n ≡ B.numbers.commit + commit_count past → Follows (Began s (kinds.Reading n)) past
+      → IsStep B (Began s (kinds.Reading n)) past
+  step_began_read s n idle number follows =
+      record {
+        in_order = in_order (Began s (kinds.Reading n)) past follows;
+        locks = (tt, follows.0);
+        serial = tt;
+        snapshots = number;
+        unfinished =
+            tt;
+        refusals = idle;
+        settling = (tt, follows.1);
+        marks = (tt, tt);
+        next = tt;
+      }
 
   pub step_granted : (s : ℕ) (asked : List Need) → IsGranted s asked past → Follows (Granted s asked) past → IsStep B (Granted s asked) past
-  step_granted s asked granted follows = record { in_order = in_order (Granted s asked) past follows; locks = (granted, follows.0); serial = tt; snapshots = tt; unfinished = tt; refusals = tt; settling = (tt, follows.1); marks = (tt, tt); next = tt }
+  step_granted s asked granted follows =
+      record {
+        in_order = in_order (Granted s asked) past follows;
+        locks = (granted, follows.0);
+        serial = tt;
+        snapshots = tt;
+        unfinished = tt;
+        refusals =
+            tt;
+        settling = (tt, follows.1);
+        marks = (tt, tt);
+        next = tt;
+      }
 
-  pub step_refused : (s : ℕ) (name : List ℕ) (holder : ℕ) (asked : List Need) → IsRefused s name holder asked past → Follows (Refused s name holder asked) past → IsStep B (Refused s name holder asked) past
+  pub step_refused : (s : ℕ) (name : List ℕ) (holder : ℕ) (asked : List Need) → IsRefused s name holder asked past → Follows (Refused s name holder asked) past
+      → IsStep B (Refused s name holder asked) past
   step_refused s name holder asked refused follows =
-      record { in_order = in_order (Refused s name holder asked) past follows; locks = (refused, follows.0); serial = tt; snapshots = tt; unfinished = tt; refusals = refused.updating; settling = (tt, follows.1); marks = (tt, tt); next = tt }
+      record {
+        in_order = in_order (Refused s name holder asked) past follows;
+        locks = (refused, follows.0);
+        serial = tt;
+        snapshots = tt;
+        unfinished =
+            tt;
+        refusals = refused.updating;
+        settling = (tt, follows.1);
+        marks = (tt, tt);
+        next = tt;
+      }
 
   not_spent : (a b : ℕ) → a < b → b ≤ a → ⊥
   not_spent a b below above = omega arith
 
-  pub step_committed : (s n : ℕ) → state s past ≡ Updating → in_doubt past ≡ None → HasCommitLeft B.numbers past → n ≡ next_number B.numbers past → RunsNext B s past → Follows (Committed s n) past → IsStep B (Committed s n) past
+  pub step_committed : (s n : ℕ) → state s past ≡ Updating → in_doubt past ≡ None → HasCommitLeft B.numbers past → n ≡ next_number B.numbers past
+      → RunsNext B s past → Follows (Committed s n) past → IsStep B (Committed s n) past
   step_committed s n updating settled left number runs follows = record {
     in_order = in_order (Committed s n) past follows;
     locks = (tt, follows.0);
@@ -71,7 +121,8 @@ module _ (B : Base) (past : List Event) where
     next = tt;
   }
 
-  pub step_doubted : (s n : ℕ) (mark : Mark) → state s past ≡ Updating → in_doubt past ≡ None → HasCommitLeft B.numbers past → n ≡ next_number B.numbers past → IsNextMark past mark → Follows (Doubt s n mark) past → IsStep B (Doubt s n mark) past
+  pub step_doubted : (s n : ℕ) (mark : Mark) → state s past ≡ Updating → in_doubt past ≡ None → HasCommitLeft B.numbers past → n ≡ next_number B.numbers past
+      → IsNextMark past mark → Follows (Doubt s n mark) past → IsStep B (Doubt s n mark) past
   step_doubted s n mark updating settled left number next_mark follows = record {
     in_order = in_order (Doubt s n mark) past follows;
     locks = (tt, follows.0);
@@ -84,18 +135,79 @@ module _ (B : Base) (past : List Event) where
     next = tt;
   }
 
-  pub step_settled : (by s : ℕ) (stands : Bool) → state s past ≡ InDoubt → MaySettle by s (state by past) → RunsNext B s past → Follows (Settled by s stands) past → IsStep B (Settled by s stands) past
-  step_settled by s true doubt may runs follows = record { in_order = in_order (Settled by s true) past follows; locks = (tt, follows.0); serial = runs; snapshots = tt; unfinished = tt; refusals = tt; settling = ((doubt, may), follows.1); marks = (tt, tt); next = tt }
-  step_settled by s false doubt may runs follows = record { in_order = in_order (Settled by s false) past follows; locks = (tt, follows.0); serial = tt; snapshots = tt; unfinished = runs; refusals = tt; settling = ((doubt, may), follows.1); marks = (tt, tt); next = tt }
+  pub step_settled : (by s : ℕ) (stands : Bool) → state s past ≡ InDoubt → MaySettle by s (state by past) → RunsNext B s past
+      → Follows (Settled by s stands) past → IsStep B (Settled by s stands) past
+  step_settled by s true doubt may runs follows =
+      record {
+        in_order = in_order (Settled by s true) past follows;
+        locks = (tt, follows.0);
+        serial = runs;
+        snapshots = tt;
+        unfinished = tt;
+        refusals =
+            tt;
+        settling = ((doubt, may), follows.1);
+        marks = (tt, tt);
+        next = tt;
+      }
+  step_settled by s false doubt may runs follows =
+      record {
+        in_order = in_order (Settled by s false) past follows;
+        locks = (tt, follows.0);
+        serial = tt;
+        snapshots = tt;
+        unfinished = runs;
+        refusals =
+            tt;
+        settling = ((doubt, may), follows.1);
+        marks = (tt, tt);
+        next = tt;
+      }
 
   pub step_ended : (s : ℕ) → IsTrue (is_reading (state s past)) → Follows (Ended s) past → IsStep B (Ended s) past
-  step_ended s reading follows = record { in_order = in_order (Ended s) past follows; locks = (tt, follows.0); serial = tt; snapshots = tt; unfinished = tt; refusals = reading; settling = (tt, follows.1); marks = (tt, tt); next = tt }
+  step_ended s reading follows =
+      record {
+        in_order = in_order (Ended s) past follows;
+        locks = (tt, follows.0);
+        serial = tt;
+        snapshots = tt;
+        unfinished = tt;
+        refusals = reading;
+        settling =
+            (tt, follows.1);
+        marks = (tt, tt);
+        next = tt;
+      }
 
   pub step_rolled_back : (s : ℕ) → IsTrue (is_open (state s past)) → RunsNext B s past → Follows (RolledBack s) past → IsStep B (RolledBack s) past
-  step_rolled_back s is runs follows = record { in_order = in_order (RolledBack s) past follows; locks = (tt, follows.0); serial = tt; snapshots = tt; unfinished = runs; refusals = is; settling = (tt, follows.1); marks = (tt, tt); next = tt }
+  step_rolled_back s is runs follows =
+      record {
+        in_order = in_order (RolledBack s) past follows;
+        locks = (tt, follows.0);
+        serial = tt;
+        snapshots = tt;
+        unfinished = runs;
+        refusals =
+            is;
+        settling = (tt, follows.1);
+        marks = (tt, tt);
+        next = tt;
+      }
 
   pub step_left : (s : ℕ) → IsTrue (is_open (state s past)) → RunsNext B s past → Follows (Left s) past → IsStep B (Left s) past
-  step_left s is runs follows = record { in_order = in_order (Left s) past follows; locks = (tt, follows.0); serial = tt; snapshots = tt; unfinished = runs; refusals = is; settling = (tt, follows.1); marks = (tt, tt); next = tt }
+  step_left s is runs follows =
+      record {
+        in_order = in_order (Left s) past follows;
+        locks = (tt, follows.0);
+        serial = tt;
+        snapshots = tt;
+        unfinished = runs;
+        refusals = is;
+        settling =
+            (tt, follows.1);
+        marks = (tt, tt);
+        next = tt;
+      }
 
 pub open_of_reading : (x : State) → IsTrue (is_reading x) → IsTrue (is_open x)
 open_of_reading Idle is = is
@@ -104,7 +216,8 @@ open_of_reading (Reading n) is = refl
 open_of_reading InDoubt is = is
 
 -- where a grant may follow a refusal may
-pub refused_follows : (s : ℕ) (name : List ℕ) (holder : ℕ) (asked : List Need) (past : List Event) → Follows (Granted s asked) past → Follows (Refused s name holder asked) past
+pub refused_follows : (s : ℕ) (name : List ℕ) (holder : ℕ) (asked : List Need) (past : List Event) → Follows (Granted s asked) past
+    → Follows (Refused s name holder asked) past
 refused_follows s name holder asked past follows = (behind_grant (last_of s past) follows.0, behind_settled (last_of s past) follows.1)
   where
     behind_grant : (last : Option Event) → IsBehindGrant last (Granted s asked) → IsBehindGrant last (Refused s name holder asked)
@@ -170,7 +283,10 @@ module _ (B : Base) (past : List Event) (t : ℕ) (r : Reply) (refusals : Refusa
         open_is = ap (λ b. if b then with_reply r (open_of d.0 past) else open_of d.0 past) same ∙ ap (with_reply r) is.open_is;
         kind_is = is.kind_is;
         marked = is.marked;
-        forest_is = is.forest_is ∙ ap (run_calls (newest B past)) (sym (more_replies is.transaction.replies (not_ran (state t past) (ap (λ z. state z past) (eqb-true t d.0 same) ∙ in_doubt_state d.0 d.1 is) refusals)))
+        forest_is = is.forest_is
+            ∙ ap (run_calls (newest B past))
+            (sym (more_replies is.transaction.replies
+            (not_ran (state t past) (ap (λ z. state z past) (eqb-true t d.0 same) ∙ in_doubt_state d.0 d.1 is) refusals)))
             ∙ ap (λ F. run_calls F (ran_all (is.transaction.replies ++ r ∷ []))) (sym newest_stays);
         left = subst (λ n. B.numbers.commit + n < last_number) (sym (count_same (Answered t r) past refl)) is.left;
       }
@@ -196,7 +312,8 @@ module _ (B : Base) (past : List Event) (t : ℕ) (r : Reply) (refusals : Refusa
   held-with_reply name None = refl
   held-with_reply name (Some u) = held-replied_by name u u.kind
 
-  pub ties_answered : (states : States) (locks : Locks) (forests : List Forest) (doubt : Option (ℕ × Forest)) → Ties B past states locks forests doubt → Ties B (Answered t r ∷ past) states locks forests doubt
+  pub ties_answered : (states : States) (locks : Locks) (forests : List Forest) (doubt : Option (ℕ × Forest)) → Ties B past states locks forests doubt
+      → Ties B (Answered t r ∷ past) states locks forests doubt
   ties_answered states locks forests doubt ties = record {
     states_are = states_same past states t (with_reply r) ties.states_are state-with_reply;
     locks_are = locks_same past locks t (with_reply r) ties.locks_are (λ name. held-with_reply name (open_of t past));
@@ -206,9 +323,11 @@ module _ (B : Base) (past : List Event) (t : ℕ) (r : Reply) (refusals : Refusa
 
 -- ---- the core with one event more
 
-pub core_more : (B : Base) (journal journal' : List Event) (e : Event) (capacity : ℕ) (states : States) (opened number : ℕ) (locks : Locks) (forests : List Forest) (doubt : Option (ℕ × Forest))
+pub core_more : (B : Base) (journal journal' : List Event) (e : Event) (capacity : ℕ) (states : States) (opened number : ℕ) (locks : Locks)
+    (forests : List Forest) (doubt : Option (ℕ × Forest))
     → journal' ≡ journal ++ e ∷ [] → SoFar B (journal ++ e ∷ []) → Ties B (e ∷ past_of journal) states locks forests doubt → opened ≡ fin.len states
-    → length journal' + opened ≤ capacity → number ≡ B.numbers.commit + commit_count (e ∷ past_of journal) → AllForests forests → DoubtIsForest doubt → IsCore B (holding journal' capacity states opened number locks forests doubt)
+    → length journal' + opened ≤ capacity → number ≡ B.numbers.commit + commit_count (e ∷ past_of journal) → AllForests forests → DoubtIsForest doubt
+    → IsCore B (holding journal' capacity states opened number locks forests doubt)
 core_more B journal journal' e capacity states opened number locks forests doubt more legal ties opened_is room number_is valid doubt_valid = record {
   legal = subst (SoFar B) (sym more) legal;
   ties = subst (λ past. Ties B past states locks forests doubt) (sym (past-more journal e)
@@ -283,7 +402,8 @@ forest_found B past forests k F are found =
     last = let count : length forests ≡ length (commits past) + 1 = ap length are ∙ length-forests_of B.forest (commits past) in omega arith
 
 pub some_forest : (B : Base) (past : List Event) (forests : List Forest) → forests ≡ forests_of B.forest (commits past) → 0 < length forests
-some_forest B past forests are = let count : length forests ≡ length (commits past) + 1 = ap length are ∙ length-forests_of B.forest (commits past) in omega arith
+some_forest B past forests are = let count : length forests ≡ length (commits past) + 1 = ap length are ∙ length-forests_of B.forest (commits past) in
+    omega arith
 
 -- the state that the table tells
 pub state_told : (past : List Event) (states : States) (s : ℕ) → fin.get states s ≡ entry_of (state s past) → state_at (fin.get states s) ≡ state s past
@@ -292,11 +412,14 @@ state_told past states s is = ap state_at is ∙ state_at-entry (state s past)
 -- a reader sees the forest at its commit, and each other session the newest
 pub forest_read : (B : Base) (past : List Event) (forests : List Forest) (s n k : ℕ) (F : Forest) → forests ≡ forests_of B.forest (commits past)
     → slice_get forests (min k (length forests - 1)) ≡ Some F → k ≡ n - B.numbers.commit → state s past ≡ Reading n → F ≡ forest_in B past (state s past)
-forest_read B past forests s n k F are found place reads = forest_found B past forests k F are found ∙ ap (after B past) place ∙ ap (forest_in B past) (sym reads)
+forest_read B past forests s n k F are found place reads = forest_found B past forests k F are found ∙ ap (after B past) place
+    ∙ ap (forest_in B past) (sym reads)
 
 pub forest_newest : (B : Base) (past : List Event) (forests : List Forest) (x : State) (number : ℕ) (F : Forest) → forests ≡ forests_of B.forest (commits past)
-    → slice_get forests (min (number - B.numbers.commit) (length forests - 1)) ≡ Some F → number ≡ B.numbers.commit + commit_count past → ((n : ℕ) → x ≡ Reading n → ⊥) → F ≡ forest_in B past x
-forest_newest B past forests x number F are found number_is not_reading = forest_found B past forests (number - B.numbers.commit) F are found ∙ ap (after B past) place ∙ by_state x not_reading
+    → slice_get forests (min (number - B.numbers.commit) (length forests - 1)) ≡ Some F → number ≡ B.numbers.commit + commit_count past
+    → ((n : ℕ) → x ≡ Reading n → ⊥) → F ≡ forest_in B past x
+forest_newest B past forests x number F are found number_is not_reading = forest_found B past forests (number - B.numbers.commit) F are found
+    ∙ ap (after B past) place ∙ by_state x not_reading
   where
     place : number - B.numbers.commit ≡ commit_count past
     place = omega arith

@@ -81,7 +81,8 @@ state_unrun codes.ReadOnly is = refl
 state_unrun codes.Updating is = refl
 state_unrun code is = absurd (true≢false (sym is))
 
-plain_settles : (B : Base) (x : State) (call : Option Call) (code : Code) (past : List Event) → is_plain code ≡ true → SettlingOfAnswer B.numbers x call (says.Error code) past
+plain_settles : (B : Base) (x : State) (call : Option Call) (code : Code) (past : List Event) → is_plain code ≡ true
+    → SettlingOfAnswer B.numbers x call (says.Error code) past
 plain_settles B x call (codes.Failed mark) past is = absurd (true≢false (sym is))
 plain_settles B x call (codes.InDoubt mark) past is = absurd (true≢false (sym is))
 plain_settles B x call (codes.Spent kind number) past is = absurd (true≢false (sym is))
@@ -123,7 +124,8 @@ dropped_tells (Some there) name F = refl
 dropped_tells None name F = refl
 
 lines_tell : (all : List Line) → tells (says_of (answer_of all)) ≡ true
-lines_tell all = elim (nat_lt REPLY_BYTES_MAX (length (text_of all))) as (λ b. tells (says_of (if b then error codes.ReplyTooLong else lines all)) ≡ true) [ true ↦ refl | false ↦ refl ]
+lines_tell all = elim (nat_lt REPLY_BYTES_MAX (length (text_of all))) as
+    (λ b. tells (says_of (if b then error codes.ReplyTooLong else lines all)) ≡ true) [ true ↦ refl | false ↦ refl ]
 
 exported_tells : (o : Option Doc) → tells (says_of (exported o)) ≡ true
 exported_tells (Some doc) = lines_tell (pyx doc)
@@ -199,7 +201,8 @@ no_checkpoint : (call : Call) (past : List Event) → is_statement call ≡ true
 no_checkpoint Checkpoint past is = absurd (true≢false (sym is))
 no_checkpoint call past is = tt
 
-told_settles : (B : Base) (x : State) (call : Call) (answer : Says) (past : List Event) → is_statement call ≡ true → is_told answer ≡ true → SettlingOfAnswer B.numbers x (Some call) answer past
+told_settles : (B : Base) (x : State) (call : Call) (answer : Says) (past : List Event) → is_statement call ≡ true → is_told answer ≡ true
+    → SettlingOfAnswer B.numbers x (Some call) answer past
 told_settles B x call says.Done past statement is = no_checkpoint call past statement
 told_settles B x call (says.Lines all) past statement is = tt
 told_settles B x call (says.Error code) past statement is = plain_settles B x (Some call) code past (code_plain code is)
@@ -264,12 +267,14 @@ passing (Load name pyx_lines) answer statement is = is
 passing (Export name) answer statement is = is
 passing call answer statement is = absurd (true≢false (sym statement))
 
-passes_table : (call : Call) (answer : Says) (refusal : Option Code) → refusal ≡ None → is_statement call ≡ true → answers_statement answer ≡ true → IsByTable refusal (work_of call) answer
+passes_table : (call : Call) (answer : Says) (refusal : Option Code) → refusal ≡ None → is_statement call ≡ true → answers_statement answer ≡ true
+    → IsByTable refusal (work_of call) answer
 passes_table call answer refusal passes statement is = subst (λ o. IsByTable o (work_of call) answer) (sym passes) (passing call answer statement is)
 
 -- ---- locks
 
-free_by : (mode : LockMode) (exclusive there : Bool) → exclusive ≡ false → (is_exclusive mode ≡ true → there ≡ false) → conflicts (mode_by exclusive there) mode ≡ false
+free_by : (mode : LockMode) (exclusive there : Bool) → exclusive ≡ false → (is_exclusive mode ≡ true → there ≡ false)
+    → conflicts (mode_by exclusive there) mode ≡ false
 free_by mode true there none not_there = absurd (true≢false none)
 free_by S false true none not_there = refl
 free_by S false false none not_there = refl
@@ -297,9 +302,11 @@ held_by_last asked t kinds.Updating is held = held
 held_by_last asked t (kinds.Reading n) is held = cc
 
 -- a session directly behind its grant holds what was granted
-pub held_behind_grant : (past : List Event) (s : ℕ) (asked : List Need) → state s past ≡ Updating → last_of s past ≡ Some (Granted s asked) → AreHeld asked (locks_of s past)
+pub held_behind_grant : (past : List Event) (s : ℕ) (asked : List Need) → state s past ≡ Updating → last_of s past ≡ Some (Granted s asked)
+    → AreHeld asked (locks_of s past)
 held_behind_grant past s asked updating granted = let o = opened (open_of s past) updating in
-    subst (λ z. LastHeldIn asked z → AreHeld asked (locks_in z)) (sym o.is) (held_by_last asked o.transaction o.transaction.kind o.kind_is) (last_held past s asked granted)
+    subst (λ z. LastHeldIn asked z → AreHeld asked (locks_in z)) (sym o.is) (held_by_last asked o.transaction o.transaction.kind o.kind_is)
+    (last_held past s asked granted)
 
 -- the grant itself is one, also of a call without needs
 pub granted_as : (s : ℕ) (asked : List Need) (past : List Event) → last_of s past ≡ Some (Granted s asked) → AreGranted s asked past
@@ -323,7 +330,8 @@ nothing_seen B Updating calls past none = tt
 nothing_seen B (Reading n) calls past none = subst (AnsweredAt (after B past (n - B.numbers.commit))) (sym none) tt
 nothing_seen B InDoubt calls past none = tt
 
-no_locks : (x : State) (s : ℕ) (r : Reply) (past : List Event) → ran r ≡ [] → (x ≡ Updating → MeetsNoConflict s r.call r.says past) → IsAnsweredWithLocks x s r past
+no_locks : (x : State) (s : ℕ) (r : Reply) (past : List Event) → ran r ≡ [] → (x ≡ Updating → MeetsNoConflict s r.call r.says past)
+    → IsAnsweredWithLocks x s r past
 no_locks Idle s r past none meets = tt
 no_locks Updating s r past none meets = (subst (λ calls. RanGranted s calls past) (sym none) tt, meets refl)
 no_locks (Reading n) s r past none meets = tt
@@ -337,7 +345,8 @@ none_asked : (s : ℕ) (asked : List Need) (past : List Event) → asked ≡ [] 
 none_asked s asked past none = subst (λ l. AllFree s l past) (sym none) tt
 
 -- an answered call of an updating transaction meets no conflict, also one that the state refuses
-pub meets_none : (s : ℕ) (call : Call) (answer : Says) (past : List Event) → MeetsNoConflict s (Some call) answer past → (answer ≡ says.Error codes.NoMemory → ⊥) → AllFree s (needs call) past
+pub meets_none : (s : ℕ) (call : Call) (answer : Says) (past : List Event) → MeetsNoConflict s (Some call) answer past
+    → (answer ≡ says.Error codes.NoMemory → ⊥) → AllFree s (needs call) past
 meets_none s call answer past meets other = by_refusal (refused_in Updating (work_of call)) refl
   where
     by_refusal : (refusal : Option Code) → refused_in Updating (work_of call) ≡ refusal → AllFree s (needs call) past
@@ -355,12 +364,15 @@ text_in_order InDoubt code is sound = sound refl
 abbrev ran_if : Call → Says → Bool → Bool → List Ran
 ran_if call answer b c = if b then (if c then record { call = call; says = answer } ∷ [] else []) else []
 
-pub one_ran : (call : Call) (answer : Says) → is_statement call ≡ true → says_run answer ≡ true → ran_by (Some call) answer ≡ record { call = call; says = answer } ∷ []
+pub one_ran : (call : Call) (answer : Says) → is_statement call ≡ true → says_run answer ≡ true
+    → ran_by (Some call) answer ≡ record { call = call; says = answer } ∷ []
 one_ran call answer statement runs = ap (λ b. ran_if call answer b (says_run answer)) statement ∙ ap (ran_if call answer true) runs
 
-next_one : (F : Forest) (ts : List Transaction) (t : Transaction) (call : Call) (answer : Says) → ts ≡ t ∷ [] → ran (replied (Some call) answer) ≡ record { call = call; says = answer } ∷ []
+next_one : (F : Forest) (ts : List Transaction) (t : Transaction) (call : Call) (answer : Says) → ts ≡ t ∷ []
+    → ran (replied (Some call) answer) ≡ record { call = call; says = answer } ∷ []
     → answer ≡ says_of (stmt (serial F ts) call).says → IsNextReply F ts (replied (Some call) answer)
-next_one F ts t call answer are runs so = subst (λ us. answer ≡ says_of (stmt (serial F us) call).says → IsNextReply F us (replied (Some call) answer)) (sym are)
+next_one F ts t call answer are runs so =
+    subst (λ us. answer ≡ says_of (stmt (serial F us) call).says → IsNextReply F us (replied (Some call) answer)) (sym are)
     (λ it. (subst (AnsweredInTurn (run_calls F (ran_all t.replies))) (sym runs) (it, tt), tt)) so
 
 abbrev state_by : Bool → BeginKind → State
@@ -377,14 +389,17 @@ reading_not_updating (Some t) n is = by_parts t.in_doubt t.kind is
 
 -- ---- what the documents tell
 
-said_one : (F : Forest) (call : Call) (answer : Says) → ran_by (Some call) answer ≡ record { call = call; says = answer } ∷ [] → IsSaidOf F (ran_by (Some call) answer) → answer ≡ says_of (stmt F call).says
+said_one : (F : Forest) (call : Call) (answer : Says) → ran_by (Some call) answer ≡ record { call = call; says = answer } ∷ []
+    → IsSaidOf F (ran_by (Some call) answer) → answer ≡ says_of (stmt F call).says
 said_one F call answer runs said = (subst (IsSaidOf F) runs said).0
 
 -- a call that ran is answered as on the documents that its session sees
-pub told_by : (B : Base) (s : ℕ) (past : List Event) (x : State) (call : Call) (answer : Says) → state s past ≡ x → is_statement call ≡ true → is_told answer ≡ true
+pub told_by : (B : Base) (s : ℕ) (past : List Event) (x : State) (call : Call) (answer : Says) → state s past ≡ x → is_statement call ≡ true
+    → is_told answer ≡ true
     → IsToldBy B s past (Some call) answer → answer ≡ says_of (stmt (forest_for B s past x) call).says
 told_by B s past x call answer is statement told by =
-    said_one (forest_for B s past x) call answer (one_ran call answer statement (told_runs answer told)) (subst (λ y. IsSaidOf (forest_for B s past y) (ran_by (Some call) answer)) is by)
+    said_one (forest_for B s past x) call answer (one_ran call answer statement (told_runs answer told))
+    (subst (λ y. IsSaidOf (forest_for B s past y) (ran_by (Some call) answer)) is by)
 
 -- and nothing is told of one that did not run
 pub nothing_told : (B : Base) (s : ℕ) (past : List Event) (call : Option Call) (answer : Says) → ran_by call answer ≡ [] → IsToldBy B s past call answer
@@ -393,27 +408,31 @@ nothing_told B s past call answer none = subst (IsSaidOf (forest_for B s past (s
 -- ---- right answers made
 
 module _ (B : Base) (s : ℕ) (past : List Event) where
-  pub right_unrun : (call : Option Call) (answer : Says) → AnswersInOrder B.numbers s past call answer → ran_by call answer ≡ [] → IsRightAnswer B s past call answer
+  pub right_unrun : (call : Option Call) (answer : Says) → AnswersInOrder B.numbers s past call answer → ran_by call answer ≡ []
+      → IsRightAnswer B s past call answer
   right_unrun call answer order none = record { in_order = order; by_documents = nothing_told B s past call answer none }
 
   pub right_lacking : (call : Option Call) → IsRightAnswer B s past call (says.Error codes.NoMemory)
   right_lacking call = right_unrun call (says.Error codes.NoMemory) lacks_memory (none_ran call (says.Error codes.NoMemory) refl)
 
   -- a statement that ran, on the documents of its session's state
-  pub right_ran : (x : State) (call : Call) (answer : Says) → state s past ≡ x → IsTrue (is_statement call) → (is_told answer ≡ true → AnswersInOrder B.numbers s past (Some call) answer)
+  pub right_ran : (x : State) (call : Call) (answer : Says) → state s past ≡ x → IsTrue (is_statement call)
+      → (is_told answer ≡ true → AnswersInOrder B.numbers s past (Some call) answer)
       → answer ≡ says_of (stmt (forest_for B s past x) call).says → IsRightAnswer B s past (Some call) answer
   right_ran x call answer is statement order so =
       let told : is_told answer ≡ true = ap is_told so ∙ stmt_told (forest_for B s past x) call in
       let runs = one_ran call answer statement (told_runs answer told) in record {
         in_order = order told;
-        by_documents = subst (λ y. IsSaidOf (forest_for B s past y) (ran_by (Some call) answer)) (sym is) (subst (IsSaidOf (forest_for B s past x)) (sym runs) (so, tt));
+        by_documents = subst (λ y. IsSaidOf (forest_for B s past y) (ran_by (Some call) answer)) (sym is)
+            (subst (IsSaidOf (forest_for B s past x)) (sym runs) (so, tt));
       }
 
 -- ---- each right answer
 
 module _ (B : Base) (past : List Event) (s : ℕ) where
   unrun : (call : Option Call) (answer : Says) → ran_by call answer ≡ [] → (state s past ≡ Updating → MeetsNoConflict s call answer past)
-      → RefusalsAt (Answered s (replied call answer)) past → SettlingOfAnswer B.numbers (state s past) call answer past → AreMarksOf (state s past) call answer past
+      → RefusalsAt (Answered s (replied call answer)) past → SettlingOfAnswer B.numbers (state s past) call answer past
+      → AreMarksOf (state s past) call answer past
       → Follows (Answered s (replied call answer)) past → IsStep B (Answered s (replied call answer)) past
   unrun call answer none meets refusals settling marks follows = record {
     in_order = in_order (Answered s (replied call answer)) past follows;
@@ -431,7 +450,8 @@ module _ (B : Base) (past : List Event) (s : ℕ) where
   Keeps call answer = Follows (Answered s (replied call answer)) past → IsStep B (Answered s (replied call answer)) past
 
   lacking : (call : Option Call) → Keeps call (says.Error codes.NoMemory)
-  lacking call follows = unrun call (says.Error codes.NoMemory) (none_ran call (says.Error codes.NoMemory) refl) (λ updating. no_memory_meets s call past) (inl refl) tt (tt, tt) follows
+  lacking call follows = unrun call (says.Error codes.NoMemory) (none_ran call (says.Error codes.NoMemory) refl) (λ updating. no_memory_meets s call past)
+      (inl refl) tt (tt, tt) follows
 
   refusing_text : (answer : Says) → RefusesText s answer past → Keeps None answer
   refusing_text answer is = subst (Keeps None) (sym is.says_so) (λ follows. unrun None (says.Error is.code) refl (λ updating. tt)
@@ -441,7 +461,8 @@ module _ (B : Base) (past : List Event) (s : ℕ) where
   refusing_call : (call : Call) (answer : Says) → RefusesCall s call answer past → Keeps (Some call) answer
   refusing_call call answer is =
       let by_state = refused_code (state s past) (work_of call) is.code is.refused in
-      subst (Keeps (Some call)) (sym is.says_so) (λ follows. unrun (Some call) (says.Error is.code) (none_ran (Some call) (says.Error is.code) (ap not (state_unrun is.code by_state)))
+      subst (Keeps (Some call)) (sym is.says_so)
+      (λ follows. unrun (Some call) (says.Error is.code) (none_ran (Some call) (says.Error is.code) (ap not (state_unrun is.code by_state)))
       (λ updating passes other. none_asked s (needs call) past (refused_needs call is.code (ap (λ x. refused_in x (work_of call)) (sym updating) ∙ is.refused)))
       (inr (by_table (state s past) call is.code is.refused)) (plain_settles B (state s past) (Some call) is.code past (state_plain is.code by_state))
       (plain_marks (state s past) (Some call) is.code past (state_plain is.code by_state)) follows)
@@ -454,7 +475,8 @@ module _ (B : Base) (past : List Event) (s : ℕ) where
 
   making_checkpoint : (call : Call) (answer : Says) → MakesCheckpoint s call answer past → Keeps (Some call) answer
   making_checkpoint call answer is = subst (λ c. Keeps (Some c) answer) (sym is.is) (subst (Keeps (Some Checkpoint)) (sym is.says_so)
-      (λ follows. unrun (Some Checkpoint) says.Done refl (λ updating passes other. tt) (inr (checkpoint_order (state s past) is.idle)) is.settled (tt, tt) follows))
+      (λ follows. unrun (Some Checkpoint) says.Done refl (λ updating passes other. tt) (inr (checkpoint_order (state s past) is.idle)) is.settled
+      (tt, tt) follows))
 
   commit_order : (x : State) → x ≡ Updating → IsBehindSettling x (Some Commit) (says.Error (codes.Spent spent.Commit last_number))
   commit_order Idle is = cc
@@ -464,15 +486,20 @@ module _ (B : Base) (past : List Event) (s : ℕ) where
 
   finding_no_number : (call : Call) (answer : Says) → FindsNoNumber B.numbers s call answer past → Keeps (Some call) answer
   finding_no_number call answer is = subst (λ c. Keeps (Some c) answer) (sym is.is) (subst (Keeps (Some Commit)) (sym is.says_so)
-      (λ follows. unrun (Some Commit) (says.Error (codes.Spent spent.Commit last_number)) refl (λ updating passes other. tt) (inr (commit_order (state s past) is.updating))
-      (subst (λ x. SettlingOfAnswer B.numbers x (Some Commit) (says.Error (codes.Spent spent.Commit last_number)) past) (sym is.updating) (refl, (refl, is.none_left))) (tt, tt) follows))
+      (λ follows. unrun (Some Commit) (says.Error (codes.Spent spent.Commit last_number)) refl (λ updating passes other. tt)
+      (inr (commit_order (state s past) is.updating))
+      (subst (λ x. SettlingOfAnswer B.numbers x (Some Commit) (says.Error (codes.Spent spent.Commit last_number)) past) (sym is.updating)
+      (refl, (refl, is.none_left))) (tt, tt) follows))
 
   -- what a call needs is free where its locks were granted
-  meets_where_locked : AtEach LocksAt past → (call : Option Call) (answer : Says) → state s past ≡ Updating → HasItsLocks s call past → MeetsNoConflict s call answer past
+  meets_where_locked : AtEach LocksAt past → (call : Option Call) (answer : Says) → state s past ≡ Updating → HasItsLocks s call past
+      → MeetsNoConflict s call answer past
   meets_where_locked locks None answer updating locked = tt
-  meets_where_locked locks (Some call) answer updating locked = λ passes other. free_where_held past locks s (needs call) (held_where_granted past s (needs call) updating locked)
+  meets_where_locked locks (Some call) answer updating locked =
+      λ passes other. free_where_held past locks s (needs call) (held_where_granted past s (needs call) updating locked)
 
-  running_updating : AtEach LocksAt past → (call : Call) (answer : Says) → RunsUpdating s call answer past → IsToldBy B s past (Some call) answer → Keeps (Some call) answer
+  running_updating : AtEach LocksAt past → (call : Call) (answer : Says) → RunsUpdating s call answer past → IsToldBy B s past (Some call) answer
+      → Keeps (Some call) answer
   running_updating locks call answer is by follows =
       let runs = one_ran call answer is.statement (told_runs answer is.told) in
       let o = opened (open_of s past) is.updating in record {
@@ -487,7 +514,8 @@ module _ (B : Base) (past : List Event) (s : ℕ) where
         serial = tt;
         snapshots = subst (λ x. AnsweredFrom B x (ran_by (Some call) answer) past) (sym is.updating) tt;
         unfinished = tt;
-        refusals = inr (subst (λ x. IsBehindSettling x (Some call) answer) (sym is.updating) (passes_table call answer _ is.passes is.statement (told_answers answer is.told)));
+        refusals = inr (subst (λ x. IsBehindSettling x (Some call) answer) (sym is.updating)
+            (passes_table call answer _ is.passes is.statement (told_answers answer is.told)));
         settling = (told_settles B (state s past) call answer past is.statement is.told, follows.1);
         marks = told_marks (state s past) (Some call) answer past is.told;
         next = next_one (newest B past) (updating (open_of s past)) o.transaction call answer (updating_is (open_of s past) o.transaction o.is o.kind_is) runs
@@ -501,17 +529,21 @@ module _ (B : Base) (past : List Event) (s : ℕ) where
         locks = (subst (λ x. IsAnsweredWithLocks x s (replied (Some call) answer) past) (sym is.reading) tt, follows.0);
         serial = tt;
         snapshots = subst (λ x. AnsweredFrom B x (ran_by (Some call) answer) past) (sym is.reading)
-            (subst (AnsweredAt (after B past (is.number - B.numbers.commit))) (sym runs) (told_by B s past (Reading is.number) call answer is.reading is.statement is.told by, tt));
+            (subst (AnsweredAt (after B past (is.number - B.numbers.commit))) (sym runs)
+            (told_by B s past (Reading is.number) call answer is.reading is.statement is.told by, tt));
         unfinished = tt;
-        refusals = inr (subst (λ x. IsBehindSettling x (Some call) answer) (sym is.reading) (passes_table call answer _ is.passes is.statement (told_answers answer is.told)));
+        refusals = inr (subst (λ x. IsBehindSettling x (Some call) answer) (sym is.reading)
+            (passes_table call answer _ is.passes is.statement (told_answers answer is.told)));
         settling = (told_settles B (state s past) call answer past is.statement is.told, follows.1);
         marks = told_marks (state s past) (Some call) answer past is.told;
         next = subst (λ ts. IsNextReply (newest B past) ts (replied (Some call) answer)) (sym (reading_not_updating (open_of s past) is.number is.reading)) tt;
       }
 
   failing : AtEach LocksAt past → (call : Option Call) (answer : Says) → FailsOnDevice B.numbers s call answer past → Keeps call answer
-  failing locks call answer is = subst (Keeps call) (sym is.says_so) (λ follows. unrun call (says.Error (codes.Failed is.mark)) (none_ran call (says.Error (codes.Failed is.mark)) refl)
-      (λ updating. meets_where_locked locks call (says.Error (codes.Failed is.mark)) updating (is.locked updating)) (inl refl) is.settles (is.next, is.may) follows)
+  failing locks call answer is =
+      subst (Keeps call) (sym is.says_so) (λ follows. unrun call (says.Error (codes.Failed is.mark)) (none_ran call (says.Error (codes.Failed is.mark)) refl)
+      (λ updating. meets_where_locked locks call (says.Error (codes.Failed is.mark)) updating (is.locked updating)) (inl refl) is.settles
+      (is.next, is.may) follows)
 
   page_order : (call : Call) → makes_pages call ≡ true → IsBehindSettling Updating (Some call) (says.Error (codes.Spent spent.Page last_number))
   page_order (Create name) is = refl
@@ -519,13 +551,18 @@ module _ (B : Base) (past : List Event) (s : ℕ) where
   page_order call is = absurd (true≢false (sym is))
 
   finding_no_page : AtEach LocksAt past → (call : Call) (answer : Says) → FindsNoPage s call answer past → Keeps (Some call) answer
-  finding_no_page locks call answer is = subst (Keeps (Some call)) (sym is.says_so) (λ follows. unrun (Some call) (says.Error (codes.Spent spent.Page last_number)) (none_ran (Some call) (says.Error (codes.Spent spent.Page last_number)) refl)
+  finding_no_page locks call answer is =
+      subst (Keeps (Some call)) (sym is.says_so)
+      (λ follows. unrun (Some call) (says.Error (codes.Spent spent.Page last_number))
+      (none_ran (Some call) (says.Error (codes.Spent spent.Page last_number)) refl)
       (λ updating. meets_where_locked locks (Some call) (says.Error (codes.Spent spent.Page last_number)) updating is.granted)
       (inr (subst (λ x. IsBehindSettling x (Some call) (says.Error (codes.Spent spent.Page last_number))) (sym is.updating) (page_order call is.makes)))
-      (subst (λ x. SettlingOfAnswer B.numbers x (Some call) (says.Error (codes.Spent spent.Page last_number)) past) (sym is.updating) (refl, is.makes)) (tt, tt) follows)
+      (subst (λ x. SettlingOfAnswer B.numbers x (Some call) (says.Error (codes.Spent spent.Page last_number)) past) (sym is.updating) (refl, is.makes))
+      (tt, tt) follows)
 
   -- a right answer that tells of no damage, and that its session's last event lets follow, meets its own clauses
-  pub right_step : AtEach LocksAt past → (call : Option Call) (answer : Says) → AnswersInOrder B.numbers s past call answer → IsToldBy B s past call answer → is_damaged answer ≡ false
+  pub right_step : AtEach LocksAt past → (call : Option Call) (answer : Says) → AnswersInOrder B.numbers s past call answer → IsToldBy B s past call answer
+      → is_damaged answer ≡ false
       → Follows (Answered s (replied call answer)) past → IsStep B (Answered s (replied call answer)) past
   right_step locks call _ lacks_memory by sound follows = lacking call follows
   right_step locks _ answer (refuses_text is) by sound follows = refusing_text answer is follows
@@ -541,4 +578,5 @@ module _ (B : Base) (past : List Event) (s : ℕ) where
 -- right answers keep a journal legal so far
 pub answers_keep_legal : AnswersKeepLegal
 answers_keep_legal B journal s reply so_far right sound follows =
-    grows B journal (Answered s reply) so_far (right_step B (past_of journal) s so_far.locks reply.call reply.says right.in_order right.by_documents sound follows)
+    grows B journal (Answered s reply) so_far
+    (right_step B (past_of journal) s so_far.locks reply.call reply.says right.in_order right.by_documents sound follows)

@@ -34,7 +34,8 @@ parted P Q [] zero p q = absurd p
 parted P Q [] (suc place) p q = absurd p
 parted P Q (n ∷ more) zero p q = record { there = n; behind = more; are = refl; first = p; second = q }
 parted P Q (n ∷ more) (suc place) p q =
-    let rest = parted P Q more place p q in record { there = rest.there; behind = rest.behind; are = ap (λ l. n ∷ l) rest.are; first = rest.first; second = rest.second }
+    let rest = parted P Q more place p q in
+    record { there = rest.there; behind = rest.behind; are = ap (λ l. n ∷ l) rest.are; first = rest.first; second = rest.second }
 
 -- a call that needs locks passes the test of an updating transaction
 some_passes : (call : Call) (asked : List Need) → needs_of call ≡ asked → (asked ≡ [] → ⊥) → refused_in Updating (work_of call) ≡ None
@@ -73,7 +74,8 @@ module _ (past : List Event) (locks : Locks) (are : LocksAre locks past) (s : �
       by_test true blocked = absurd (too_low (is.least t (blocked_is t n other ∙ blocked)))
       by_test false not_blocked = refl
 
-  pub refused : (asked : List Need) (name : List ℕ) (holder : ℕ) → state s past ≡ Updating → (call : Call) → needs_of call ≡ asked → IsRefusal locks s asked (Held name holder) → IsRefused s name holder asked past
+  pub refused : (asked : List Need) (name : List ℕ) (holder : ℕ) → state s past ≡ Updating → (call : Call) → needs_of call ≡ asked
+      → IsRefusal locks s asked (Held name holder) → IsRefused s name holder asked past
   refused asked name by updating call needs_are is =
       let place = is.0 in let holder = is.1 in
       let parts = parted (λ n. IsLeastHolder locks s n holder) (λ n. name ≡ n.name) asked place is.2.there is.3.0 in
@@ -94,5 +96,7 @@ module _ (past : List Event) (locks : Locks) (are : LocksAre locks past) (s : �
       }
 
 -- the locks are granted
-pub is_granted : (past : List Event) (locks : Locks) → LocksAre locks past → (s : ℕ) (asked : List Need) → state s past ≡ Updating → 0 < length asked → (call : Call) → needs_of call ≡ asked → All (table.IsFree locks s) asked → IsGranted s asked past
-is_granted past locks are s asked updating some call needs_are free = record { updating = updating; call = call; needs_are = needs_are; some = some; free = all_free past locks are s asked free }
+pub is_granted : (past : List Event) (locks : Locks) → LocksAre locks past → (s : ℕ) (asked : List Need) → state s past ≡ Updating → 0 < length asked
+    → (call : Call) → needs_of call ≡ asked → All (table.IsFree locks s) asked → IsGranted s asked past
+is_granted past locks are s asked updating some call needs_are free =
+    record { updating = updating; call = call; needs_are = needs_are; some = some; free = all_free past locks are s asked free }

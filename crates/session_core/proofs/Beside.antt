@@ -76,17 +76,20 @@ pub agree_of : (locks : List Need) (F G : Forest) → AgreeAt locks F G → Agre
 agree_of [] F G agree name there = absurd (true≢false (sym there))
 agree_of (n ∷ more) F G agree name there = by_place (agree_of more F G agree.1 name) (bytes_eq n.name name) refl there
   where
-    by_place : (has_name name more ≡ true → forests.get F name ≡ forests.get G name) → (b : Bool) → bytes_eq n.name name ≡ b → (b || has_name name more) ≡ true → forests.get F name ≡ forests.get G name
+    by_place : (has_name name more ≡ true → forests.get F name ≡ forests.get G name) → (b : Bool) → bytes_eq n.name name ≡ b → (b || has_name name more) ≡ true
+        → forests.get F name ≡ forests.get G name
     by_place behind true same is = subst (λ z. forests.get F z ≡ forests.get G z) (same_name n.name name same) agree.0
     by_place behind false differ is = behind is
 
 -- ---- what another session commits
 
-serial_agrees_by : (F : Forest) (t : Transaction) (kind : BeginKind) (locks : List Need) → CoveredBy t kind → AreApartLocks (locks_by t kind) locks → Agree locks F (serial F (where_updating t kind))
+serial_agrees_by : (F : Forest) (t : Transaction) (kind : BeginKind) (locks : List Need) → CoveredBy t kind → AreApartLocks (locks_by t kind) locks
+    → Agree locks F (serial F (where_updating t kind))
 serial_agrees_by F t kinds.Updating locks covers apart = λ name there. sym (stays_elsewhere (ran_all t.replies) t.locks F covers name (apart name there))
 serial_agrees_by F t (kinds.Reading n) locks covers apart = λ name there. refl
 
-serial_agrees : (F : Forest) (o : Option Transaction) (locks : List Need) → CoveredIn o → AreApartLocks (locks_in o) locks → Agree locks F (serial F (updating o))
+serial_agrees : (F : Forest) (o : Option Transaction) (locks : List Need) → CoveredIn o → AreApartLocks (locks_in o) locks
+    → Agree locks F (serial F (updating o))
 serial_agrees F None locks covers apart = λ name there. refl
 serial_agrees F (Some t) locks covers apart = serial_agrees_by F t t.kind locks covers apart
 
@@ -99,7 +102,8 @@ apart_locks past locks t s other name there = by_mode (has_exclusive name (locks
     by_mode false is = refl
 
 module _ (B : Base) (past : List Event) (locks : AtEach LocksAt past) (refusals : AtEach RefusalsAt past) (s : ℕ) where
-  committed_agrees : (e : Event) (t : ℕ) → committed_by e past ≡ updating (open_of t past) → (t ≡ s → ⊥) → Agree (locks_of s past) (newest B past) (newest B (e ∷ past))
+  committed_agrees : (e : Event) (t : ℕ) → committed_by e past ≡ updating (open_of t past) → (t ≡ s → ⊥)
+      → Agree (locks_of s past) (newest B past) (newest B (e ∷ past))
   committed_agrees e t by other = λ name there.
       serial_agrees (newest B past) (open_of t past) (locks_of s past) (covered past locks refusals t) (apart_locks past locks t s other) name there
       ∙ ap (λ F. forests.get F name) (ap (serial (newest B past)) (sym by) ∙ sym (newest-more B e past))
@@ -122,7 +126,8 @@ module _ (B : Base) (past : List Event) (locks : AtEach LocksAt past) (refusals 
   newest_agrees (Left t) other = same_agrees (Left t) refl
 
 -- so a forest with the newest documents at the names of an open updating transaction's locks had them before the event
-pub agreed_before : (B : Base) (journal : List Event) → SoFar B journal → (s : ℕ) (t : Transaction) → open_of s (past_of journal) ≡ Some t → t.kind ≡ kinds.Updating → (e : Event) → (whose e ≡ s → ⊥)
+pub agreed_before : (B : Base) (journal : List Event) → SoFar B journal → (s : ℕ) (t : Transaction) → open_of s (past_of journal) ≡ Some t
+    → t.kind ≡ kinds.Updating → (e : Event) → (whose e ≡ s → ⊥)
     → (G : Forest) → AgreeAt t.locks (newest B (e ∷ past_of journal)) G → AgreeAt t.locks (newest B (past_of journal)) G
 agreed_before B journal legal s t open_is kind_is e other G agree = agree_at t.locks (newest B (past_of journal)) G
     (λ name there. kept name there ∙ agree_of t.locks (newest B (e ∷ past_of journal)) G agree name there)
@@ -131,14 +136,16 @@ agreed_before B journal legal s t open_is kind_is e other G agree = agree_at t.l
     locks_are = ap locks_in open_is ∙ ap (locks_by t) kind_is
 
     kept : Agree t.locks (newest B (past_of journal)) (newest B (e ∷ past_of journal))
-    kept = subst (λ locks. Agree locks (newest B (past_of journal)) (newest B (e ∷ past_of journal))) locks_are (newest_agrees B (past_of journal) legal.locks legal.refusals s e other)
+    kept = subst (λ locks. Agree locks (newest B (past_of journal)) (newest B (e ∷ past_of journal))) locks_are
+        (newest_agrees B (past_of journal) legal.locks legal.refusals s e other)
 
 -- ---- whose commit is in doubt
 
 abbrev IsInDoubt : Option Transaction → Type 0
 IsInDoubt o = state_with o ≡ InDoubt
 
-by_whose : {C : Type 0} (t s : ℕ) (old new : Option Transaction) → ((t ≡ s → ⊥) → IsInDoubt old → C) → (t ≡ s → IsInDoubt new → C) → IsInDoubt (if t == s then new else old) → C
+by_whose : {C : Type 0} (t s : ℕ) (old new : Option Transaction) → ((t ≡ s → ⊥) → IsInDoubt old → C) → (t ≡ s → IsInDoubt new → C)
+    → IsInDoubt (if t == s then new else old) → C
 by_whose {C} t s old new before behind = by_test (t == s) refl
   where
     by_test : (b : Bool) → (t == s) ≡ b → IsInDoubt (if b then new else old) → C
@@ -165,20 +172,26 @@ none_or_some s o none some = let e : ◌≡◌ {A = Option ℕ} None (Some s) = 
 -- a session in doubt is the one whose commit is in doubt
 pub doubt_is_of : (B : Base) (past : List Event) → AtEach (SettlingAt B.numbers) past → (s : ℕ) → state s past ≡ InDoubt → in_doubt past ≡ Some s
 doubt_is_of B [] settling s is = absurd (none_sound is)
-doubt_is_of B (Began t kind ∷ past) settling s is = by_whose t s (open_of s past) _ (λ other. doubt_is_of B past settling.1 s) (λ same it. absurd (begun_sound kind it)) is
+doubt_is_of B (Began t kind ∷ past) settling s is =
+    by_whose t s (open_of s past) _ (λ other. doubt_is_of B past settling.1 s) (λ same it. absurd (begun_sound kind it)) is
 doubt_is_of B (Granted t more ∷ past) settling s is = by_whose t s (open_of s past) _ (λ other. doubt_is_of B past settling.1 s)
     (λ same it. doubt_is_of B past settling.1 s (sym (state-with_locks more (open_of s past)) ∙ it)) is
 doubt_is_of B (Refused t name holder more ∷ past) settling s is = doubt_is_of B past settling.1 s is
 doubt_is_of B (Answered t r ∷ past) settling s is = by_whose t s (open_of s past) _ (λ other. doubt_is_of B past settling.1 s)
     (λ same it. doubt_is_of B past settling.1 s (sym (state-with_reply r (open_of s past)) ∙ it)) is
-doubt_is_of B (Committed t n ∷ past) settling s is = by_whose t s (open_of s past) None (λ other. doubt_is_of B past settling.1 s) (λ same it. absurd (none_sound it)) is
-doubt_is_of B (Ended t ∷ past) settling s is = by_whose t s (open_of s past) None (λ other. doubt_is_of B past settling.1 s) (λ same it. absurd (none_sound it)) is
-doubt_is_of B (RolledBack t ∷ past) settling s is = by_whose t s (open_of s past) None (λ other. doubt_is_of B past settling.1 s) (λ same it. absurd (none_sound it)) is
-doubt_is_of B (Left t ∷ past) settling s is = by_whose t s (open_of s past) None (λ other. doubt_is_of B past settling.1 s) (λ same it. absurd (none_sound it)) is
+doubt_is_of B (Committed t n ∷ past) settling s is =
+    by_whose t s (open_of s past) None (λ other. doubt_is_of B past settling.1 s) (λ same it. absurd (none_sound it)) is
+doubt_is_of B (Ended t ∷ past) settling s is =
+    by_whose t s (open_of s past) None (λ other. doubt_is_of B past settling.1 s) (λ same it. absurd (none_sound it)) is
+doubt_is_of B (RolledBack t ∷ past) settling s is =
+    by_whose t s (open_of s past) None (λ other. doubt_is_of B past settling.1 s) (λ same it. absurd (none_sound it)) is
+doubt_is_of B (Left t ∷ past) settling s is =
+    by_whose t s (open_of s past) None (λ other. doubt_is_of B past settling.1 s) (λ same it. absurd (none_sound it)) is
 doubt_is_of B (Doubt t n mark ∷ past) settling s is = by_whose t s (open_of s past) _
     (λ other it. absurd (none_or_some s (in_doubt past) settling.0.0.0 (doubt_is_of B past settling.1 s it))) (λ same it. ap (λ z. Some z) same) is
 doubt_is_of B (Settled by t stands ∷ past) settling s is = by_whose t s (open_of s past) None
-    (λ other it. absurd (other (some_same t s (sym (doubt_is_of B past settling.1 t settling.0.0.0) ∙ doubt_is_of B past settling.1 s it)))) (λ same it. absurd (none_sound it)) is
+    (λ other it. absurd (other (some_same t s (sym (doubt_is_of B past settling.1 t settling.0.0.0) ∙ doubt_is_of B past settling.1 s it))))
+    (λ same it. absurd (none_sound it)) is
 
 -- where nothing is in doubt no session is
 pub none_in_doubt : (B : Base) (past : List Event) → AtEach (SettlingAt B.numbers) past → in_doubt past ≡ None → (s : ℕ) → state s past ≡ InDoubt → ⊥

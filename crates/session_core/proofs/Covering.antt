@@ -40,7 +40,8 @@ AreHeld (n ∷ more) locks = IsHeld n locks × AreHeld more locks
 
 -- the second list has every name of the first, and with X where the first has X
 abbrev pub Covers : List Need → List Need → Type 0
-Covers locks asked = ((name : List ℕ) → has_name name asked ≡ true → has_name name locks ≡ true) × ((name : List ℕ) → has_exclusive name asked ≡ true → has_exclusive name locks ≡ true)
+Covers locks asked = ((name : List ℕ) → has_name name asked ≡ true → has_name name locks ≡ true)
+    × ((name : List ℕ) → has_exclusive name asked ≡ true → has_exclusive name locks ≡ true)
 
 itself : (name : List ℕ) → bytes_eq name name ≡ true
 itself name = (bytes_eq-Decides name name).1 refl
@@ -76,7 +77,8 @@ covers-old old asked = (
 
 held_by_more : (asked old locks : List Need) → Covers locks old → AreHeld asked old → AreHeld asked locks
 held_by_more [] old locks covers held = tt
-held_by_more (n ∷ more) old locks covers held = ((covers.0 n.name held.0.0, λ exclusive. covers.1 n.name (held.0.1 exclusive)), held_by_more more old locks covers held.1)
+held_by_more (n ∷ more) old locks covers held =
+    ((covers.0 n.name held.0.0, λ exclusive. covers.1 n.name (held.0.1 exclusive)), held_by_more more old locks covers held.1)
 
 -- ---- calls that ran
 
@@ -146,7 +148,8 @@ some_same : {A : Type 0} (x y : A) → ◌≡◌ {A = Option A} (Some x) (Some y
 some_same x y e = ap (unwrapped x) e
 
 -- an event of another session leaves the transaction, or ends it
-other_event : (s : ℕ) (asked : List Need) (e : Event) (old : Option Transaction) → (session_of e == s) ≡ false → LastHeldIn asked old → LastHeldIn asked (open_behind s e old)
+other_event : (s : ℕ) (asked : List Need) (e : Event) (old : Option Transaction) → (session_of e == s) ≡ false → LastHeldIn asked old
+    → LastHeldIn asked (open_behind s e old)
 other_event s asked (Began t kind) old other held = subst (λ b. LastHeldIn asked (if b then Some (begun kind) else old)) (sym other) held
 other_event s asked (Granted t more) old other held = subst (λ b. LastHeldIn asked (if b then with_locks more old else old)) (sym other) held
 other_event s asked (Refused t name holder more) old other held = held
@@ -169,7 +172,8 @@ last_held (e ∷ past) s asked is = by_whose (last_held past s asked) (session_o
   where
     granted_here : e ≡ Granted s asked → LastHeldIn asked (open_behind s e (open_of s past))
     granted_here same = subst (λ z. LastHeldIn asked (open_behind s z (open_of s past))) (sym same)
-        (subst (λ b. LastHeldIn asked (if b then with_locks asked (open_of s past) else open_of s past)) (sym (eq-eqb s s refl)) (granted_in asked (open_of s past)))
+        (subst (λ b. LastHeldIn asked (if b then with_locks asked (open_of s past) else open_of s past)) (sym (eq-eqb s s refl))
+        (granted_in asked (open_of s past)))
 
     by_whose : (last_of s past ≡ Some (Granted s asked) → LastHeldIn asked (open_of s past)) → (b : Bool) → (session_of e == s) ≡ b
         → (if b then Some e else last_of s past) ≡ Some (Granted s asked) → LastHeldIn asked (open_behind s e (open_of s past))
@@ -253,7 +257,8 @@ ran_covered s past locks None answer granted order held = tt
 ran_covered s past locks (Some call) answer granted order held = by_statement (is_statement call) (says_run answer) refl granted
   where
     not_shown : says_run answer ≡ true → call ≡ ShowDocuments → ⊥
-    not_shown runs same = true≢false (sym runs ∙ shown_not_run answer (subst (λ c. (IsTrue (is_apart answer)) ⊎ IsBehindSettling Updating (Some c) answer) same order))
+    not_shown runs same = true≢false (sym runs
+        ∙ shown_not_run answer (subst (λ c. (IsTrue (is_apart answer)) ⊎ IsBehindSettling Updating (Some c) answer) same order))
 
     by_statement : (b c : Bool) → says_run answer ≡ c → RanGranted s (ran_if call answer b c) past → AllCovered locks (ran_if call answer b c)
     by_statement true true runs those_granted = ((not_shown runs, held_granted s (needs call) past locks those_granted.0 held), tt)
@@ -282,7 +287,8 @@ doubted : (o : Option Transaction) → CoveredIn o → CoveredIn (with_doubt o)
 doubted None all = tt
 doubted (Some t) all = doubted_by t t.kind all
 
-more_ran : (locks : List Need) (rs : List Reply) (r : Reply) → AllCovered locks (ran_all rs) → AllCovered locks (ran r) → AllCovered locks (ran_all (rs ++ r ∷ []))
+more_ran : (locks : List Need) (rs : List Reply) (r : Reply) → AllCovered locks (ran_all rs) → AllCovered locks (ran r)
+    → AllCovered locks (ran_all (rs ++ r ∷ []))
 more_ran locks rs r front behind = subst (AllCovered locks) (sym (ran_all-one rs r)) (covered-append locks (ran_all rs) (ran r) front behind)
 
 abbrev state_by : Bool → BeginKind → State
@@ -315,7 +321,8 @@ covered_if_same who s old new before behind = by_test (who == s) refl
     by_test false other = before
 
 answered_covered : (who s : ℕ) (past : List Event) (r : Reply) → who ≡ s → CoveredIn (open_of s past)
-    → IsAnsweredWithLocks (state who past) who r past → (IsTrue (is_apart r.says)) ⊎ IsBehindSettling (state who past) r.call r.says → CoveredIn (with_reply r (open_of s past))
+    → IsAnsweredWithLocks (state who past) who r past → (IsTrue (is_apart r.says)) ⊎ IsBehindSettling (state who past) r.call r.says
+    → CoveredIn (with_reply r (open_of s past))
 answered_covered who s past r same all locks order = replied_in s past r (open_of s past) all
     (subst (λ z. IsAnsweredWithLocks (state z past) z r past) same locks)
     (subst (λ z. (IsTrue (is_apart r.says)) ⊎ IsBehindSettling (state z past) r.call r.says) same order)
@@ -325,13 +332,15 @@ answered_covered who s past r same all locks order = replied_in s past r (open_o
 pub covered : (past : List Event) → AtEach LocksAt past → AtEach RefusalsAt past → (s : ℕ) → CoveredIn (open_of s past)
 covered [] locks refusals s = tt
 covered (Began t kind ∷ past) locks refusals s = covered_if (t == s) (open_of s past) _ (covered past locks.1 refusals.1 s) (begun_covered kind)
-covered (Granted t more ∷ past) locks refusals s = covered_if (t == s) (open_of s past) _ (covered past locks.1 refusals.1 s) (more_locks more (open_of s past) (covered past locks.1 refusals.1 s))
+covered (Granted t more ∷ past) locks refusals s =
+    covered_if (t == s) (open_of s past) _ (covered past locks.1 refusals.1 s) (more_locks more (open_of s past) (covered past locks.1 refusals.1 s))
 covered (Refused t name holder asked ∷ past) locks refusals s = covered past locks.1 refusals.1 s
 covered (Answered t r ∷ past) locks refusals s = covered_if_same t s (open_of s past) _ (covered past locks.1 refusals.1 s)
     (λ same. answered_covered t s past r same (covered past locks.1 refusals.1 s) locks.0.0 refusals.0)
 covered (Committed t n ∷ past) locks refusals s = covered_if (t == s) (open_of s past) None (covered past locks.1 refusals.1 s) tt
 covered (Ended t ∷ past) locks refusals s = covered_if (t == s) (open_of s past) None (covered past locks.1 refusals.1 s) tt
 covered (RolledBack t ∷ past) locks refusals s = covered_if (t == s) (open_of s past) None (covered past locks.1 refusals.1 s) tt
-covered (Doubt t n mark ∷ past) locks refusals s = covered_if (t == s) (open_of s past) _ (covered past locks.1 refusals.1 s) (doubted (open_of s past) (covered past locks.1 refusals.1 s))
+covered (Doubt t n mark ∷ past) locks refusals s =
+    covered_if (t == s) (open_of s past) _ (covered past locks.1 refusals.1 s) (doubted (open_of s past) (covered past locks.1 refusals.1 s))
 covered (Settled by t stands ∷ past) locks refusals s = covered_if (t == s) (open_of s past) None (covered past locks.1 refusals.1 s) tt
 covered (Left t ∷ past) locks refusals s = covered_if (t == s) (open_of s past) None (covered past locks.1 refusals.1 s) tt

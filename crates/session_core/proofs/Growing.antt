@@ -40,7 +40,8 @@ newest_is : (B : Base) (past : List Event) → newest B past ≡ serial B.forest
 newest_is B past = ap (serial B.forest) (take-length (commits past))
 
 pub newest-more : (B : Base) (e : Event) (past : List Event) → newest B (e ∷ past) ≡ serial (newest B past) (committed_by e past)
-newest-more B e past = newest_is B (e ∷ past) ∙ serial-append B.forest (commits past) (committed_by e past) ∙ ap (λ F. serial F (committed_by e past)) (sym (newest_is B past))
+newest-more B e past = newest_is B (e ∷ past) ∙ serial-append B.forest (commits past) (committed_by e past)
+    ∙ ap (λ F. serial F (committed_by e past)) (sym (newest_is B past))
 
 -- ---- what an event does to an open transaction that runs next
 
@@ -51,7 +52,8 @@ runs_begun : (F : Forest) (kind : BeginKind) → RunsOn F (Some (begun kind))
 runs_begun F kinds.Updating = (tt, tt)
 runs_begun F (kinds.Reading n) = tt
 
-runs_locked_by : (F : Forest) (more : List Need) (t : Transaction) (kind : BeginKind) → AllInTurn F (where_updating t kind) → AllInTurn F (where_updating (record t { locks = t.locks ++ more }) kind)
+runs_locked_by : (F : Forest) (more : List Need) (t : Transaction) (kind : BeginKind) → AllInTurn F (where_updating t kind)
+    → AllInTurn F (where_updating (record t { locks = t.locks ++ more }) kind)
 runs_locked_by F more t kinds.Updating runs = runs
 runs_locked_by F more t (kinds.Reading n) runs = tt
 
@@ -59,7 +61,8 @@ runs_locked : (F : Forest) (more : List Need) (o : Option Transaction) → RunsO
 runs_locked F more None runs = tt
 runs_locked F more (Some t) runs = runs_locked_by F more t t.kind runs
 
-runs_doubted_by : (F : Forest) (t : Transaction) (kind : BeginKind) → AllInTurn F (where_updating t kind) → AllInTurn F (where_updating (record t { in_doubt = true }) kind)
+runs_doubted_by : (F : Forest) (t : Transaction) (kind : BeginKind) → AllInTurn F (where_updating t kind)
+    → AllInTurn F (where_updating (record t { in_doubt = true }) kind)
 runs_doubted_by F t kinds.Updating runs = runs
 runs_doubted_by F t (kinds.Reading n) runs = tt
 
@@ -79,7 +82,8 @@ answered-append F (x ∷ xs) ys front behind = (front.0, answered-append (stmt F
 
 runs_replied_by : (F : Forest) (r : Reply) (t : Transaction) (kind : BeginKind) → AllInTurn F (where_updating t kind) → IsNextReply F (where_updating t kind) r
     → AllInTurn F (where_updating (record t { replies = t.replies ++ r ∷ [] }) kind)
-runs_replied_by F r t kinds.Updating runs next = (subst (AnsweredInTurn F) (sym (ran_all-one t.replies r)) (answered-append F (ran_all t.replies) (ran r) runs.0 next.0), tt)
+runs_replied_by F r t kinds.Updating runs next =
+    (subst (AnsweredInTurn F) (sym (ran_all-one t.replies r)) (answered-append F (ran_all t.replies) (ran r) runs.0 next.0), tt)
 runs_replied_by F r t (kinds.Reading n) runs next = tt
 
 runs_replied : (F : Forest) (r : Reply) (o : Option Transaction) → RunsOn F o → IsNextReply F (updating o) r → RunsOn F (with_reply r o)
@@ -109,24 +113,31 @@ committed_beside B past locks refusals who s runs = by_test (who == s) refl
 
     by_test : (b : Bool) → (who == s) ≡ b → RunsOn (serial (newest B past) (updating (open_of who past))) (if b then None else open_of s past)
     by_test true same = tt
-    by_test false other = beside_commit (newest B past) (open_of who past) (open_of s past) (covered past locks refusals who) (covered past locks refusals s) (apart (eqb-false who s other)) runs
+    by_test false other = beside_commit (newest B past) (open_of who past) (open_of s past) (covered past locks refusals who) (covered past locks refusals s)
+        (apart (eqb-false who s other)) runs
 
-on_newest : (B : Base) (e : Event) (past : List Event) (s : ℕ) → RunsOn (serial (newest B past) (committed_by e past)) (open_behind s e (open_of s past)) → RunsNext B s (e ∷ past)
+on_newest : (B : Base) (e : Event) (past : List Event) (s : ℕ) → RunsOn (serial (newest B past) (committed_by e past)) (open_behind s e (open_of s past))
+    → RunsNext B s (e ∷ past)
 on_newest B e past s runs = subst (λ F. RunsOn F (open_behind s e (open_of s past))) (sym (newest-more B e past)) runs
 
-next_answer : (B : Base) (who s : ℕ) (r : Reply) (past : List Event) → who ≡ s → RunsNext B s past → IsNextReply (newest B past) (updating (open_of who past)) r → RunsOn (newest B past) (with_reply r (open_of s past))
-next_answer B who s r past same runs next = runs_replied (newest B past) r (open_of s past) runs (subst (λ z. IsNextReply (newest B past) (updating (open_of z past)) r) same next)
+next_answer : (B : Base) (who s : ℕ) (r : Reply) (past : List Event) → who ≡ s → RunsNext B s past → IsNextReply (newest B past) (updating (open_of who past)) r
+    → RunsOn (newest B past) (with_reply r (open_of s past))
+next_answer B who s r past same runs next =
+    runs_replied (newest B past) r (open_of s past) runs (subst (λ z. IsNextReply (newest B past) (updating (open_of z past)) r) same next)
 
 still_runs : (B : Base) (e : Event) (past : List Event) → AtEach LocksAt past → AtEach RefusalsAt past → (s : ℕ) → RunsNext B s past → IsNext B e past
     → RunsOn (serial (newest B past) (committed_by e past)) (open_behind s e (open_of s past))
 still_runs B (Began t kind) past locks refusals s runs next = runs_if (newest B past) (t == s) (open_of s past) _ runs (runs_begun (newest B past) kind)
-still_runs B (Granted t more) past locks refusals s runs next = runs_if (newest B past) (t == s) (open_of s past) _ runs (runs_locked (newest B past) more (open_of s past) runs)
+still_runs B (Granted t more) past locks refusals s runs next =
+    runs_if (newest B past) (t == s) (open_of s past) _ runs (runs_locked (newest B past) more (open_of s past) runs)
 still_runs B (Refused t name holder asked) past locks refusals s runs next = runs
-still_runs B (Answered t r) past locks refusals s runs next = runs_if_same (newest B past) t s (open_of s past) _ runs (λ same. next_answer B t s r past same runs next)
+still_runs B (Answered t r) past locks refusals s runs next =
+    runs_if_same (newest B past) t s (open_of s past) _ runs (λ same. next_answer B t s r past same runs next)
 still_runs B (Committed t n) past locks refusals s runs next = committed_beside B past locks refusals t s runs
 still_runs B (Ended t) past locks refusals s runs next = runs_if (newest B past) (t == s) (open_of s past) None runs tt
 still_runs B (RolledBack t) past locks refusals s runs next = runs_if (newest B past) (t == s) (open_of s past) None runs tt
-still_runs B (Doubt t n mark) past locks refusals s runs next = runs_if (newest B past) (t == s) (open_of s past) _ runs (runs_doubted (newest B past) (open_of s past) runs)
+still_runs B (Doubt t n mark) past locks refusals s runs next =
+    runs_if (newest B past) (t == s) (open_of s past) _ runs (runs_doubted (newest B past) (open_of s past) runs)
 still_runs B (Settled by t true) past locks refusals s runs next = committed_beside B past locks refusals t s runs
 still_runs B (Settled by t false) past locks refusals s runs next = runs_if (newest B past) (t == s) (open_of s past) None runs tt
 still_runs B (Left t) past locks refusals s runs next = runs_if (newest B past) (t == s) (open_of s past) None runs tt
@@ -140,7 +151,8 @@ grows B journal e so_far step = record {
   snapshots = over (AtEach (SnapshotsAt B)) (step.snapshots, so_far.snapshots);
   unfinished = record {
     each = over (AtEach (UnfinishedAt B)) (step.unfinished, so_far.unfinished.each);
-    at_end = over (UnfinishedAtEnd B) (λ s. on_newest B e (past_of journal) s (still_runs B e (past_of journal) so_far.locks so_far.refusals s (so_far.unfinished.at_end s) step.next));
+    at_end = over (UnfinishedAtEnd B)
+        (λ s. on_newest B e (past_of journal) s (still_runs B e (past_of journal) so_far.locks so_far.refusals s (so_far.unfinished.at_end s) step.next));
   };
   refusals = over (AtEach RefusalsAt) (step.refusals, so_far.refusals);
   settling = over (AtEach (SettlingAt B.numbers)) (step.settling, so_far.settling);
@@ -152,4 +164,14 @@ grows B journal e so_far step = record {
 
 -- an empty journal is legal so far
 pub begins : (B : Base) → SoFar B []
-begins B = record { in_order = tt; locks = tt; serial = tt; snapshots = tt; unfinished = record { each = tt; at_end = λ s. tt }; refusals = tt; settling = tt; marks = tt }
+begins B = record {
+  in_order = tt;
+  locks = tt;
+  serial = tt;
+  snapshots = tt;
+  unfinished = record { each = tt; at_end = λ s. tt };
+  refusals = tt;
+  settling =
+      tt;
+  marks = tt;
+}

@@ -43,7 +43,8 @@ first_mode X false exclusive there rest e = e
 
 pub strongest_is : (name : List ℕ) (locks : List Need) → strongest name locks ≡ mode_by (has_exclusive name locks) (has_name name locks)
 strongest_is name [] = refl
-strongest_is name (n ∷ more) = first_mode n.mode (bytes_eq n.name name) (has_exclusive name more) (has_name name more) (strongest name more) (strongest_is name more)
+strongest_is name (n ∷ more) =
+    first_mode n.mode (bytes_eq n.name name) (has_exclusive name more) (has_name name more) (strongest name more) (strongest_is name more)
 
 or_assoc : (a b c : Bool) → ((a || b) || c) ≡ (a || (b || c))
 or_assoc true b c = refl
@@ -51,11 +52,13 @@ or_assoc false b c = refl
 
 pub has_name-append : (name : List ℕ) (xs ys : List Need) → has_name name (xs ++ ys) ≡ (has_name name xs || has_name name ys)
 has_name-append name [] ys = refl
-has_name-append name (n ∷ xs) ys = ap (λ b. bytes_eq n.name name || b) (has_name-append name xs ys) ∙ sym (or_assoc (bytes_eq n.name name) (has_name name xs) (has_name name ys))
+has_name-append name (n ∷ xs) ys = ap (λ b. bytes_eq n.name name || b) (has_name-append name xs ys)
+    ∙ sym (or_assoc (bytes_eq n.name name) (has_name name xs) (has_name name ys))
 
 pub has_exclusive-append : (name : List ℕ) (xs ys : List Need) → has_exclusive name (xs ++ ys) ≡ (has_exclusive name xs || has_exclusive name ys)
 has_exclusive-append name [] ys = refl
-has_exclusive-append name (n ∷ xs) ys = ap (λ b. (is_exclusive n.mode && bytes_eq n.name name) || b) (has_exclusive-append name xs ys) ∙ sym (or_assoc (is_exclusive n.mode && bytes_eq n.name name) (has_exclusive name xs) (has_exclusive name ys))
+has_exclusive-append name (n ∷ xs) ys = ap (λ b. (is_exclusive n.mode && bytes_eq n.name name) || b) (has_exclusive-append name xs ys)
+    ∙ sym (or_assoc (is_exclusive n.mode && bytes_eq n.name name) (has_exclusive name xs) (has_exclusive name ys))
 
 or_cases : (a b : Bool) → (a || b) ≡ true → (a ≡ true) ⊎ (b ≡ true)
 or_cases true b e = inl refl
@@ -82,7 +85,8 @@ pub held_is : (name : List ℕ) (o : Option Transaction) → held_with name o �
 held_is name None = refl
 held_is name (Some t) = held_by name t t.kind ∙ strongest_is name (locks_by t t.kind)
 
-locked_with : (more : List Need) (t : Transaction) (kind : BeginKind) → (locks_by (record t { locks = t.locks ++ more }) kind ≡ locks_by t kind ++ more) ⊎ (locks_by (record t { locks = t.locks ++ more }) kind ≡ [])
+locked_with : (more : List Need) (t : Transaction) (kind : BeginKind)
+    → (locks_by (record t { locks = t.locks ++ more }) kind ≡ locks_by t kind ++ more) ⊎ (locks_by (record t { locks = t.locks ++ more }) kind ≡ [])
 locked_with more t kinds.Updating = inl refl
 locked_with more t (kinds.Reading n) = inr refl
 
@@ -146,7 +150,8 @@ fewer : (name : List ℕ) (old new : Option Transaction) → StaysOrGoes old new
 fewer name old new (inl same) e = ap (has_name name) same ∙ e
 fewer name old new (inr none) e = gone name (locks_in new) none
 
-no_more : (name : List ℕ) (old new : Option Transaction) → StaysOrGoes old new → has_exclusive name (locks_in new) ≡ true → has_exclusive name (locks_in old) ≡ true
+no_more : (name : List ℕ) (old new : Option Transaction) → StaysOrGoes old new → has_exclusive name (locks_in new) ≡ true
+    → has_exclusive name (locks_in old) ≡ true
 no_more name old new (inl same) e = ap (has_exclusive name) (sym same) ∙ e
 no_more name old new (inr none) e = absurd (none_exclusive name (locks_in new) none e)
 
@@ -156,7 +161,8 @@ apart_behind e past is apart s t other name exclusive =
     (apart s t other name (no_more name (open_of s past) (open_behind s e (open_of s past)) (stays_or_goes s e (open_of s past) is) exclusive))
 
 -- where a need is free, no other session holds its name with X, nor at all where the need is exclusive
-free_of : (s : ℕ) (n : Need) (past : List Event) → IsFree s n past → (t : ℕ) → (t ≡ s → ⊥) → conflicts (mode_by (has_exclusive n.name (locks_of t past)) (has_name n.name (locks_of t past))) n.mode ≡ false
+free_of : (s : ℕ) (n : Need) (past : List Event) → IsFree s n past → (t : ℕ) → (t ≡ s → ⊥)
+    → conflicts (mode_by (has_exclusive n.name (locks_of t past)) (has_name n.name (locks_of t past))) n.mode ≡ false
 free_of s n past free t other = ap (λ mode. conflicts mode n.mode) (sym (held_is n.name (open_of t past))) ∙ free t other
 
 not_exclusive : (exclusive there : Bool) (mode : LockMode) → conflicts (mode_by exclusive there) mode ≡ false → exclusive ≡ false
@@ -189,7 +195,8 @@ asked_free s (n ∷ more) past free t other name is = by_place (asked_free s mor
     here both = subst (λ z. has_name z (locks_of t past) ≡ false) (same_name n.name name both.1)
         (exclusive_not_there n.mode (has_exclusive n.name (locks_of t past)) (has_name n.name (locks_of t past)) both.0 (free_of s n past free.0 t other))
 
-    by_place : (has_exclusive name more ≡ true → has_name name (locks_of t past) ≡ false) → ((is_exclusive n.mode && bytes_eq n.name name) ≡ true) ⊎ (has_exclusive name more ≡ true) → has_name name (locks_of t past) ≡ false
+    by_place : (has_exclusive name more ≡ true → has_name name (locks_of t past) ≡ false)
+        → ((is_exclusive n.mode && bytes_eq n.name name) ≡ true) ⊎ (has_exclusive name more ≡ true) → has_name name (locks_of t past) ≡ false
     by_place behind (inl first) = here (and_parts (is_exclusive n.mode) (bytes_eq n.name name) first)
     by_place behind (inr rest) = behind rest
 
@@ -216,7 +223,8 @@ more_apart s asked past free apart t other name is = by_locks (locks-with_locks 
     by_part (inl old) = apart s t other name old
     by_part (inr new) = asked_free s asked past free t (λ same. other (sym same)) name new
 
-    by_locks : (locks_in (with_locks asked (open_of s past)) ≡ locks_of s past ++ asked) ⊎ (locks_in (with_locks asked (open_of s past)) ≡ []) → has_name name (locks_of t past) ≡ false
+    by_locks : (locks_in (with_locks asked (open_of s past)) ≡ locks_of s past ++ asked) ⊎ (locks_in (with_locks asked (open_of s past)) ≡ [])
+        → has_name name (locks_of t past) ≡ false
     by_locks (inl more) = by_part (or_cases _ _ (sym (has_exclusive-append name (locks_of s past) asked) ∙ ap (has_exclusive name) (sym more) ∙ is))
     by_locks (inr none) = absurd (none_exclusive name _ none is)
 
@@ -224,14 +232,17 @@ still_apart : (s : ℕ) (asked : List Need) (past : List Event) → AllFree s as
     → has_exclusive name (locks_of t past) ≡ true → has_name name (locks_in (with_locks asked (open_of s past))) ≡ false
 still_apart s asked past free apart t other name is = by_locks (locks-with_locks asked (open_of s past))
   where
-    by_locks : (locks_in (with_locks asked (open_of s past)) ≡ locks_of s past ++ asked) ⊎ (locks_in (with_locks asked (open_of s past)) ≡ []) → has_name name (locks_in (with_locks asked (open_of s past))) ≡ false
-    by_locks (inl more) = ap (has_name name) more ∙ has_name-append name (locks_of s past) asked ∙ either_false _ _ (apart t s other name is) (not_asked s asked past free t other name is)
+    by_locks : (locks_in (with_locks asked (open_of s past)) ≡ locks_of s past ++ asked) ⊎ (locks_in (with_locks asked (open_of s past)) ≡ [])
+        → has_name name (locks_in (with_locks asked (open_of s past))) ≡ false
+    by_locks (inl more) = ap (has_name name) more ∙ has_name-append name (locks_of s past) asked
+        ∙ either_false _ _ (apart t s other name is) (not_asked s asked past free t other name is)
     by_locks (inr none) = gone name _ none
 
 apart_granted : (who : ℕ) (asked : List Need) (past : List Event) → AllFree who asked past → AreApart past → AreApart (Granted who asked ∷ past)
 apart_granted who asked past free apart s t other name is = by_first (who == s) refl is
   where
-    by_second : (b : Bool) → (who == t) ≡ b → has_exclusive name (locks_of s past) ≡ true → has_name name (locks_in (if b then with_locks asked (open_of t past) else open_of t past)) ≡ false
+    by_second : (b : Bool) → (who == t) ≡ b → has_exclusive name (locks_of s past) ≡ true
+        → has_name name (locks_in (if b then with_locks asked (open_of t past) else open_of t past)) ≡ false
     by_second true same old = subst (λ z. has_name name (locks_in (with_locks asked (open_of z past))) ≡ false) (eqb-true who t same)
         (still_apart who asked past free apart s (λ e. other (e ∙ eqb-true who t same)) name old)
     by_second false differ old = apart s t other name old
@@ -240,8 +251,10 @@ apart_granted who asked past free apart s t other name is = by_first (who == s) 
     first_grants same more = more_apart who asked past free apart t (λ e. other (sym same ∙ e)) name
         (subst (λ z. has_exclusive name (locks_in (with_locks asked (open_of z past))) ≡ true) (sym same) more)
 
-    not_second : who ≡ s → has_name name (locks_of t past) ≡ false → has_name name (locks_in (if who == t then with_locks asked (open_of t past) else open_of t past)) ≡ false
-    not_second same e = ap (λ b. has_name name (locks_in (if b then with_locks asked (open_of t past) else open_of t past))) (ne_eqb who t (λ z. other (sym same ∙ z))) ∙ e
+    not_second : who ≡ s → has_name name (locks_of t past) ≡ false
+        → has_name name (locks_in (if who == t then with_locks asked (open_of t past) else open_of t past)) ≡ false
+    not_second same e = ap (λ b. has_name name (locks_in (if b then with_locks asked (open_of t past) else open_of t past)))
+        (ne_eqb who t (λ z. other (sym same ∙ z))) ∙ e
 
     by_first : (b : Bool) → (who == s) ≡ b → has_exclusive name (locks_in (if b then with_locks asked (open_of s past) else open_of s past)) ≡ true
         → has_name name (locks_in (if who == t then with_locks asked (open_of t past) else open_of t past)) ≡ false

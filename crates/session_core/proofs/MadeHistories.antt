@@ -55,7 +55,8 @@ not_refused : (s : ℕ) (name : List ℕ) (holder : ℕ) (asked : List Need) (ev
 not_refused s name holder asked events free is =
     true≢false (sym is.holds ∙ free_at s is.before is.blocked is.behind events (subst (λ l. AllFree s l events) is.asked_are free) holder is.other)
 
-only_granted : (s : ℕ) (asked : List Need) (k : Kept) → AllFree s asked (past k) → (behind : Kept) → IsAsked s asked k behind → behind ≡ with_event (Granted s asked) k
+only_granted : (s : ℕ) (asked : List Need) (k : Kept) → AllFree s asked (past k) → (behind : Kept) → IsAsked s asked k behind
+    → behind ≡ with_event (Granted s asked) k
 only_granted s asked k free behind (granted all is) = is
 only_granted s asked k free behind (refused name holder not is) = absurd (not_refused s name holder asked (past k) free not)
 

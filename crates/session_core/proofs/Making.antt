@@ -5,7 +5,8 @@ use Rattle.session_core.specs.Kept.{Kept}
 use Rattle.session_core.specs.CoreCalls.{Makes, AreMade}
 
 -- one call more
-pub made_more : (calls : List CoreCall) (call : CoreCall) (old between new : Kept) → AreMade calls old between → Makes call between new → AreMade (calls ++ call ∷ []) old new
+pub made_more : (calls : List CoreCall) (call : CoreCall) (old between new : Kept) → AreMade calls old between → Makes call between new
+    → AreMade (calls ++ call ∷ []) old new
 made_more [] call old between new none makes = (new, (subst (λ k. Makes call k new) none makes, refl))
 made_more (first ∷ more) call old between new made makes = (made.0, (made.1.0, made_more more call made.0 between new made.1.1 makes))
 

@@ -51,7 +51,25 @@ in_order = refl ⊳ refl ⊳ refl ⊳ refl ⊳ refl ⊳ refl ⊳ refl ⊳ tt
 locks : AtEach LocksAt (past_of journal)
 locks =
     (tt, tt) ⊳ (tt, tt)
-    ⊳ (record { updating = refl; call = Create d; needs_are = refl; passes = refl; before = []; blocked = record { name = d; mode = X }; behind = []; asked_are = refl; before_free = tt; name_is = refl; other = λ same. omega (arith, same); holds = refl; least = first_is_least }, tt)
+    ⊳ (
+      record {
+        updating = refl;
+        call = Create d;
+        needs_are = refl;
+        passes = refl;
+        before = [];
+        blocked = record { name = d; mode = X };
+        behind =
+            [];
+        asked_are = refl;
+        before_free = tt;
+        name_is = refl;
+        other = λ same. omega (arith, same);
+        holds = refl;
+        least = first_is_least;
+      },
+      tt,
+    )
     ⊳ (tt, tt)
     ⊳ (((refl, tt), λ passes other. (free_granted shared _, tt)), refl)
     ⊳ (record { updating = refl; call = Export d; needs_are = refl; some = omega arith; free = (free_begun _, tt) }, tt)
@@ -109,4 +127,14 @@ closes = record {
 }
 
 pub is_legal : Legal journal B P
-is_legal = record { closes = closes; locks = locks; serial = serial; snapshots = snapshots; unfinished = unfinished; refusals = refusals; settling = settling; marks = marks }
+is_legal = record {
+  closes = closes;
+  locks = locks;
+  serial = serial;
+  snapshots = snapshots;
+  unfinished = unfinished;
+  refusals = refusals;
+  settling =
+      settling;
+  marks = marks;
+}

@@ -72,7 +72,12 @@ unfinished = record {
 refusals : IsOrdered P (past_of journal)
 refusals = record {
   by_state = inr refl ⊳ tt ⊳ refl ⊳ inr refl ⊳ tt ⊳ refl ⊳ tt;
-  by_text = record { what = Ok Commit; parsed = commit_is; answers = tt } ⊳ tt ⊳ tt ⊳ record { what = Ok (Create d); parsed = create_is; answers = tt } ⊳ tt ⊳ tt ⊳ tt;
+  by_text = record { what = Ok Commit; parsed = commit_is; answers = tt } ⊳ tt ⊳ tt ⊳ record {
+    what = Ok (Create d);
+    parsed = create_is;
+    answers =
+        tt;
+  } ⊳ tt ⊳ tt ⊳ tt;
 }
 
 settling : AtEach (SettlingAt B.numbers) (past_of journal)
@@ -100,7 +105,27 @@ closes = record {
 }
 
 pub is_legal : Legal journal B P
-is_legal = record { closes = closes; locks = locks; serial = serial; snapshots = snapshots; unfinished = unfinished; refusals = refusals; settling = settling; marks = marks }
+is_legal = record {
+  closes = closes;
+  locks = locks;
+  serial = serial;
+  snapshots = snapshots;
+  unfinished = unfinished;
+  refusals = refusals;
+  settling =
+      settling;
+  marks = marks;
+}
 
 pub so_far : SoFar B journal
-so_far = record { in_order = in_order; locks = locks; serial = serial; snapshots = snapshots; unfinished = unfinished; refusals = refusals.by_state; settling = settling; marks = marks }
+so_far = record {
+  in_order = in_order;
+  locks = locks;
+  serial = serial;
+  snapshots = snapshots;
+  unfinished = unfinished;
+  refusals = refusals.by_state;
+  settling =
+      settling;
+  marks = marks;
+}

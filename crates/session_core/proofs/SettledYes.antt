@@ -102,7 +102,17 @@ closes = record {
 }
 
 pub is_legal : Legal journal B P
-is_legal = record { closes = closes; locks = locks; serial = serial; snapshots = snapshots; unfinished = unfinished; refusals = refusals; settling = settling; marks = marks }
+is_legal = record {
+  closes = closes;
+  locks = locks;
+  serial = serial;
+  snapshots = snapshots;
+  unfinished = unfinished;
+  refusals = refusals;
+  settling =
+      settling;
+  marks = marks;
+}
 
 -- and it is so with the first answer
 abbrev answered : List Event

@@ -56,12 +56,14 @@ updating_sound t past is doubt = let e : Updating ≡ InDoubt = sym is ∙ doubt
 open_sound : (t : ℕ) (past : List Event) → IsTrue (is_open (state t past)) → state t past ≡ InDoubt → ⊥
 open_sound t past is doubt = true≢false (sym is ∙ ap is_open doubt)
 
-pub forests_same : (B : Base) (e : Event) (past : List Event) (forests : List Forest) → forests ≡ forests_of B.forest (commits past) → committed_by e past ≡ [] → forests ≡ forests_of B.forest (commits (e ∷ past))
+pub forests_same : (B : Base) (e : Event) (past : List Event) (forests : List Forest) → forests ≡ forests_of B.forest (commits past) → committed_by e past ≡ []
+    → forests ≡ forests_of B.forest (commits (e ∷ past))
 forests_same B e past forests is none = is ∙ ap (forests_of B.forest) (sym (commits_same e past none))
 
 -- ---- one event more
 
-module _ (B : Base) (past : List Event) (states : States) (locks : Locks) (forests : List Forest) (doubt : Option (ℕ × Forest)) (ties : Ties B past states locks forests doubt) where
+module _ (B : Base) (past : List Event) (states : States) (locks : Locks) (forests : List Forest) (doubt : Option (ℕ × Forest))
+    (ties : Ties B past states locks forests doubt) where
   state-begun : (kind : BeginKind) → entry_of (state_with (Some (begun kind))) ≡ Some (state_in kind)
   state-begun kinds.Updating = refl
   state-begun (kinds.Reading n) = refl
@@ -73,9 +75,11 @@ module _ (B : Base) (past : List Event) (states : States) (locks : Locks) (fores
   pub ties_began : (t : ℕ) (kind : BeginKind) → state t past ≡ Idle → Ties B (Began t kind ∷ past) (fin.insert states t (state_in kind)) locks forests doubt
   ties_began t kind idle = record {
     states_are = states_set past states t (state_in kind) (λ o. Some (begun kind)) ties.states_are (state-begun kind);
-    locks_are = locks_same past locks t (λ o. Some (begun kind)) ties.locks_are (λ name. held-begun kind name ∙ ap (held_with name) (sym (idle_none (open_of t past) idle)));
+    locks_are = locks_same past locks t (λ o. Some (begun kind)) ties.locks_are (λ name. held-begun kind name
+        ∙ ap (held_with name) (sym (idle_none (open_of t past) idle)));
     forests_are = forests_same B (Began t kind) past forests ties.forests_are refl;
-    doubt_is = doubt_stays B (Began t kind) past t doubt ties.doubt_is (idle_sound t past idle) (λ s other. elsewhere t s (open_of s past) (Some (begun kind)) other) refl refl;
+    doubt_is = doubt_stays B (Began t kind) past t doubt ties.doubt_is (idle_sound t past idle)
+        (λ s other. elsewhere t s (open_of s past) (Some (begun kind)) other) refl refl;
   }
 
   pub ties_granted : (t : ℕ) (asked : List Need) → state t past ≡ Updating → Ties B (Granted t asked ∷ past) states (granted locks t asked) forests doubt
@@ -83,10 +87,12 @@ module _ (B : Base) (past : List Event) (states : States) (locks : Locks) (fores
     states_are = states_same past states t (with_locks asked) ties.states_are (state-with_locks asked);
     locks_are = locks_granted past locks t asked ties.locks_are updating;
     forests_are = forests_same B (Granted t asked) past forests ties.forests_are refl;
-    doubt_is = doubt_stays B (Granted t asked) past t doubt ties.doubt_is (updating_sound t past updating) (λ s other. elsewhere t s (open_of s past) (with_locks asked (open_of s past)) other) refl refl;
+    doubt_is = doubt_stays B (Granted t asked) past t doubt ties.doubt_is (updating_sound t past updating)
+        (λ s other. elsewhere t s (open_of s past) (with_locks asked (open_of s past)) other) refl refl;
   }
 
-  pub ties_refused : (t : ℕ) (name : List ℕ) (holder : ℕ) (asked : List Need) → state t past ≡ Updating → Ties B (Refused t name holder asked ∷ past) states locks forests doubt
+  pub ties_refused : (t : ℕ) (name : List ℕ) (holder : ℕ) (asked : List Need) → state t past ≡ Updating
+      → Ties B (Refused t name holder asked ∷ past) states locks forests doubt
   ties_refused t name holder asked updating = record {
     states_are = ties.states_are;
     locks_are = ties.locks_are;
@@ -95,7 +101,8 @@ module _ (B : Base) (past : List Event) (states : States) (locks : Locks) (fores
   }
 
   -- an event that ends the session's transaction, and commits and settles nothing
-  ties_gone : (e : Event) (t : ℕ) → ((s : ℕ) → open_of s (e ∷ past) ≡ (if t == s then None else open_of s past)) → committed_by e past ≡ [] → in_doubt (e ∷ past) ≡ in_doubt past
+  ties_gone : (e : Event) (t : ℕ) → ((s : ℕ) → open_of s (e ∷ past) ≡ (if t == s then None else open_of s past)) → committed_by e past ≡ []
+      → in_doubt (e ∷ past) ≡ in_doubt past
       → IsTrue (is_open (state t past)) → Ties B (e ∷ past) (fin.remove states t) (fin.remove locks t) forests doubt
   ties_gone e t ends none same is = record {
     states_are = λ s. states_gone past states t ties.states_are s ∙ ap (λ o. entry_of (state_with o)) (sym (ends s));
@@ -114,17 +121,21 @@ module _ (B : Base) (past : List Event) (states : States) (locks : Locks) (fores
   ties_left t is = ties_gone (Left t) t (λ s. refl) refl refl is
 
   -- the forest behind an updating transaction
-  pub forest_behind-is : (t : ℕ) (u : Transaction) → open_of t past ≡ Some u → u.kind ≡ kinds.Updating → forest_behind B t past ≡ run_calls (newest B past) (ran_all u.replies)
+  pub forest_behind-is : (t : ℕ) (u : Transaction) → open_of t past ≡ Some u → u.kind ≡ kinds.Updating
+      → forest_behind B t past ≡ run_calls (newest B past) (ran_all u.replies)
   forest_behind-is t u is kind_is = ap (serial (newest B past)) (updating_is (open_of t past) u is kind_is)
 
-  commits_one : (e : Event) (t : ℕ) (u : Transaction) → committed_by e past ≡ updating (open_of t past) → open_of t past ≡ Some u → u.kind ≡ kinds.Updating → commits (e ∷ past) ≡ commits past ++ u ∷ []
+  commits_one : (e : Event) (t : ℕ) (u : Transaction) → committed_by e past ≡ updating (open_of t past) → open_of t past ≡ Some u → u.kind ≡ kinds.Updating
+      → commits (e ∷ past) ≡ commits past ++ u ∷ []
   commits_one e t u by is kind_is = ap (λ l. commits past ++ l) (by ∙ updating_is (open_of t past) u is kind_is)
 
-  pub count_one : (e : Event) (t : ℕ) (u : Transaction) → committed_by e past ≡ updating (open_of t past) → open_of t past ≡ Some u → u.kind ≡ kinds.Updating → commit_count (e ∷ past) ≡ commit_count past + 1
+  pub count_one : (e : Event) (t : ℕ) (u : Transaction) → committed_by e past ≡ updating (open_of t past) → open_of t past ≡ Some u → u.kind ≡ kinds.Updating
+      → commit_count (e ∷ past) ≡ commit_count past + 1
   count_one e t u by is kind_is = ap length (commits_one e t u by is kind_is) ∙ length-append (commits past) (u ∷ [])
 
   -- the forest behind a commit is kept
-  forests_more : (e : Event) (t : ℕ) (u : Transaction) (F : Forest) → committed_by e past ≡ updating (open_of t past) → open_of t past ≡ Some u → u.kind ≡ kinds.Updating
+  forests_more : (e : Event) (t : ℕ) (u : Transaction) (F : Forest) → committed_by e past ≡ updating (open_of t past) → open_of t past ≡ Some u
+      → u.kind ≡ kinds.Updating
       → F ≡ run_calls (newest B past) (ran_all u.replies) → forests ++ F ∷ [] ≡ forests_of B.forest (commits (e ∷ past))
   forests_more e t u F by is kind_is is_behind =
       ap (λ (l : List Forest). l ++ F ∷ []) ties.forests_are
@@ -152,7 +163,8 @@ module _ (B : Base) (past : List Event) (states : States) (locks : Locks) (fores
   held-doubted name None = refl
   held-doubted name (Some u) = held-doubted_by name u u.kind
 
-  pub ties_doubted : (t n : ℕ) (mark : Mark) (F : Forest) → state t past ≡ Updating → B.numbers.commit + commit_count past < last_number → F ≡ forest_behind B t past
+  pub ties_doubted : (t n : ℕ) (mark : Mark) (F : Forest) → state t past ≡ Updating → B.numbers.commit + commit_count past < last_number
+      → F ≡ forest_behind B t past
       → Ties B (Doubt t n mark ∷ past) (fin.insert states t InDoubt) locks forests (Some (t, F))
   ties_doubted t n mark F updating left is =
       let o = opened (open_of t past) updating in record {
@@ -165,12 +177,14 @@ module _ (B : Base) (past : List Event) (states : States) (locks : Locks) (fores
           open_is = here t (open_of t past) (with_doubt (open_of t past)) ∙ ap with_doubt o.is;
           kind_is = o.kind_is;
           marked = refl;
-          forest_is = is ∙ forest_behind-is t o.transaction o.is o.kind_is ∙ ap (λ G. run_calls G (ran_all o.transaction.replies)) (sym (newest_same B (Doubt t n mark) past refl));
+          forest_is = is ∙ forest_behind-is t o.transaction o.is o.kind_is
+              ∙ ap (λ G. run_calls G (ran_all o.transaction.replies)) (sym (newest_same B (Doubt t n mark) past refl));
           left = subst (λ k. B.numbers.commit + k < last_number) (sym (count_same (Doubt t n mark) past refl)) left;
         };
       }
 
-  pub ties_settled_yes : (by s : ℕ) (F : Forest) → IsDoubt B past s F → Ties B (Settled by s true ∷ past) (fin.remove states s) (fin.remove locks s) (forests ++ F ∷ []) None
+  pub ties_settled_yes : (by s : ℕ) (F : Forest) → IsDoubt B past s F
+      → Ties B (Settled by s true ∷ past) (fin.remove states s) (fin.remove locks s) (forests ++ F ∷ []) None
   ties_settled_yes by s F is = record {
     states_are = states_gone past states s ties.states_are;
     locks_are = locks_gone past locks s ties.locks_are;
@@ -178,7 +192,8 @@ module _ (B : Base) (past : List Event) (states : States) (locks : Locks) (fores
     doubt_is = refl;
   }
 
-  pub ties_settled_no : (by s : ℕ) (F : Forest) → IsDoubt B past s F → Ties B (Settled by s false ∷ past) (fin.remove states s) (fin.remove locks s) forests None
+  pub ties_settled_no : (by s : ℕ) (F : Forest) → IsDoubt B past s F
+      → Ties B (Settled by s false ∷ past) (fin.remove states s) (fin.remove locks s) forests None
   ties_settled_no by s F is = record {
     states_are = states_gone past states s ties.states_are;
     locks_are = locks_gone past locks s ties.locks_are;

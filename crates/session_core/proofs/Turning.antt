@@ -36,7 +36,8 @@ same_name a b e = (bytes_eq-Decides a b).0 e
 not_exclusive_in : (asked locks : List Need) → AreHeld asked locks → (name : List ℕ) → has_exclusive name locks ≡ false → has_exclusive name asked ≡ false
 not_exclusive_in [] locks held name none = refl
 not_exclusive_in (n ∷ more) locks held name none = neither _ _
-    (no_part (is_exclusive n.mode) (bytes_eq n.name name) (λ both. true≢false (sym (subst (λ z. has_exclusive z locks ≡ true) (same_name n.name name both.1) (held.0.1 both.0)) ∙ none)))
+    (no_part (is_exclusive n.mode) (bytes_eq n.name name)
+    (λ both. true≢false (sym (subst (λ z. has_exclusive z locks ≡ true) (same_name n.name name both.1) (held.0.1 both.0)) ∙ none)))
     (not_exclusive_in more locks held.1 name none)
 
 -- calls change documents at names that their locks have with X alone
@@ -54,20 +55,23 @@ pub agree_needs : (asked locks : List Need) (F G : Forest) → AreHeld asked loc
 agree_needs [] locks F G held agree = tt
 agree_needs (n ∷ more) locks F G held agree = (agree n.name held.0.0, agree_needs more locks F G held.1 agree)
 
-at_exclusive : (asked : List Need) (F G : Forest) (name : List ℕ) → AgreeAt asked F G → has_exclusive name asked ≡ true → forests.get F name ≡ forests.get G name
+at_exclusive : (asked : List Need) (F G : Forest) (name : List ℕ) → AgreeAt asked F G → has_exclusive name asked ≡ true
+    → forests.get F name ≡ forests.get G name
 at_exclusive [] F G name agree is = absurd (true≢false (sym is))
 at_exclusive (n ∷ more) F G name agree is = by_place (is_exclusive n.mode && bytes_eq n.name name) refl (at_exclusive more F G name agree.1) is
   where
     by_place : (b : Bool) → (is_exclusive n.mode && bytes_eq n.name name) ≡ b → (has_exclusive name more ≡ true → forests.get F name ≡ forests.get G name)
         → (b || has_exclusive name more) ≡ true → forests.get F name ≡ forests.get G name
-    by_place true here rest is = subst (λ z. forests.get F z ≡ forests.get G z) (same_name n.name name (and_parts (is_exclusive n.mode) (bytes_eq n.name name) here).1) agree.0
+    by_place true here rest is =
+        subst (λ z. forests.get F z ≡ forests.get G z) (same_name n.name name (and_parts (is_exclusive n.mode) (bytes_eq n.name name) here).1) agree.0
     by_place false here rest is = rest is
 
 -- they still have behind a call that the locks cover
 agree_behind : (r : Ran) (locks : List Need) (F G : Forest) → IsCovered locks r → Agree locks F G → Agree locks (stmt F r.call).forest (stmt G r.call).forest
 agree_behind r locks F G covered agree name there = by_mode (false_or_true (has_exclusive name (needs r.call)))
   where
-    by_mode : (has_exclusive name (needs r.call) ≡ true) ⊎ (has_exclusive name (needs r.call) ≡ false) → forests.get (stmt F r.call).forest name ≡ forests.get (stmt G r.call).forest name
+    by_mode : (has_exclusive name (needs r.call) ≡ true) ⊎ (has_exclusive name (needs r.call) ≡ false)
+        → forests.get (stmt F r.call).forest name ≡ forests.get (stmt G r.call).forest name
     by_mode (inl is) = at_exclusive (needs r.call) (stmt F r.call).forest (stmt G r.call).forest name
         ((keeps r.call covered.0).after F G (agree_needs (needs r.call) locks F G covered.1 agree)) is
     by_mode (inr none) = (keeps r.call covered.0).elsewhere F name none ∙ agree name there ∙ sym ((keeps r.call covered.0).elsewhere G name none)

@@ -53,7 +53,8 @@ state_at-entry InDoubt = refl
 
 -- the events give the session t the transaction f, and the table this entry
 changed : (past : List Event) (states : States) (t : ℕ) (x : Option State) (f : Option Transaction → Option Transaction) → StatesAre states past
-    → entry_of (state_with (f (open_of t past))) ≡ x → (s : ℕ) → cond (eq_by_cmp nat_cmp s t) x (fin.get states s) ≡ entry_of (state_with (if t == s then f (open_of s past) else open_of s past))
+    → entry_of (state_with (f (open_of t past))) ≡ x → (s : ℕ)
+    → cond (eq_by_cmp nat_cmp s t) x (fin.get states s) ≡ entry_of (state_with (if t == s then f (open_of s past) else open_of s past))
 changed past states t x f are is s = ap (λ b. cond b x (fin.get states s)) (sym (tied t s)) ∙ by_test (t == s) refl
   where
     by_test : (b : Bool) → (t == s) ≡ b → cond b x (fin.get states s) ≡ entry_of (state_with (if b then f (open_of s past) else open_of s past))
@@ -61,15 +62,18 @@ changed past states t x f are is s = ap (λ b. cond b x (fin.get states s)) (sym
     by_test false other = are s
 
 pub states_set : (past : List Event) (states : States) (t : ℕ) (x : State) (f : Option Transaction → Option Transaction) → StatesAre states past
-    → entry_of (state_with (f (open_of t past))) ≡ Some x → (s : ℕ) → fin.get (fin.insert states t x) s ≡ entry_of (state_with (if t == s then f (open_of s past) else open_of s past))
+    → entry_of (state_with (f (open_of t past))) ≡ Some x → (s : ℕ)
+    → fin.get (fin.insert states t x) s ≡ entry_of (state_with (if t == s then f (open_of s past) else open_of s past))
 states_set past states t x f are is s = fin.get-insert nat_cmp_total states t x s ∙ changed past states t (Some x) f are is s
 
-pub states_gone : (past : List Event) (states : States) (t : ℕ) → StatesAre states past → (s : ℕ) → fin.get (fin.remove states t) s ≡ entry_of (state_with (if t == s then None else open_of s past))
+pub states_gone : (past : List Event) (states : States) (t : ℕ) → StatesAre states past → (s : ℕ)
+    → fin.get (fin.remove states t) s ≡ entry_of (state_with (if t == s then None else open_of s past))
 states_gone past states t are s = fin.get-remove nat_cmp_total states t s ∙ changed past states t None (λ o. None) are refl s
 
 -- or a transaction of the same state
 pub states_same : (past : List Event) (states : States) (t : ℕ) (f : Option Transaction → Option Transaction) → StatesAre states past
-    → ((o : Option Transaction) → state_with (f o) ≡ state_with o) → (s : ℕ) → fin.get states s ≡ entry_of (state_with (if t == s then f (open_of s past) else open_of s past))
+    → ((o : Option Transaction) → state_with (f o) ≡ state_with o) → (s : ℕ)
+    → fin.get states s ≡ entry_of (state_with (if t == s then f (open_of s past) else open_of s past))
 states_same past states t f are same s = are s ∙ ap entry_of (by_test (t == s))
   where
     by_test : (b : Bool) → state_with (open_of s past) ≡ state_with (if b then f (open_of s past) else open_of s past)
@@ -134,7 +138,9 @@ nothing_held name (Some names) is = cc
 
 pub locks_gone : (past : List Event) (locks : Locks) (t : ℕ) → LocksAre locks past → (s : ℕ) (name : List ℕ)
     → mode_held (fin.remove locks t) s name ≡ held_with name (if t == s then None else open_of s past)
-locks_gone past locks t are s name = ap (λ o. fin.get (unwrap_or o fin.empty) name) (fin.get-remove nat_cmp_total locks t s ∙ ap (λ b. cond b None (fin.get locks s)) (sym (tied t s))) ∙ by_test (t == s)
+locks_gone past locks t are s name =
+    ap (λ o. fin.get (unwrap_or o fin.empty) name) (fin.get-remove nat_cmp_total locks t s ∙ ap (λ b. cond b None (fin.get locks s)) (sym (tied t s)))
+    ∙ by_test (t == s)
   where
     by_test : (b : Bool) → fin.get (unwrap_or (cond b None (fin.get locks s)) fin.empty) name ≡ held_with name (if b then None else open_of s past)
     by_test true = nothing_held name None refl
@@ -195,7 +201,8 @@ strongest-append name [] ys = sym (both_none (strongest name ys))
 strongest-append name (n ∷ xs) ys = by_test (bytes_eq n.name name) (strongest-append name xs ys)
   where
     by_test : (b : Bool) → strongest name (xs ++ ys) ≡ both (strongest name xs) (strongest name ys)
-        → (if b then Some (stronger n.mode (strongest name (xs ++ ys))) else strongest name (xs ++ ys)) ≡ both (if b then Some (stronger n.mode (strongest name xs)) else strongest name xs) (strongest name ys)
+        → (if b then Some (stronger n.mode (strongest name (xs ++ ys))) else strongest name (xs ++ ys))
+        ≡ both (if b then Some (stronger n.mode (strongest name xs)) else strongest name xs) (strongest name ys)
     by_test true is = ap (λ o. Some (stronger n.mode o)) is ∙ both_more n.mode (strongest name xs) (strongest name ys)
     by_test false is = is
 
@@ -204,7 +211,8 @@ with_needs-held : (name : List ℕ) (asked : List Need) (names : Names) → fin.
 with_needs-held name [] names = refl
 with_needs-held name (n ∷ more) names =
     with_needs-held name more (with_need names n)
-    ∙ ap (λ o. both o (strongest name more)) (fin.get-insert nat_list_cmp_total names n.name (stronger n.mode (fin.get names n.name)) name ∙ ap (λ b. cond b (Some (stronger n.mode (fin.get names n.name))) (fin.get names name)) (back n.name name))
+    ∙ ap (λ o. both o (strongest name more)) (fin.get-insert nat_list_cmp_total names n.name (stronger n.mode (fin.get names n.name)) name
+    ∙ ap (λ b. cond b (Some (stronger n.mode (fin.get names n.name))) (fin.get names name)) (back n.name name))
     ∙ by_test (bytes_eq n.name name) refl
   where
     back : (a b : List ℕ) → eq_by_cmp (slice_cmp nat_cmp) b a ≡ bytes_eq a b
@@ -212,20 +220,23 @@ with_needs-held name (n ∷ more) names =
 
     by_test : (b : Bool) → bytes_eq n.name name ≡ b → both (cond b (Some (stronger n.mode (fin.get names n.name))) (fin.get names name)) (strongest name more)
         ≡ both (fin.get names name) (if b then Some (stronger n.mode (strongest name more)) else strongest name more)
-    by_test true same = ap (λ z. both (Some (stronger n.mode (fin.get names z))) (strongest name more)) (same_name n.name name same) ∙ more_held (fin.get names name) n.mode (strongest name more)
+    by_test true same = ap (λ z. both (Some (stronger n.mode (fin.get names z))) (strongest name more)) (same_name n.name name same)
+        ∙ more_held (fin.get names name) n.mode (strongest name more)
     by_test false other = refl
 
 pub locks_granted : (past : List Event) (locks : Locks) (t : ℕ) (asked : List Need) → LocksAre locks past → state t past ≡ Updating → (s : ℕ) (name : List ℕ)
     → mode_held (granted locks t asked) s name ≡ held_with name (if t == s then with_locks asked (open_of s past) else open_of s past)
 locks_granted past locks t asked are updating s name =
-    ap (λ o. fin.get (unwrap_or o fin.empty) name) (fin.get-insert nat_cmp_total locks t (with_needs asked (names_of locks t)) s ∙ ap (λ b. cond b (Some (with_needs asked (names_of locks t))) (fin.get locks s)) (sym (tied t s)))
+    ap (λ o. fin.get (unwrap_or o fin.empty) name) (fin.get-insert nat_cmp_total locks t (with_needs asked (names_of locks t)) s
+    ∙ ap (λ b. cond b (Some (with_needs asked (names_of locks t))) (fin.get locks s)) (sym (tied t s)))
     ∙ by_test (t == s) refl
   where
     grants : (o : Option Transaction) → state_with o ≡ Updating → both (held_with name o) (strongest name asked) ≡ held_with name (with_locks asked o)
     grants None is = cc
     grants (Some u) is = by_kind u.kind (opened_parts u.in_doubt u.kind is).0
       where
-        by_kind : (kind : BeginKind) → kind ≡ kinds.Updating → both (held_in name u kind) (strongest name asked) ≡ held_in name (record u { locks = u.locks ++ asked }) kind
+        by_kind : (kind : BeginKind) → kind ≡ kinds.Updating
+            → both (held_in name u kind) (strongest name asked) ≡ held_in name (record u { locks = u.locks ++ asked }) kind
         by_kind kinds.Updating is = sym (strongest-append name u.locks asked)
         by_kind (kinds.Reading n) is = cc
 
@@ -240,7 +251,8 @@ locks_granted past locks t asked are updating s name =
 pub commits_same : (e : Event) (past : List Event) → committed_by e past ≡ [] → commits (e ∷ past) ≡ commits past
 commits_same e past none = ap (λ l. commits past ++ l) none ∙ append-nil (commits past)
 
-pub forests_of-more : (F : Forest) (ts : List Transaction) (t : Transaction) → forests_of F (ts ++ t ∷ []) ≡ forests_of F ts ++ run_calls (serial F ts) (ran_all t.replies) ∷ []
+pub forests_of-more : (F : Forest) (ts : List Transaction) (t : Transaction)
+    → forests_of F (ts ++ t ∷ []) ≡ forests_of F ts ++ run_calls (serial F ts) (ran_all t.replies) ∷ []
 forests_of-more F [] t = refl
 forests_of-more F (u ∷ ts) t = ap (λ l. F ∷ l) (forests_of-more (run_calls F (ran_all u.replies)) ts t)
 

@@ -66,7 +66,8 @@ Meets (calls.Left s) k = IsTrue (is_open (state s (past k))) × Follows (events.
 -- The locks are granted where all are free, and else refused.
 pub data IsAsked (s : ℕ) (asked : List Need) (old new : Kept) : Type 0 where
   granted : AllFree s asked (past old) → new ≡ with_event (Granted s asked) old → IsAsked s asked old new
-  refused : (name : List ℕ) (holder : ℕ) → IsRefused s name holder asked (past old) → new ≡ with_event (Refused s name holder asked) old → IsAsked s asked old new
+  refused : (name : List ℕ) (holder : ℕ) → IsRefused s name holder asked (past old) → new ≡ with_event (Refused s name holder asked) old
+      → IsAsked s asked old new
 
 -- what the call leaves, where there is memory
 abbrev pub Makes : CoreCall → Kept → Kept → Type 0

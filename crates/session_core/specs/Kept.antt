@@ -29,7 +29,8 @@ kept_code = code_by (((ℕ × ℕ) × Forest) × List Event)
     (λ _. refl)
 
 abbrev pub kept_of : ℕ → ℕ → Forest → List Event → Kept
-kept_of commit generation forest journal = record { base = record { numbers = record { commit = commit; generation = generation }; forest = forest }; journal = journal }
+kept_of commit generation forest journal =
+    record { base = record { numbers = record { commit = commit; generation = generation }; forest = forest }; journal = journal }
 
 -- one event more, and all else as it is
 abbrev pub with_event : Event → Kept → Kept

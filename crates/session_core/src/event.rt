@@ -1,3 +1,4 @@
+// Events of a journal, what they keep, and the states of sessions.
 use xq_ast::{Call, Code, Mark, NeedList, Sequence, Str, StrList};
 
 /// The kind of a transaction.

@@ -33,4 +33,3 @@ pub use keeping::Core;
 pub use laws::{
     a_legal_journal_grows, an_empty_journal_is_legal, right_answers_keep_a_journal_legal,
 };
-

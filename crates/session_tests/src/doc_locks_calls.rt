@@ -1,3 +1,4 @@
+// The table of locks: each call with ample memory, and who is named.
 use doc_locks::{AskEnd, LockTable};
 use std::alloc::Global;
 use std::process::Abort;

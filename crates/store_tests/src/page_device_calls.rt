@@ -1,3 +1,4 @@
+// The device in memory and over files: what it fails at, and what a crash leaves.
 ghost use Rattle.std.specs.Prelude.{IfOk, IfSome};
 ghost use Rattle.page_device.specs.MemDevice.{contents_of, MayLeave};
 ghost use Rattle.page_device.specs.Gate.{IsAtRest};

@@ -1,3 +1,4 @@
+// The log: each call with ample memory, and a device that fails at each of its calls.
 ghost use Rattle.std.specs.Prelude.{◌≡◌, ◌≤◌, [], IfOk, IfSome, All, length};
 ghost use Rattle.page_device.specs.MemDevice.{contents_of, MayLeave};
 ghost use Rattle.redo_log.specs.Append.{IsAtRest};

@@ -65,11 +65,13 @@ module _ (pages : Pages) where
   -- all references of a chain lead to pieces
   pub chain_pieces : (rs : List TextRef) (at q : TextRef) → IsChain pages at rs → is_listed rs q ≡ true → IsPiece pages q
   chain_pieces [] at q chain is = absurd (true≢false (sym is))
-  chain_pieces (r ∷ rs) at q chain is = listed_cases r rs q is (λ same. subst (IsPiece pages) (sym same) chain.1) (λ later. chain_pieces rs (next_at pages r) q chain.2 later)
+  chain_pieces (r ∷ rs) at q chain is =
+      listed_cases r rs q is (λ same. subst (IsPiece pages) (sym same) chain.1) (λ later. chain_pieces rs (next_at pages r) q chain.2 later)
 
   module _ (new : Pages) where
     -- a chain whose pieces are as they were is one
-    pub chain_stays : (rs : List TextRef) (at : TextRef) → IsChain pages at rs → ((q : TextRef) → is_listed rs q ≡ true → IsSame pages new q) → IsChain new at rs
+    pub chain_stays : (rs : List TextRef) (at : TextRef) → IsChain pages at rs → ((q : TextRef) → is_listed rs q ≡ true → IsSame pages new q)
+        → IsChain new at rs
     chain_stays [] at chain same = chain
     chain_stays (r ∷ rs) at chain same =
         let here = same r (listed_first r rs) in
@@ -81,7 +83,8 @@ module _ (pages : Pages) where
         let here = same r (listed_first r rs) in let rest = joined_stays rs (λ q is. same q (listed_later r rs q is)) in λ i. here.2 i ++ rest i
 
     -- texts whose pieces are as they were are there
-    pub texts_stay : (texts : TextMap) (m : AreTexts pages texts) → IsForm new → ((at q : TextRef) → IsSome (map.get texts at) → is_listed (m.chain at) q ≡ true → IsSame pages new q) → AreTexts new texts
+    pub texts_stay : (texts : TextMap) (m : AreTexts pages texts) → IsForm new
+        → ((at q : TextRef) → IsSome (map.get texts at) → is_listed (m.chain at) q ≡ true → IsSame pages new q) → AreTexts new texts
     texts_stay texts m form same = record {
       form = form;
       chain = m.chain;
@@ -95,7 +98,8 @@ module _ (pages : Pages) where
         some is = subst IsSome (sym is) refl
 
 -- a piece is put before a text
-pub loose_put : (pages new : Pages) (texts : TextMap) (r next : TextRef) (text rest : List ℕ) → Loose pages texts next rest → Puts pages new r next text → Loose new texts r (text ++ rest)
+pub loose_put : (pages new : Pages) (texts : TextMap) (r next : TextRef) (text rest : List ℕ) → Loose pages texts next rest → Puts pages new r next text
+    → Loose new texts r (text ++ rest)
 unfolding texts_stay
 loose_put pages new texts r next text rest l p = record {
   means = texts_stay pages new texts l.means p.form (λ at q there is. p.kept q (chain_pieces pages (l.means.chain at) at q (l.means.leads at there) is));
@@ -124,7 +128,8 @@ loose_taken pages new texts at text l past t = from l.pieces refl l.leads l.once
     from : (rs : List TextRef) → l.pieces ≡ rs → IsChain pages at rs → IsOnceEach rs → (rest : List ℕ) × Loose new texts (next_at pages at) rest
     from [] is chain once = absurd (omega (arith, chain, past))
     from (x ∷ rs) is chain once =
-        let listed_at : is_listed l.pieces at ≡ true = subst (λ xs. is_listed xs at ≡ true) (sym is) (subst (λ y. is_listed (x ∷ rs) y ≡ true) (sym chain.0) (listed_first x rs)) in
+        let listed_at : is_listed l.pieces at ≡ true =
+        subst (λ xs. is_listed xs at ≡ true) (sym is) (subst (λ y. is_listed (x ∷ rs) y ≡ true) (sym chain.0) (listed_first x rs)) in
         let old : (q : TextRef) → is_listed rs q ≡ true → IsSame pages new q = λ q listed.
         t.kept q (chain_pieces pages rs (next_at pages x) q chain.2 listed) (λ same. true≢false (sym listed ∙ ap (is_listed rs) (same ∙ chain.0) ∙ once.0)) in (
           joined_bytes pages rs,

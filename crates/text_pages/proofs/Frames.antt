@@ -44,7 +44,8 @@ module _ (c : Call) (spares : SparesTexts c) where
   unfolding bytes
   text_was n past is = from (spares.keeps.pages n (omega (arith, past)))
     where
-      wrote : (old new : Option (List ℕ)) → HasFieldWrite c.own.fields n old new → slice_index (unwrap_or new []) 0 ≡ TEXT_KIND → slice_index (unwrap_or old []) 0 ≡ TEXT_KIND
+      wrote : (old new : Option (List ℕ)) → HasFieldWrite c.own.fields n old new → slice_index (unwrap_or new []) 0 ≡ TEXT_KIND
+          → slice_index (unwrap_or old []) 0 ≡ TEXT_KIND
       wrote None new write is = absurd write
       wrote (Some old) None write is = absurd write
       wrote (Some old) (Some new) write is = sym write.kind ∙ is

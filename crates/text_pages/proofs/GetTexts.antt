@@ -27,27 +27,34 @@ use Rattle.text_pages.proofs.Ranges.{split}
 -- a piece passes the tests of a reader
 module _ (set : ℕ → Bool) (k : Known) (all : PageId → Option (List ℕ)) (space : Space) (form : IsForm (among set k all space)) where
   text_page_true : (page : List ℕ) → slice_index page 0 ≡ TEXT_KIND → IsSound page → is_readable page ≡ true
-  text_page_true page kind sound = let slots = sound.slots in let low = sound.low in passes (slice_index page 0) (slots_end page) kind (omega (arith, slots, low))
+  text_page_true page kind sound = let slots = sound.slots in let low = sound.low in
+      passes (slice_index page 0) (slots_end page) kind (omega (arith, slots, low))
     where
       passes : (k e : ℕ) → k ≡ 5 → e ≤ 4096 → (k == 5 && nat_le e 4096) ≡ true
       passes k e five inside = grind (arith, nat_tests)
 
   is_piece_true : (page : List ℕ) (slot : ℕ) → IsSound page → HasPiece page slot → is_piece slot page ≡ true
   is_piece_true page slot sound has =
-      let within = sound.inside slot has in let slots = sound.slots in passes (slots_end page) (piece_at slot page) (piece_length slot page) (omega (arith, slots, within)) within.1 within.2
+      let within = sound.inside slot has in let slots = sound.slots in
+      passes (slots_end page) (piece_at slot page) (piece_length slot page) (omega (arith, slots, within)) within.1 within.2
     where
       passes : (e a n : ℕ) → e ≤ a → 11 ≤ n → a + n ≤ 4096 → (nat_le e a && nat_le 11 n && nat_le (a + n) 4096) ≡ true
       passes e a n behind long within = grind (arith, nat_tests)
 
-  pub piece_page-is : (from : ℕ) (at : TextRef) → IsPiece (among set k all space) at → Gives k all space (piece_page k space from at) (bytes (among set k all space) at.page) (Unit {0})
+  pub piece_page-is : (from : ℕ) (at : TextRef) → IsPiece (among set k all space) at
+      → Gives k all space (piece_page k space from at) (bytes (among set k all space) at.page) (Unit {0})
   piece_page-is from at is =
       let page = bytes (among set k all space) at.page in let sound = form.sound at.page is.0 in let long = sound.long in
       gives_then k all space (asked k (page_in space from) (page_in space at.page))
-      (λ bytes. and_then (tested (page_in space at.page) (is_readable bytes) bytes) (λ page. and_then (tested (page_in space from) (has_piece at.slot page) page) (λ page. tested (page_in space at.page) (is_piece at.slot page) page)))
+      (λ bytes. and_then (tested (page_in space at.page) (is_readable bytes) bytes)
+      (λ page. and_then (tested (page_in space from) (has_piece at.slot page) page) (λ page. tested (page_in space at.page) (is_piece at.slot page) page)))
       page _ (asked-among set k all space (page_in space from) at.page (omega (arith, long)))
       (λ there. inl (
-        ap (λ b. and_then (tested (page_in space at.page) b page) (λ page. and_then (tested (page_in space from) (has_piece at.slot page) page) (λ page. tested (page_in space at.page) (is_piece at.slot page) page))) (text_page_true page is.0 sound)
-            ∙ ap (λ b. and_then (tested (page_in space from) b page) (λ page. tested (page_in space at.page) (is_piece at.slot page) page)) (has_piece_true page at.slot is.1)
+        ap (λ b. and_then (tested (page_in space at.page) b page)
+            (λ page. and_then (tested (page_in space from) (has_piece at.slot page) page)
+            (λ page. tested (page_in space at.page) (is_piece at.slot page) page))) (text_page_true page is.0 sound)
+            ∙ ap (λ b. and_then (tested (page_in space from) b page) (λ page. tested (page_in space at.page) (is_piece at.slot page) page))
+            (has_piece_true page at.slot is.1)
             ∙ ap (λ b. tested (page_in space at.page) b page) (is_piece_true page at.slot sound is.1),
         tt,
       ))
@@ -70,7 +77,8 @@ never_again (suc m) zero rs x xs ys once less one two = absurd (omega (arith, le
 never_again (suc m) (suc n) [] x xs ys once less one two = cc
 never_again (suc m) (suc n) (r ∷ rs) x xs ys once less one two = never_again m n rs x xs ys once.1 (omega (arith, less)) one two
 
-module _ (set : ℕ → Bool) (k : Known) (all : PageId → Option (List ℕ)) (space : Space) (form : IsForm (among set k all space)) (first : TextRef) (rs : List TextRef) (once : IsOnceEach rs) (chain : IsChain (among set k all space) first rs) where
+module _ (set : ℕ → Bool) (k : Known) (all : PageId → Option (List ℕ)) (space : Space) (form : IsForm (among set k all space)) (first : TextRef)
+    (rs : List TextRef) (once : IsOnceEach rs) (chain : IsChain (among set k all space) first rs) where
   abbrev pages : Pages
   pages = among set k all space
 
@@ -94,22 +102,32 @@ module _ (set : ℕ → Bool) (k : Known) (all : PageId → Option (List ℕ)) (
   unfolding next_at bytes_of
   read_more n j h = from (drop n rs) refl h.leads h.joins (j.at.page == 0) refl
     where
-      from : (left : List TextRef) → drop n rs ≡ left → IsChain (among set k all space) j.at left → j.text ++ joined_bytes (among set k all space) left ≡ joined_bytes (among set k all space) rs → (b : Bool) → (j.at.page == 0) ≡ b
+      from : (left : List TextRef) → drop n rs ≡ left → IsChain (among set k all space) j.at left
+          → j.text ++ joined_bytes (among set k all space) left ≡ joined_bytes (among set k all space) rs → (b : Bool) → (j.at.page == 0) ≡ b
           → ReadAs (suc n) (if b then Ok j else and_then (piece_page k space j.from j.at) (λ page. Ok (with_piece j page)))
       from [] is leads joins true none =
           let rest : drop (suc n) rs ≡ [] = drop_more n rs ∙ ap (drop 1) is in
-          record { leads = subst (IsChain (among set k all space) j.at) (sym rest) leads; joins = subst (λ l. j.text ++ joined_bytes (among set k all space) l ≡ joined_bytes (among set k all space) rs) (sym rest) joins }
+          record {
+            leads = subst (IsChain (among set k all space) j.at) (sym rest) leads;
+            joins =
+                subst (λ l. j.text ++ joined_bytes (among set k all space) l ≡ joined_bytes (among set k all space) rs) (sym rest) joins;
+          }
       from [] is leads joins false past = absurd (true≢false (sym (eq-eqb j.at.page 0 leads) ∙ past))
-      from (r ∷ left) is leads joins true none = absurd (piece_past (among set k all space) r form leads.1 (subst (λ (x : TextRef). x.page ≡ 0) leads.0 (eqb-true j.at.page 0 none)))
+      from (r ∷ left) is leads joins true none =
+          absurd (piece_past (among set k all space) r form leads.1 (subst (λ (x : TextRef). x.page ≡ 0) leads.0 (eqb-true j.at.page 0 none)))
       from (r ∷ left) is leads joins false past =
           let rest : drop (suc n) rs ≡ left = drop_more n rs ∙ ap (drop 1) is in
           split (piece_page-is set k all space form j.from j.at (subst (IsPiece (among set k all space)) (sym leads.0) leads.1))
           (λ found. subst (λ r. ReadAs (suc n) (and_then r (λ page. Ok (with_piece j page)))) (sym found.0)
           (record {
-            leads = subst (IsChain (among set k all space) (next_piece j.at.slot (bytes (among set k all space) j.at.page))) (sym rest) (subst (λ (x : TextRef). IsChain (among set k all space) (next_piece x.slot (bytes (among set k all space) x.page)) left) (sym leads.0) leads.2);
-            joins = subst (λ l. (j.text ++ piece_text j.at.slot (bytes (among set k all space) j.at.page)) ++ joined_bytes (among set k all space) l ≡ joined_bytes (among set k all space) rs) (sym rest)
+            leads = subst (IsChain (among set k all space) (next_piece j.at.slot (bytes (among set k all space) j.at.page))) (sym rest)
+                (subst (λ (x : TextRef). IsChain (among set k all space) (next_piece x.slot (bytes (among set k all space) x.page)) left)
+                (sym leads.0) leads.2);
+            joins = subst (λ l. (j.text ++ piece_text j.at.slot (bytes (among set k all space) j.at.page)) ++ joined_bytes (among set k all space) l
+                ≡ joined_bytes (among set k all space) rs) (sym rest)
                 (append_assoc j.text (piece_text j.at.slot (bytes (among set k all space) j.at.page)) (joined_bytes (among set k all space) left)
-                ∙ ap (λ (x : TextRef). j.text ++ (piece_text x.slot (bytes (among set k all space) x.page) ++ joined_bytes (among set k all space) left)) leads.0 ∙ joins);
+                ∙ ap (λ (x : TextRef). j.text ++ (piece_text x.slot (bytes (among set k all space) x.page) ++ joined_bytes (among set k all space) left))
+                leads.0 ∙ joins);
           }))
           (λ need. subst (λ r. ReadAs (suc n) (and_then r (λ page. Ok (with_piece j page)))) (sym need.1.0) (inr need.1.1))
 
@@ -127,7 +145,9 @@ module _ (set : ℕ → Bool) (k : Known) (all : PageId → Option (List ℕ)) (
       let n = is.0 in let j = is.1.0 in let h : HasRead n j = subst (ReadAs n) is.1.1.0 (read_as n) in
       is.1.1.2 ∙ ended (drop n rs) h.leads h.joins
     where
-      ended : (left : List TextRef) → IsChain (among set k all space) is.1.0.at left → is.1.0.text ++ joined_bytes (among set k all space) left ≡ joined_bytes (among set k all space) rs → is.1.0.text ≡ joined_bytes (among set k all space) rs
+      ended : (left : List TextRef) → IsChain (among set k all space) is.1.0.at left
+          → is.1.0.text ++ joined_bytes (among set k all space) left ≡ joined_bytes (among set k all space) rs
+          → is.1.0.text ≡ joined_bytes (among set k all space) rs
       ended [] leads joins = sym (append-nil is.1.0.text) ∙ joins
       ended (r ∷ left) leads joins = absurd (piece_past (among set k all space) r form leads.1 (subst (λ (x : TextRef). x.page ≡ 0) leads.0 is.1.1.1))
 
@@ -142,18 +162,22 @@ module _ (set : ℕ → Bool) (k : Known) (all : PageId → Option (List ℕ)) (
       let one : HasRead m r = subst (ReadAs m) facts.1 (read_as m) in let two : HasRead n s = subst (ReadAs n) facts.2 (read_as n) in
       absurd {A = IsStop k all space end} (again m n r s facts.0 facts.3 facts.4 one two (drop m rs) refl one.leads (drop n rs) refl two.leads)))
     where
-      again : (m n : ℕ) (r s : Joined) → m < n → s.at ≡ r.at → 0 < r.at.page → HasRead m r → HasRead n s → (xs : List TextRef) → drop m rs ≡ xs → IsChain (among set k all space) r.at xs → (ys : List TextRef) → drop n rs ≡ ys → IsChain (among set k all space) s.at ys → ⊥
+      again : (m n : ℕ) (r s : Joined) → m < n → s.at ≡ r.at → 0 < r.at.page → HasRead m r → HasRead n s → (xs : List TextRef) → drop m rs ≡ xs
+          → IsChain (among set k all space) r.at xs → (ys : List TextRef) → drop n rs ≡ ys → IsChain (among set k all space) s.at ys → ⊥
       again m n r s less same some one two [] is leads ys is' leads' = absurd (omega (arith, leads, some))
-      again m n r s less same some one two (x ∷ xs) is leads [] is' leads' = let none : r.at.page ≡ 0 = subst (λ (t : TextRef). t.page ≡ 0) same leads' in absurd (omega (arith, none, some))
+      again m n r s less same some one two (x ∷ xs) is leads [] is' leads' = let none : r.at.page ≡ 0 = subst (λ (t : TextRef). t.page ≡ 0) same leads' in
+          absurd (omega (arith, none, some))
       again m n r s less same some one two (x ∷ xs) is leads (y ∷ ys) is' leads' =
           never_again m n rs x xs ys once less is (is' ∙ ap (λ z. z ∷ ys) (sym leads'.0 ∙ same ∙ leads.0))
 
 -- what the call `get` gives
-alone_means : (set : ℕ → Bool) (k : Known) (all : PageId → Option (List ℕ)) (space : Space) (texts : TextMap) (at : TextRef) (text : List ℕ) → AreTexts (among set k all space) texts → text_in texts at ≡ Some text → (r : Result (List ℕ) PageEnd) → IsStrAt k space at r
+alone_means : (set : ℕ → Bool) (k : Known) (all : PageId → Option (List ℕ)) (space : Space) (texts : TextMap) (at : TextRef) (text : List ℕ)
+    → AreTexts (among set k all space) texts → text_in texts at ≡ Some text → (r : Result (List ℕ) PageEnd) → IsStrAt k space at r
     → MatchResult r (λ s. s ≡ text) (λ end. IsNotGiven k all space at text end)
 alone_means set k all space texts at text m there r is = from (at.page == 0) refl there
   where
-    given : (rs : List TextRef) → IsOnceEach rs → IsChain (among set k all space) at rs → text ≡ joined_bytes (among set k all space) rs → (r : Result (List ℕ) PageEnd) → IsStrAt k space at r → MatchResult r (λ s. s ≡ text) (λ end. IsNotGiven k all space at text end)
+    given : (rs : List TextRef) → IsOnceEach rs → IsChain (among set k all space) at rs → text ≡ joined_bytes (among set k all space) rs
+        → (r : Result (List ℕ) PageEnd) → IsStrAt k space at r → MatchResult r (λ s. s ≡ text) (λ end. IsNotGiven k all space at text end)
     given rs once chain joins (Ok s) is = text_is set k all space m.form at rs once chain s is.0 ∙ sym joins
     given rs once chain joins (Err end) is = split is
         (λ refused. inl (refused_is set k all space m.form at rs once chain end refused))
@@ -162,10 +186,13 @@ alone_means set k all space texts at text m there r is = from (at.page == 0) ref
     same : (x y : List ℕ) → (let o : Option (List ℕ) = Some x in o ≡ Some y) → x ≡ y
     same x y is = cc
 
-    from : (b : Bool) → (at.page == 0) ≡ b → (if b then Some [] else map.get texts at) ≡ Some text → MatchResult r (λ s. s ≡ text) (λ end. IsNotGiven k all space at text end)
+    from : (b : Bool) → (at.page == 0) ≡ b → (if b then Some [] else map.get texts at) ≡ Some text
+        → MatchResult r (λ s. s ≡ text) (λ end. IsNotGiven k all space at text end)
     from true none there = given [] tt (eqb-true at.page 0 none) (sym (same [] text there)) r is
-    from false past there = given (m.chain at) (m.once at (is_some_of (map.get texts at) text there)) (m.leads at (is_some_of (map.get texts at) text there)) (m.joins at text there).0 r is
+    from false past there = given (m.chain at) (m.once at (is_some_of (map.get texts at) text there)) (m.leads at (is_some_of (map.get texts at) text there))
+        (m.joins at text there).0 r is
 
-pub get_means : (k : Known) (all : PageId → Option (List ℕ)) (space : Space) (texts : TextMap) (at : TextRef) (text : List ℕ) → MeansTexts (seen k all space) texts → text_in texts at ≡ Some text
+pub get_means : (k : Known) (all : PageId → Option (List ℕ)) (space : Space) (texts : TextMap) (at : TextRef) (text : List ℕ)
+    → MeansTexts (seen k all space) texts → text_in texts at ≡ Some text
     → (r : Result (List ℕ) PageEnd) → IsStrAt k space at r → MatchResult r (λ s. s ≡ text) (λ end. IsNotGiven k all space at text end)
 get_means k all space texts at text m there r is = alone_means m.reached k all space texts at text m.alone there r is

@@ -51,10 +51,12 @@ module _ (set : ℕ → Bool) (k : Known) (all : PageId → Option (List ℕ)) (
         (λ there. inl (refl, there))
 
     -- a text page
-    pub text_page-is : (from n : ℕ) → IsTextPage (among set k all space) n → Gives k all space (text_page k space from n) (bytes (among set k all space) n) (IsTrue (is_there k (page_in space n)))
+    pub text_page-is : (from n : ℕ) → IsTextPage (among set k all space) n
+        → Gives k all space (text_page k space from n) (bytes (among set k all space) n) (IsTrue (is_there k (page_in space n)))
     text_page-is from n is =
         let page = bytes (among set k all space) n in let long = (form.sound n is).long in
-        gives_then k all space (asked k (page_in space from) (page_in space n)) (λ page. tested (page_in space n) (is_writable page) page) page _ (asked-among set k all space (page_in space from) n (omega (arith, long)))
+        gives_then k all space (asked k (page_in space from) (page_in space n)) (λ page. tested (page_in space n) (is_writable page) page) page _
+        (asked-among set k all space (page_in space from) n (omega (arith, long)))
         (λ there. inl (ap (λ b. tested (page_in space n) b page) (slotted page is (form.sound n is)), there))
 
     text_past : (n : ℕ) → IsTextPage (among set k all space) n → (n == 0) ≡ false
@@ -65,25 +67,34 @@ module _ (set : ℕ → Bool) (k : Known) (all : PageId → Option (List ℕ)) (
 
     -- what it has for a piece, and its room
     pub tried-is : (n size : ℕ) → IsTextPage (among set k all space) n
-        → Gives k all space (tried_in k space n size) (offered n (place_for size (bytes (among set k all space) n)) (bytes (among set k all space) n)) (IsTrue (is_there k (page_in space n)))
+        → Gives k all space (tried_in k space n size) (offered n (place_for size (bytes (among set k all space) n)) (bytes (among set k all space) n))
+        (IsTrue (is_there k (page_in space n)))
     tried-is n size is =
         let page = bytes (among set k all space) n in
-        subst (λ b. Gives k all space (if b then Ok Absent else and_then (text_page k space 0 n) (λ page. Ok (offered n (place_for size page) page))) (offered n (place_for size page) page) (IsTrue (is_there k (page_in space n)))) (sym (text_past n is))
-        (gives_then k all space (text_page k space 0 n) (λ page. Ok (offered n (place_for size page) page)) page _ (text_page-is 0 n is) (λ there. inl (refl, there)))
+        subst (λ b. Gives k all space (if b then Ok Absent else and_then (text_page k space 0 n) (λ page. Ok (offered n (place_for size page) page)))
+        (offered n (place_for size page) page) (IsTrue (is_there k (page_in space n)))) (sym (text_past n is))
+        (gives_then k all space (text_page k space 0 n) (λ page. Ok (offered n (place_for size page) page)) page _ (text_page-is 0 n is)
+        (λ there. inl (refl, there)))
 
-    pub room-is : (n : ℕ) → IsTextPage (among set k all space) n → Gives k all space (room_in k space n) (Some (room (bytes (among set k all space) n))) (Unit {0})
+    pub room-is : (n : ℕ) → IsTextPage (among set k all space) n
+        → Gives k all space (room_in k space n) (Some (room (bytes (among set k all space) n))) (Unit {0})
     room-is n is =
         let page = bytes (among set k all space) n in
-        subst (λ b. Gives k all space (if b then Ok None else and_then (text_page k space 0 n) (λ page. Ok (Some (room page)))) (Some (room page)) (Unit {0})) (sym (text_past n is))
+        subst (λ b. Gives k all space (if b then Ok None else and_then (text_page k space 0 n) (λ page. Ok (Some (room page)))) (Some (room page)) (Unit {0}))
+        (sym (text_past n is))
         (gives_then k all space (text_page k space 0 n) (λ page. Ok (Some (room page))) page _ (text_page-is 0 n is) (λ there. inl (refl, tt)))
 
     -- a piece
-    pub piece-is : (from : ℕ) (at : TextRef) → IsPiece (among set k all space) at → Gives k all space (piece_in k space from at) (bytes (among set k all space) at.page) (IsTrue (is_there k (page_in space at.page)))
+    pub piece-is : (from : ℕ) (at : TextRef) → IsPiece (among set k all space) at
+        → Gives k all space (piece_in k space from at) (bytes (among set k all space) at.page) (IsTrue (is_there k (page_in space at.page)))
     piece-is from at is =
         let page = bytes (among set k all space) at.page in
-        gives_then k all space (text_page k space from at.page) (λ page. and_then (tested (page_in space from) (has_piece at.slot page) page) (λ page. tested (page_in space at.page) (may_go at.slot page) page)) page _ (text_page-is from at.page is.0)
+        gives_then k all space (text_page k space from at.page)
+        (λ page. and_then (tested (page_in space from) (has_piece at.slot page) page) (λ page. tested (page_in space at.page) (may_go at.slot page) page))
+        page _ (text_page-is from at.page is.0)
         (λ there. inl (
-          ap (λ b. and_then (tested (page_in space from) b page) (λ page. tested (page_in space at.page) (may_go at.slot page) page)) (has_piece_true page at.slot is.1)
+          ap (λ b. and_then (tested (page_in space from) b page) (λ page. tested (page_in space at.page) (may_go at.slot page) page))
+              (has_piece_true page at.slot is.1)
               ∙ ap (λ b. tested (page_in space at.page) b page) (may_go_true page at.slot (form.sound at.page is.0) is.1),
           there,
         ))

@@ -39,7 +39,8 @@ module _ (head : List ℕ) (long : length head ≡ 4096) (x : ℕ) where
   pub raised_head : 0 < x → x < 256 ^ 8 → IsTrue (is_head head) → IsTrue (is_head (with_next_page head x))
   raised_head some small is =
       let kind = kind_kept 8 head 2 x (omega arith) (omega (arith, long)) in let next = raised_next small in
-      passes (slice_index head 0) (next_page head) (slice_index (with_next_page head x) 0) (next_page (with_next_page head x)) is kind (omega (arith, next, some))
+      passes (slice_index head 0) (next_page head) (slice_index (with_next_page head x) 0) (next_page (with_next_page head x)) is kind
+      (omega (arith, next, some))
     where
       passes : (k n k' n' : ℕ) → (k == 2 && not (n == 0)) ≡ true → k' ≡ k → 0 < n' → (k' == 2 && not (n' == 0)) ≡ true
       passes k n k' n' is same some = grind (arith, nat_tests)
@@ -70,6 +71,8 @@ module _ (pages new : Pages) (n : ℕ) (form : IsForm pages) (numbered : IsTextP
       tried_x = ap tried_first same ∙ tried_is (bytes pages 0) form.long x small
 
       which_first : (x ≡ 0) ⊎ ((x ≡ n) × IsTextPage new n)
-          → (tried_first (bytes new 0) ≡ 0) ⊎ (((tried_first (bytes new 0) ≡ n) × IsTextPage new n) ⊎ ((tried_first (bytes new 0) ≡ tried_first (bytes pages 0)) × (tried_first (bytes pages 0) ≡ n → IsTextPage new n)))
+          → (tried_first (bytes new 0) ≡ 0)
+          ⊎ (((tried_first (bytes new 0) ≡ n) × IsTextPage new n)
+          ⊎ ((tried_first (bytes new 0) ≡ tried_first (bytes pages 0)) × (tried_first (bytes pages 0) ≡ n → IsTextPage new n)))
       which_first (inl none) = inl (tried_x ∙ none)
       which_first (inr some) = inr (inl (tried_x ∙ some.0, some.1))

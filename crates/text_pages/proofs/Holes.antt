@@ -27,7 +27,8 @@ module _ (hole : Hole) (inside : IsHole hole) where
 
   pub length-moved_slots : (n : ℕ) (page : List ℕ) → n ≤ 1022 → length page ≡ 4096 → length (moved_slots hole n page) ≡ 4096
   length-moved_slots zero page below long = long
-  length-moved_slots (suc n) page below long = length-moved_slot n (moved_slots hole n page) (omega (arith, below)) (length-moved_slots n page (omega (arith, below)) long)
+  length-moved_slots (suc n) page below long =
+      length-moved_slot n (moved_slots hole n page) (omega (arith, below)) (length-moved_slots n page (omega (arith, below)) long)
 
   pub length-moved_pieces : (page : List ℕ) → length page ≡ 4096 → length (moved_pieces hole page) ≡ 4096
   length-moved_pieces page long =

@@ -67,10 +67,12 @@ piece_past pages r form is zero_is = head_is_none (bytes pages 0) form.head (sub
 
 -- the empty text stands beside all texts
 pub loose_empty : (pages : Pages) (texts : TextMap) (at : TextRef) → at.page ≡ 0 → AreTexts pages texts → Loose pages texts at []
-loose_empty pages texts at none m = record { means = m; pieces = []; leads = none; joins = refl; once = tt; apart = λ other r is listed nothing. true≢false (sym nothing) }
+loose_empty pages texts at none m =
+    record { means = m; pieces = []; leads = none; joins = refl; once = tt; apart = λ other r is listed nothing. true≢false (sym nothing) }
 
 -- and a text of the map beside the others
-pub loose_text : (pages : Pages) (texts : TextMap) (at : TextRef) (text : List ℕ) → map.get texts at ≡ Some text → AreTexts pages texts → Loose pages (map.remove texts at) at text
+pub loose_text : (pages : Pages) (texts : TextMap) (at : TextRef) (text : List ℕ) → map.get texts at ≡ Some text → AreTexts pages texts
+    → Loose pages (map.remove texts at) at text
 unfolding means_without
 loose_text pages texts at text is m = record {
   means = means_without pages texts at m;
@@ -84,7 +86,8 @@ loose_text pages texts at text is m = record {
 }
 
 -- a text that has a byte has a piece
-pub first_piece : (pages : Pages) (texts : TextMap) (at : TextRef) (text : List ℕ) → (l : Loose pages texts at text) → at.page ≢ 0 → IsPiece pages at × (is_listed l.pieces at ≡ true)
+pub first_piece : (pages : Pages) (texts : TextMap) (at : TextRef) (text : List ℕ) → (l : Loose pages texts at text) → at.page ≢ 0
+    → IsPiece pages at × (is_listed l.pieces at ≡ true)
 first_piece pages texts at text l past = from l.pieces l.leads
   where
     from : (rs : List TextRef) → IsChain pages at rs → IsPiece pages at × (is_listed rs at ≡ true)
@@ -117,7 +120,8 @@ module _ (pages : Pages) (texts : TextMap) (at : TextRef) (b : ℕ) (bs : List �
       from None is = is
       from (Some old) is =
           let there = is_some_of (map.get texts at) old is in
-          absurd (l.apart at at there (chain_has (l.means.chain at) (l.means.leads at there)) (first_piece pages texts at text l (some_page pages texts at b bs l)).1)
+          absurd (l.apart at at there (chain_has (l.means.chain at) (l.means.leads at there))
+          (first_piece pages texts at text l (some_page pages texts at b bs l)).1)
         where
           chain_has : (rs : List TextRef) → IsChain pages at rs → is_listed rs at ≡ true
           chain_has [] chain = absurd (some_page pages texts at b bs l chain)
@@ -127,7 +131,8 @@ module _ (pages : Pages) (texts : TextMap) (at : TextRef) (b : ℕ) (bs : List �
   chains q = if is_same q at then l.pieces else l.means.chain q
 
   -- an entry of the larger map is the new text, or was there
-  at_more : (q : TextRef) {P : Type 0} → IsSome (map.get more q) → (q ≡ at → is_same q at ≡ true → P) → (is_same q at ≡ false → IsSome (map.get texts q) → P) → P
+  at_more : (q : TextRef) {P : Type 0} → IsSome (map.get more q) → (q ≡ at → is_same q at ≡ true → P) → (is_same q at ≡ false → IsSome (map.get texts q) → P)
+      → P
   at_more q {P = P} is here there = at_bool (is_same q at) refl (sym (ap is_some (get-with texts at q text)) ∙ is)
     where
       at_bool : (c : Bool) → is_same q at ≡ c → is_some (cond c (Some text) (map.get texts q)) ≡ true → P
@@ -142,20 +147,23 @@ module _ (pages : Pages) (texts : TextMap) (at : TextRef) (b : ℕ) (bs : List �
   joins_more : (q : TextRef) (t : List ℕ) → map.get more q ≡ Some t → (t ≡ joined_bytes pages (chains q)) × (0 < length t)
   joins_more q t is = at_bool (is_same q at) refl (sym (get-with texts at q text) ∙ is)
     where
-      at_bool : (c : Bool) → is_same q at ≡ c → cond c (Some text) (map.get texts q) ≡ Some t → (t ≡ joined_bytes pages (if is_same q at then l.pieces else l.means.chain q)) × (0 < length t)
+      at_bool : (c : Bool) → is_same q at ≡ c → cond c (Some text) (map.get texts q) ≡ Some t
+          → (t ≡ joined_bytes pages (if is_same q at then l.pieces else l.means.chain q)) × (0 < length t)
       at_bool true same is = subst (λ c. (t ≡ joined_bytes pages (if c then l.pieces else l.means.chain q)) × (0 < length t)) (sym same)
           (subst (λ t. (t ≡ joined_bytes pages l.pieces) × (0 < length t)) (inner text t is) (l.joins, omega arith))
         where
           inner : (x y : List ℕ) → (let o : Option (List ℕ) = Some x in o ≡ Some y) → x ≡ y
           inner x y is = cc
-      at_bool false differ is = subst (λ c. (t ≡ joined_bytes pages (if c then l.pieces else l.means.chain q)) × (0 < length t)) (sym differ) (l.means.joins q t is)
+      at_bool false differ is =
+          subst (λ c. (t ≡ joined_bytes pages (if c then l.pieces else l.means.chain q)) × (0 < length t)) (sym differ) (l.means.joins q t is)
 
   once_more : (q : TextRef) → IsSome (map.get more q) → IsOnceEach (chains q)
   once_more q is = at_more q is
       (λ one same. subst (λ c. IsOnceEach (if c then l.pieces else l.means.chain q)) (sym same) l.once)
       (λ differ there. subst (λ c. IsOnceEach (if c then l.pieces else l.means.chain q)) (sym differ) (l.means.once q there))
 
-  apart_more : (q other r : TextRef) → IsSome (map.get more q) → IsSome (map.get more other) → is_listed (chains q) r ≡ true → is_listed (chains other) r ≡ true → q ≡ other
+  apart_more : (q other r : TextRef) → IsSome (map.get more q) → IsSome (map.get more other) → is_listed (chains q) r ≡ true → is_listed (chains other) r ≡ true
+      → q ≡ other
   apart_more q other r is is' listed listed' = at_more q is
       (λ one same. at_more other is'
       (λ one' same'. one ∙ sym one')
@@ -164,7 +172,8 @@ module _ (pages : Pages) (texts : TextMap) (at : TextRef) (b : ℕ) (bs : List �
       (λ one' same'. absurd (l.apart q r there (new_or_old q false differ listed) (new_or_old other true same' listed')))
       (λ differ' there'. l.means.apart q other r there there' (new_or_old q false differ listed) (new_or_old other false differ' listed')))
     where
-      new_or_old : (q : TextRef) (c : Bool) → is_same q at ≡ c → is_listed (if is_same q at then l.pieces else l.means.chain q) r ≡ true → is_listed (if c then l.pieces else l.means.chain q) r ≡ true
+      new_or_old : (q : TextRef) (c : Bool) → is_same q at ≡ c → is_listed (if is_same q at then l.pieces else l.means.chain q) r ≡ true
+          → is_listed (if c then l.pieces else l.means.chain q) r ≡ true
       new_or_old q c same listed = subst (λ c. is_listed (if c then l.pieces else l.means.chain q) r ≡ true) same listed
 
   pub means_more : AreTexts pages (map.insert texts at (b ∷ bs))

@@ -29,7 +29,9 @@ pub record HeadForm (pages new : Pages) (n : ℕ) : Type 0 where
   pub last : next_page (bytes new 0) ≤ LAST_PAGE
   pub more : next_page (bytes pages 0) ≤ next_page (bytes new 0)
   pub numbered : IsTextPage new n → n < next_page (bytes new 0)
-  pub first : (tried_first (bytes new 0) ≡ 0) ⊎ (((tried_first (bytes new 0) ≡ n) × IsTextPage new n) ⊎ ((tried_first (bytes new 0) ≡ tried_first (bytes pages 0)) × (tried_first (bytes pages 0) ≡ n → IsTextPage new n)))
+  pub first : (tried_first (bytes new 0) ≡ 0)
+      ⊎ (((tried_first (bytes new 0) ≡ n) × IsTextPage new n)
+      ⊎ ((tried_first (bytes new 0) ≡ tried_first (bytes pages 0)) × (tried_first (bytes pages 0) ≡ n → IsTextPage new n)))
 
 module _ (pages new : Pages) (n : ℕ) (form : IsForm pages) (others : (q : ℕ) → q ≢ n → q ≢ 0 → bytes new q ≡ bytes pages q) (head : HeadForm pages new n) where
   -- a text page isn't the head
@@ -38,7 +40,8 @@ module _ (pages new : Pages) (n : ℕ) (form : IsForm pages) (others : (q : ℕ)
 
   other_text : (q : ℕ) → q ≢ n → IsTextPage new q → (bytes new q ≡ bytes pages q) × IsTextPage pages q
   other_text q differ is =
-      let same = others q differ (λ zero_is. head_is_none (bytes new 0) head.head (subst (IsTextPage new) zero_is is)) in (same, subst (λ (b : List ℕ). slice_index b 0 ≡ TEXT_KIND) same is)
+      let same = others q differ (λ zero_is. head_is_none (bytes new 0) head.head (subst (IsTextPage new) zero_is is)) in
+      (same, subst (λ (b : List ℕ). slice_index b 0 ≡ TEXT_KIND) same is)
 
   kept_text : (q : ℕ) → IsTextPage pages q → q ≢ n → bytes new q ≡ bytes pages q
   kept_text q is differ = others q differ (text_past q is)
@@ -74,7 +77,8 @@ module _ (pages new : Pages) (n : ℕ) (form : IsForm pages) (others : (q : ℕ)
   }
 
   -- page n has a piece more
-  module _ (page : List ℕ) (place : Place) (next : TextRef) (text : List ℕ) (o : IsOpen page) (p : into.IsPlace page place (10 + length text)) (some : 0 < length text)
+  module _ (page : List ℕ) (place : Place) (next : TextRef) (text : List ℕ) (o : IsOpen page) (p : into.IsPlace page place (10 + length text))
+      (some : 0 < length text)
       (kind : slice_index page 0 ≡ TEXT_KIND) (was : IsTextPage pages n → bytes pages n ≡ page) (here : bytes new n ≡ with_piece place next text page)
       (page_small : next.page < 256 ^ 8) (slot_small : next.slot < 256 ^ 2) where
     abbrev at : TextRef
@@ -90,7 +94,11 @@ module _ (pages new : Pages) (n : ℕ) (form : IsForm pages) (others : (q : ℕ)
         let after : bytes new q.page ≡ with_piece place next text page = subst (λ m. bytes new m ≡ with_piece place next text page) (sym same) here in
         let has : HasPiece page q.slot = subst (λ (b : List ℕ). HasPiece b q.slot) before is.1 in
         let within = o.inside q.slot has in (
-          (subst (IsTextPage new) (sym same) is_text, subst (λ (b : List ℕ). HasPiece b q.slot) (sym after) (into.still_has page place next text o.long p q.slot has within.0 within.1)),
+          (
+            subst (IsTextPage new) (sym same) is_text,
+            subst (λ (b : List ℕ). HasPiece b q.slot) (sym after)
+                (into.still_has page place next text o.long p q.slot has within.0 within.1),
+          ),
           ap (next_piece q.slot) after ∙ into.same_next page place next text o.long p q.slot has within.0 within.1 ∙ sym (ap (next_piece q.slot) before),
           ap (piece_text q.slot) after ∙ into.same_text page place next text o.long p q.slot has within.0 within.1 ∙ sym (ap (piece_text q.slot) before),
         )
@@ -119,7 +127,11 @@ module _ (pages new : Pages) (n : ℕ) (form : IsForm pages) (others : (q : ℕ)
         let there : HasPiece page q.slot = subst (λ m. HasPiece (bytes pages m) q.slot) same is.1 in
         let slots : q.slot ≢ slot = λ one. differ (λ i. record { page = same i; slot = one i }) in
         let before = ap (bytes pages) same in let after = ap (bytes new) same ∙ here in (
-          (subst (IsTextPage new) (sym same) still_text, subst (λ (b : List ℕ). HasPiece b q.slot) (sym after) (out.still_has page slot sound has q.slot there slots)),
+          (
+            subst (IsTextPage new) (sym same) still_text,
+            subst (λ (b : List ℕ). HasPiece b q.slot) (sym after)
+                (out.still_has page slot sound has q.slot there slots),
+          ),
           ap (next_piece q.slot) after ∙ out.same_next page slot sound has q.slot there slots ∙ sym (ap (next_piece q.slot) before),
           ap (piece_text q.slot) after ∙ out.same_text page slot sound has q.slot there slots ∙ sym (ap (piece_text q.slot) before),
         )
@@ -136,7 +148,8 @@ module _ (pages new : Pages) (n : ℕ) (form : IsForm pages) (others : (q : ℕ)
     no_other zero t is inside positive = absurd (omega (arith, inside))
     no_other (suc count) t is inside positive = same_or_not t count
         (λ last. last_is last (second_true (others_free count slot (bytes pages n)) (count == slot || piece_at count (bytes pages n) == 0) is))
-        (λ before. no_other count t (first_true (others_free count slot (bytes pages n)) (count == slot || piece_at count (bytes pages n) == 0) is) (omega (arith, before, inside)) positive)
+        (λ before. no_other count t (first_true (others_free count slot (bytes pages n)) (count == slot || piece_at count (bytes pages n) == 0) is)
+        (omega (arith, before, inside)) positive)
       where
         either : (b c : Bool) → (b || c) ≡ true → (b ≡ true) ⊎ (c ≡ true)
         either true c is = inl refl
@@ -145,12 +158,15 @@ module _ (pages new : Pages) (n : ℕ) (form : IsForm pages) (others : (q : ℕ)
         last_is : t ≡ count → (count == slot || piece_at count (bytes pages n) == 0) ≡ true → t ≡ slot
         last_is last is = split (either (count == slot) (piece_at count (bytes pages n) == 0) is)
             (λ same. last ∙ eqb-true count slot same)
-            (λ free. let none = eqb-true (piece_at count (bytes pages n)) 0 free in let positive' = subst (λ t. 0 < piece_at t (bytes pages n)) last positive in absurd (omega (arith, none, positive')))
+            (λ free. let none = eqb-true (piece_at count (bytes pages n)) 0 free in let positive' = subst (λ t. 0 < piece_at t (bytes pages n)) last positive in
+            absurd (omega (arith, none, positive')))
 
     pub takes_page : Takes pages new (record { page = n; slot = slot })
     takes_page = record {
       kept = λ q is differ. same_or_not q.page n
-          (λ same. absurd (differ (let slots = no_other (slot_count (bytes pages n)) q.slot only (subst (λ m. HasPiece (bytes pages m) q.slot) same is.1).0 (subst (λ m. HasPiece (bytes pages m) q.slot) same is.1).1 in λ i. record { page = same i; slot = slots i })))
+          (λ same. absurd (differ (let slots =
+          no_other (slot_count (bytes pages n)) q.slot only (subst (λ m. HasPiece (bytes pages m) q.slot) same is.1).0
+          (subst (λ m. HasPiece (bytes pages m) q.slot) same is.1).1 in λ i. record { page = same i; slot = slots i })))
           (other_piece q is);
       form = form_stays (λ is. absurd (gone is));
     }

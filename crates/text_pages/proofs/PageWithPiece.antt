@@ -74,7 +74,8 @@ module _ (page : List ℕ) (place : Place) (next : TextRef) (text : List ℕ) (l
   pub new_count : slot_count (with_piece place next text page) ≡ place.count
   new_count =
       let same = long_counted in let count = p.count in let long = long_slotted in
-      field_apart 2 2 2 counted 4 place.at (inl (omega arith)) (omega (arith, same)) ∙ field-written 2 2 place.count slotted (omega (arith, count)) (omega (arith, long))
+      field_apart 2 2 2 counted 4 place.at (inl (omega arith)) (omega (arith, same))
+      ∙ field-written 2 2 place.count slotted (omega (arith, count)) (omega (arith, long))
 
   pub new_lowest : lowest (with_piece place next text page) ≡ place.at
   new_lowest = let same = long_counted in let inside = p.inside in field-written 2 4 place.at counted (omega (arith, inside)) (omega (arith, same))
@@ -91,8 +92,10 @@ module _ (page : List ℕ) (place : Place) (next : TextRef) (text : List ℕ) (l
   beside_slot q n apart =
       let long = long_content in let slot = below in
       let half = length-with_field 2 content (slot_at place.slot) place.at (omega (arith, long, slot)) in
-      bytes_apart n q 2 (with_field 2 content (slot_at place.slot) place.at) (slot_at place.slot + 2) (10 + length text) (split apart (λ l. inl (omega (arith, l))) (λ r. inr (omega (arith, r)))) (omega (arith, long, slot, half))
-      ∙ bytes_apart n q 2 content (slot_at place.slot) place.at (split apart (λ l. inl (omega (arith, l))) (λ r. inr (omega (arith, r)))) (omega (arith, long, slot))
+      bytes_apart n q 2 (with_field 2 content (slot_at place.slot) place.at) (slot_at place.slot + 2) (10 + length text)
+      (split apart (λ l. inl (omega (arith, l))) (λ r. inr (omega (arith, r)))) (omega (arith, long, slot, half))
+      ∙ bytes_apart n q 2 content (slot_at place.slot) place.at (split apart (λ l. inl (omega (arith, l))) (λ r. inr (omega (arith, r))))
+      (omega (arith, long, slot))
 
   -- and those of the piece
   beside_content : (q n : ℕ) → Apart q n place.at (10 + length text) → bytes_at q n content ≡ bytes_at q n page
@@ -103,7 +106,8 @@ module _ (page : List ℕ) (place : Place) (next : TextRef) (text : List ℕ) (l
       ∙ bytes_apart n q 8 page place.at next.page (split apart (λ l. inl (omega (arith, l))) (λ r. inr (omega (arith, r)))) (omega (arith, long, inside))
 
   -- a range beside the slot and the piece stays
-  pub beside_all : (q n : ℕ) → (q + n ≤ 2) ⊎ (6 ≤ q) → Apart q n (slot_at place.slot) 4 → Apart q n place.at (10 + length text) → bytes_at q n (with_piece place next text page) ≡ bytes_at q n page
+  pub beside_all : (q n : ℕ) → (q + n ≤ 2) ⊎ (6 ≤ q) → Apart q n (slot_at place.slot) 4 → Apart q n place.at (10 + length text)
+      → bytes_at q n (with_piece place next text page) ≡ bytes_at q n page
   beside_all q n head slot piece = headed q n head ∙ beside_slot q n slot ∙ beside_content q n piece
 
   pub new_kind : slice_index (with_piece place next text page) 0 ≡ slice_index page 0
@@ -114,14 +118,16 @@ module _ (page : List ℕ) (place : Place) (next : TextRef) (text : List ℕ) (l
       ∙ slice_index-bytes_at page 0
 
   -- another slot stays
-  same_slot : (s off : ℕ) → s < place.count → s ≢ place.slot → off + 2 ≤ 4 → field 2 (slot_at s + off) (with_piece place next text page) ≡ field 2 (slot_at s + off) page
+  same_slot : (s off : ℕ) → s < place.count → s ≢ place.slot → off + 2 ≤ 4
+      → field 2 (slot_at s + off) (with_piece place next text page) ≡ field 2 (slot_at s + off) page
   same_slot s off inside differ part =
       let behind = p.behind in
       field-bytes_at 2 (slot_at s + off) page (with_piece place next text page) (beside_all (slot_at s + off) 2 (inr (omega arith))
       (split (slot_order s place.slot differ) (λ l. inl (omega (arith, l, part))) (λ r. inr (omega (arith, r)))) (inl (omega (arith, behind, inside, part))))
 
   pub same_at : (s : ℕ) → s < place.count → s ≢ place.slot → piece_at s (with_piece place next text page) ≡ piece_at s page
-  same_at s inside differ = ap (λ n. field 2 n (with_piece place next text page)) (omega arith) ∙ same_slot s 0 inside differ (omega arith) ∙ ap (λ n. field 2 n page) (omega arith)
+  same_at s inside differ = ap (λ n. field 2 n (with_piece place next text page)) (omega arith) ∙ same_slot s 0 inside differ (omega arith)
+      ∙ ap (λ n. field 2 n page) (omega arith)
 
   pub same_length : (s : ℕ) → s < place.count → s ≢ place.slot → piece_length s (with_piece place next text page) ≡ piece_length s page
   same_length s inside differ = same_slot s 2 inside differ (omega arith)
@@ -132,7 +138,8 @@ module _ (page : List ℕ) (place : Place) (next : TextRef) (text : List ℕ) (l
       let long = long_content in let slot = below in let inside = p.inside in
       let half = length-with_field 2 content (slot_at place.slot) place.at (omega (arith, long, slot)) in
       field-bytes_at 2 (slot_at place.slot) slotted (with_piece place next text page) (headed (slot_at place.slot) 2 (inr (omega arith)))
-      ∙ field_apart 2 (slot_at place.slot) 2 (with_field 2 content (slot_at place.slot) place.at) (slot_at place.slot + 2) (10 + length text) (inl (omega arith)) (omega (arith, long, slot, half))
+      ∙ field_apart 2 (slot_at place.slot) 2 (with_field 2 content (slot_at place.slot) place.at) (slot_at place.slot + 2) (10 + length text)
+      (inl (omega arith)) (omega (arith, long, slot, half))
       ∙ field-written 2 (slot_at place.slot) place.at content (omega (arith, inside)) (omega (arith, long, slot))
 
   pub new_length : piece_length place.slot (with_piece place next text page) ≡ 10 + length text
@@ -140,7 +147,8 @@ module _ (page : List ℕ) (place : Place) (next : TextRef) (text : List ℕ) (l
       let long = long_content in let slot = below in let inside = p.inside in
       let half = length-with_field 2 content (slot_at place.slot) place.at (omega (arith, long, slot)) in
       field-bytes_at 2 (slot_at place.slot + 2) slotted (with_piece place next text page) (headed (slot_at place.slot + 2) 2 (inr (omega arith)))
-      ∙ field-written 2 (slot_at place.slot + 2) (10 + length text) (with_field 2 content (slot_at place.slot) place.at) (omega (arith, inside)) (omega (arith, long, slot, half))
+      ∙ field-written 2 (slot_at place.slot + 2) (10 + length text) (with_field 2 content (slot_at place.slot) place.at) (omega (arith, inside))
+      (omega (arith, long, slot, half))
 
   -- a range of the new piece
   of_piece : (q n : ℕ) → place.at ≤ q → bytes_at q n (with_piece place next text page) ≡ bytes_at q n content
@@ -159,7 +167,8 @@ module _ (page : List ℕ) (place : Place) (next : TextRef) (text : List ℕ) (l
       ∙ field-written 8 place.at next.page page page_small (omega (arith, long, inside)) in
       let slot_is : field 2 (place.at + 8) new ≡ next.slot =
       field-bytes_at 2 (place.at + 8) content new (of_piece (place.at + 8) 2 (omega arith))
-      ∙ field-bytes_at 2 (place.at + 8) second content (bytes_beside (place.at + 8) 2 second (place.at + 10) text (inl (omega arith)) (omega (arith, two, inside)))
+      ∙ field-bytes_at 2 (place.at + 8) second content
+      (bytes_beside (place.at + 8) 2 second (place.at + 10) text (inl (omega arith)) (omega (arith, two, inside)))
       ∙ field-written 2 (place.at + 8) next.slot first slot_small (omega (arith, one, inside)) in
       ap (λ at. record { page = field 8 at new; slot = field 2 (at + 8) new }) new_at ∙ (λ i. record { page = page_is i; slot = slot_is i })
 
@@ -168,7 +177,8 @@ module _ (page : List ℕ) (place : Place) (next : TextRef) (text : List ℕ) (l
       let new = with_piece place next text page in
       let two = long_second in let inside = p.inside in
       let size : piece_length place.slot new - 10 ≡ length text = let is = new_length in omega (arith, is) in
-      (λ i. bytes_at (new_at i + 10) (size i) new) ∙ of_piece (place.at + 10) (length text) (omega arith) ∙ bytes_at-written second (place.at + 10) text (omega (arith, two, inside))
+      (λ i. bytes_at (new_at i + 10) (size i) new) ∙ of_piece (place.at + 10) (length text) (omega arith)
+      ∙ bytes_at-written second (place.at + 10) text (omega (arith, two, inside))
 
   -- an old piece is as it was
   module _ (s : ℕ) (has : HasPiece page s) (small : 11 ≤ piece_length s page) (fits : piece_at s page + piece_length s page ≤ 4096) where
@@ -179,9 +189,11 @@ module _ (page : List ℕ) (place : Place) (next : TextRef) (text : List ℕ) (l
     was_inside = p.kept s has.0
 
     pub still_has : HasPiece (with_piece place next text page) s
-    still_has = let count = new_count in let same = same_at s was_inside differs in let some = has.1 in let inside = was_inside in (omega (arith, count, inside), omega (arith, same, some))
+    still_has = let count = new_count in let same = same_at s was_inside differs in let some = has.1 in let inside = was_inside in
+        (omega (arith, count, inside), omega (arith, same, some))
 
-    range_stays : (off n : ℕ) → off + n ≤ piece_length s page → bytes_at (piece_at s page + off) n (with_piece place next text page) ≡ bytes_at (piece_at s page + off) n page
+    range_stays : (off n : ℕ) → off + n ≤ piece_length s page
+        → bytes_at (piece_at s page + off) n (with_piece place next text page) ≡ bytes_at (piece_at s page + off) n page
     range_stays off n part =
         let above = p.above s has in let low = p.behind in let slot = p.slot in
         beside_all (piece_at s page + off) n (inr (omega (arith, above, low))) (inr (omega (arith, above, low, slot))) (inr (omega (arith, above)))
@@ -189,9 +201,11 @@ module _ (page : List ℕ) (place : Place) (next : TextRef) (text : List ℕ) (l
     pub same_next : next_piece s (with_piece place next text page) ≡ next_piece s page
     same_next =
         let new = with_piece place next text page in let at = piece_at s page in
-        let page_is : field 8 at new ≡ field 8 at page = ap (λ n. field 8 n new) (omega arith) ∙ field-bytes_at 8 (at + 0) page new (range_stays 0 8 (omega (arith, small))) ∙ ap (λ n. field 8 n page) (omega arith) in
+        let page_is : field 8 at new ≡ field 8 at page = ap (λ n. field 8 n new) (omega arith)
+        ∙ field-bytes_at 8 (at + 0) page new (range_stays 0 8 (omega (arith, small))) ∙ ap (λ n. field 8 n page) (omega arith) in
         let slot_is : field 2 (at + 8) new ≡ field 2 (at + 8) page = field-bytes_at 2 (at + 8) page new (range_stays 8 2 (omega (arith, small))) in
-        ap (λ at. record { page = field 8 at new; slot = field 2 (at + 8) new }) (same_at s was_inside differs) ∙ (λ i. record { page = page_is i; slot = slot_is i })
+        ap (λ at. record { page = field 8 at new; slot = field 2 (at + 8) new }) (same_at s was_inside differs)
+        ∙ (λ i. record { page = page_is i; slot = slot_is i })
 
     pub same_text : piece_text s (with_piece place next text page) ≡ piece_text s page
     same_text =

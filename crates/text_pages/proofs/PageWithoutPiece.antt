@@ -20,7 +20,8 @@ moved_to hole at = if not (at == 0) && nat_lt at hole.at then at + hole.length e
 
 module _ (hole : Hole) (inside : IsHole hole) where
   -- a slot that moves leaves each range beside its first field
-  beside_moved : (n q m : ℕ) (page : List ℕ) → n < 1022 → length page ≡ 4096 → Apart q m (slot_at n) 2 → bytes_at q m (moved_slot hole n page) ≡ bytes_at q m page
+  beside_moved : (n q m : ℕ) (page : List ℕ) → n < 1022 → length page ≡ 4096 → Apart q m (slot_at n) 2
+      → bytes_at q m (moved_slot hole n page) ≡ bytes_at q m page
   beside_moved n q m page below long apart = at (not (piece_at n page == 0) && nat_lt (piece_at n page) hole.at)
     where
       at : (b : Bool) → bytes_at q m (if b then with_field 2 page (slot_at n) (piece_at n page + hole.length) else page) ≡ bytes_at q m page
@@ -32,13 +33,16 @@ module _ (hole : Hole) (inside : IsHole hole) where
   moved_at n page below long = at (not (piece_at n page == 0)) (nat_lt (piece_at n page) hole.at) refl
     where
       at : (some low : Bool) → nat_lt (piece_at n page) hole.at ≡ low
-          → piece_at n (if some && low then with_field 2 page (slot_at n) (piece_at n page + hole.length) else page) ≡ (if some && low then piece_at n page + hole.length else piece_at n page)
-      at true true is = let less = ltb-true (piece_at n page) hole.at is in field-written 2 (slot_at n) (piece_at n page + hole.length) page (omega (arith, less, inside)) (omega (arith, long, below))
+          → piece_at n (if some && low then with_field 2 page (slot_at n) (piece_at n page + hole.length) else page)
+          ≡ (if some && low then piece_at n page + hole.length else piece_at n page)
+      at true true is = let less = ltb-true (piece_at n page) hole.at is in
+          field-written 2 (slot_at n) (piece_at n page + hole.length) page (omega (arith, less, inside)) (omega (arith, long, below))
       at true false is = refl
       at false low is = refl
 
   -- slots that move leave each range beside them
-  beside_all_moved : (n q m : ℕ) (page : List ℕ) → n ≤ 1022 → length page ≡ 4096 → (q + m ≤ 8) ⊎ (slot_at n ≤ q) → bytes_at q m (moved_slots hole n page) ≡ bytes_at q m page
+  beside_all_moved : (n q m : ℕ) (page : List ℕ) → n ≤ 1022 → length page ≡ 4096 → (q + m ≤ 8) ⊎ (slot_at n ≤ q)
+      → bytes_at q m (moved_slots hole n page) ≡ bytes_at q m page
   beside_all_moved zero q m page below long apart = refl
   beside_all_moved (suc n) q m page below long apart =
       beside_moved n q m (moved_slots hole n page) (omega (arith, below)) (length-moved_slots hole inside n page (omega (arith, below)) long)
@@ -50,7 +54,8 @@ module _ (hole : Hole) (inside : IsHole hole) where
   lengths_stay zero s page below long = refl
   lengths_stay (suc n) s page below long =
       field-bytes_at 2 (slot_at s + 2) (moved_slots hole n page) (moved_slot hole n (moved_slots hole n page))
-      (beside_moved n (slot_at s + 2) 2 (moved_slots hole n page) (omega (arith, below)) (length-moved_slots hole inside n page (omega (arith, below)) long) (second_field s n))
+      (beside_moved n (slot_at s + 2) 2 (moved_slots hole n page) (omega (arith, below)) (length-moved_slots hole inside n page (omega (arith, below)) long)
+      (second_field s n))
       ∙ lengths_stay n s page (omega (arith, below)) long
     where
       second_field : (s n : ℕ) → Apart (slot_at s + 2) 2 (slot_at n) 2
@@ -62,18 +67,21 @@ module _ (hole : Hole) (inside : IsHole hole) where
 
   -- a slot behind those that move stays
   later_stays : (n s : ℕ) (page : List ℕ) → n ≤ 1022 → length page ≡ 4096 → n ≤ s → piece_at s (moved_slots hole n page) ≡ piece_at s page
-  later_stays n s page below long past = field-bytes_at 2 (slot_at s) page (moved_slots hole n page) (beside_all_moved n (slot_at s) 2 page below long (inr (omega (arith, past))))
+  later_stays n s page below long past =
+      field-bytes_at 2 (slot_at s) page (moved_slots hole n page) (beside_all_moved n (slot_at s) 2 page below long (inr (omega (arith, past))))
 
   -- and one of them moves
   pub slot_moves : (n s : ℕ) (page : List ℕ) → n ≤ 1022 → length page ≡ 4096 → s < n → piece_at s (moved_slots hole n page) ≡ moved_to hole (piece_at s page)
   slot_moves zero s page below long less = absurd (omega (arith, less))
   slot_moves (suc n) s page below long less = at (nat_lt s n) refl (λ before. slot_moves n s page (omega (arith, below)) long before)
     where
-      at : (b : Bool) → nat_lt s n ≡ b → (s < n → piece_at s (moved_slots hole n page) ≡ moved_to hole (piece_at s page)) → piece_at s (moved_slot hole n (moved_slots hole n page)) ≡ moved_to hole (piece_at s page)
+      at : (b : Bool) → nat_lt s n ≡ b → (s < n → piece_at s (moved_slots hole n page) ≡ moved_to hole (piece_at s page))
+          → piece_at s (moved_slot hole n (moved_slots hole n page)) ≡ moved_to hole (piece_at s page)
       at true is earlier =
           let before = ltb-true s n is in
           field-bytes_at 2 (slot_at s) (moved_slots hole n page) (moved_slot hole n (moved_slots hole n page))
-          (beside_moved n (slot_at s) 2 (moved_slots hole n page) (omega (arith, below)) (length-moved_slots hole inside n page (omega (arith, below)) long) (inl (omega (arith, before))))
+          (beside_moved n (slot_at s) 2 (moved_slots hole n page) (omega (arith, below)) (length-moved_slots hole inside n page (omega (arith, below)) long)
+          (inl (omega (arith, before))))
           ∙ earlier before
       at false is earlier =
           let past = ltb-false s n is in
@@ -128,7 +136,8 @@ module _ (page : List ℕ) (slot : ℕ) (sound : IsSound page) (has : HasPiece p
   beside_slot q n apart =
       let long = long_slots in let s = below in
       let half = length-with_field 2 slots_moved (slot_at slot) 0 (omega (arith, long, s)) in
-      bytes_apart n q 2 (with_field 2 slots_moved (slot_at slot) 0) (slot_at slot + 2) 0 (split apart (λ l. inl (omega (arith, l))) (λ r. inr (omega (arith, r)))) (omega (arith, long, s, half))
+      bytes_apart n q 2 (with_field 2 slots_moved (slot_at slot) 0) (slot_at slot + 2) 0
+      (split apart (λ l. inl (omega (arith, l))) (λ r. inr (omega (arith, r)))) (omega (arith, long, s, half))
       ∙ bytes_apart n q 2 slots_moved (slot_at slot) 0 (split apart (λ l. inl (omega (arith, l))) (λ r. inr (omega (arith, r)))) (omega (arith, long, s))
 
   size : length (bytes_at (lowest page) (piece_at slot page - lowest page) page) ≡ piece_at slot page - lowest page
@@ -213,16 +222,25 @@ module _ (page : List ℕ) (slot : ℕ) (sound : IsSound page) (has : HasPiece p
             positive : (n : ℕ) → 0 < n → (n == 0) ≡ false
             positive n past = grind (arith, nat_tests)
 
-        moved_is : (b : Bool) → nat_lt (piece_at s page) (piece_at slot page) ≡ b → piece_at s new ≡ (if b then piece_at s page + piece_length slot page else piece_at s page)
+        moved_is : (b : Bool) → nat_lt (piece_at s page) (piece_at slot page) ≡ b
+            → piece_at s new ≡ (if b then piece_at s page + piece_length slot page else piece_at s page)
         moved_is b is = slot_moved s there.0 differ ∙ (λ i. if not (some i) && is i then piece_at s page + piece_length slot page else piece_at s page)
 
         at : (b : Bool) → nat_lt (piece_at s page) (piece_at slot page) ≡ b → IsMoved ⊎ IsStill
         at true is =
             let less = ltb-true (piece_at s page) (piece_at slot page) is in let large = (sound.inside slot has).1 in
-            inl (record { at = moved_is true is; before = split (sound.apart s slot there has differ) (λ before. before) (λ behind. absurd (omega (arith, behind, less, large))) })
+            inl (record {
+              at = moved_is true is;
+              before =
+                  split (sound.apart s slot there has differ) (λ before. before) (λ behind. absurd (omega (arith, behind, less, large)));
+            })
         at false is =
             let past = ltb-false (piece_at s page) (piece_at slot page) is in let large = (sound.inside s there).1 in
-            inr (record { at = moved_is false is; behind = split (sound.apart s slot there has differ) (λ before. absurd (omega (arith, before, past, large))) (λ behind. behind) })
+            inr (record {
+              at = moved_is false is;
+              behind =
+                  split (sound.apart s slot there has differ) (λ before. absurd (omega (arith, before, past, large))) (λ behind. behind);
+            })
 
     -- a part of it
     pub part_is : (off n : ℕ) → off + n ≤ piece_length s page → bytes_at (piece_at s new + off) n new ≡ bytes_at (piece_at s page + off) n page
@@ -230,19 +248,22 @@ module _ (page : List ℕ) (slot : ℕ) (sound : IsSound page) (has : HasPiece p
       where
         moved_part : IsMoved → bytes_at (piece_at s new + off) n new ≡ bytes_at (piece_at s page + off) n page
         moved_part m =
-            let low = (sound.inside s there).0 in let before = m.before in let slots = sound.slots in let long = sound.long in let most = is_hole in let is = size in
+            let low = (sound.inside s there).0 in let before = m.before in let slots = sound.slots in let long = sound.long in let most = is_hole in let is =
+            size in
             let offset : ℕ = piece_at s page - lowest page + off in
             let from : piece_at s new + off ≡ (lowest page + piece_length slot page) + offset = let at = m.at in omega (arith, at, low) in
             ap (λ q. bytes_at q n new) from
             ∙ behind_slots ((lowest page + piece_length slot page) + offset) n (omega (arith, slots))
-            ∙ bytes_at-inside page (lowest page + piece_length slot page) (bytes_at (lowest page) (piece_at slot page - lowest page) page) offset n (omega (arith, long, most)) (omega (arith, is, part, before, low))
+            ∙ bytes_at-inside page (lowest page + piece_length slot page) (bytes_at (lowest page) (piece_at slot page - lowest page) page) offset n
+            (omega (arith, long, most)) (omega (arith, is, part, before, low))
             ∙ bytes_at-part page (lowest page) (piece_at slot page - lowest page) offset n (omega (arith, part, before, low))
             ∙ ap (λ q. bytes_at q n page) (omega (arith, low))
 
         still_part : IsStill → bytes_at (piece_at s new + off) n new ≡ bytes_at (piece_at s page + off) n page
         still_part m =
             let behind = m.behind in let low = (sound.inside s there).0 in let slots = sound.slots in
-            ap (λ at. bytes_at (at + off) n new) m.at ∙ behind_slots (piece_at s page + off) n (omega (arith, low, slots)) ∙ beside_pieces (piece_at s page + off) n (inr (omega (arith, behind)))
+            ap (λ at. bytes_at (at + off) n new) m.at ∙ behind_slots (piece_at s page + off) n (omega (arith, low, slots))
+            ∙ beside_pieces (piece_at s page + off) n (inr (omega (arith, behind)))
 
     field_moves : (n off : ℕ) → off + n ≤ piece_length s page → field n (piece_at s new + off) new ≡ field n (piece_at s page + off) page
     field_moves n off part = field-moved n (piece_at s page + off) (piece_at s new + off) page new (part_is off n part)
@@ -250,7 +271,8 @@ module _ (page : List ℕ) (slot : ℕ) (sound : IsSound page) (has : HasPiece p
     pub same_next : next_piece s new ≡ next_piece s page
     same_next =
         let large = (sound.inside s there).1 in
-        let page_is : field 8 (piece_at s new) new ≡ field 8 (piece_at s page) page = ap (λ q. field 8 q new) (omega arith) ∙ field_moves 8 0 (omega (arith, large)) ∙ ap (λ q. field 8 q page) (omega arith) in
+        let page_is : field 8 (piece_at s new) new ≡ field 8 (piece_at s page) page = ap (λ q. field 8 q new) (omega arith)
+        ∙ field_moves 8 0 (omega (arith, large)) ∙ ap (λ q. field 8 q page) (omega arith) in
         let slot_is : field 2 (piece_at s new + 8) new ≡ field 2 (piece_at s page + 8) page = field_moves 2 8 (omega (arith, large)) in
         λ i. record { page = page_is i; slot = slot_is i }
 
@@ -260,5 +282,8 @@ module _ (page : List ℕ) (slot : ℕ) (sound : IsSound page) (has : HasPiece p
         ap (λ n. bytes_at (piece_at s new + 10) (n - 10) new) (length_stays s there.0 differ) ∙ part_is 10 (piece_length s page - 10) (omega (arith, large))
 
     pub still_has : HasPiece new s
-    still_has = let count = new_count in let inside = there.0 in let some = there.1 in
-        (omega (arith, count, inside), split either_place (λ (m : IsMoved). let at = m.at in omega (arith, at, some)) (λ (m : IsStill). let at = m.at in omega (arith, at, some)))
+    still_has = let count = new_count in let inside = there.0 in let some = there.1 in (
+      omega (arith, count, inside),
+      split either_place (λ (m : IsMoved). let at = m.at in omega (arith, at, some)) (λ (m : IsStill). let at = m.at in
+          omega (arith, at, some)),
+    )

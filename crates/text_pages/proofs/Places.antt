@@ -12,12 +12,15 @@ use Rattle.text_pages.proofs.PageWithPiece.{IsPlace}
 use Rattle.text_pages.proofs.Sounds.{IsOpen}
 
 -- the first free slot is one of those that were looked at, and free, or the one behind them
-pub free_from-is : (n slot : ℕ) (page : List ℕ) → (free_from n slot page ≤ slot + n) × (free_from n slot page < slot + n → piece_at (free_from n slot page) page ≡ 0)
+pub free_from-is : (n slot : ℕ) (page : List ℕ)
+    → (free_from n slot page ≤ slot + n) × (free_from n slot page < slot + n → piece_at (free_from n slot page) page ≡ 0)
 free_from-is zero slot page = (omega arith, λ less. absurd (omega (arith, less)))
 free_from-is (suc n) slot page = at (piece_at slot page == 0) refl (free_from-is n (slot + 1) page)
   where
-    at : (b : Bool) → (piece_at slot page == 0) ≡ b → (free_from n (slot + 1) page ≤ (slot + 1) + n) × (free_from n (slot + 1) page < (slot + 1) + n → piece_at (free_from n (slot + 1) page) page ≡ 0)
-        → ((if b then slot else free_from n (slot + 1) page) ≤ slot + suc n) × ((if b then slot else free_from n (slot + 1) page) < slot + suc n → piece_at (if b then slot else free_from n (slot + 1) page) page ≡ 0)
+    at : (b : Bool) → (piece_at slot page == 0) ≡ b
+        → (free_from n (slot + 1) page ≤ (slot + 1) + n) × (free_from n (slot + 1) page < (slot + 1) + n → piece_at (free_from n (slot + 1) page) page ≡ 0)
+        → ((if b then slot else free_from n (slot + 1) page) ≤ slot + suc n)
+        × ((if b then slot else free_from n (slot + 1) page) < slot + suc n → piece_at (if b then slot else free_from n (slot + 1) page) page ≡ 0)
     at true is rest = (omega arith, λ less. eqb-true (piece_at slot page) 0 is)
     at false is rest = (let up = rest.0 in omega (arith, up), λ less. rest.1 (omega (arith, less)))
 
@@ -49,21 +52,25 @@ module _ (page : List ℕ) where
           record { slot = less up; old = λ s inside differ. inside; kept = omega arith }
         where
           less : free_slot page ≤ slot_count page → free_slot page < slot_count page
-          less up = let differ : free_slot page ≢ slot_count page = λ one. true≢false (sym (ap (λ n. nat_eq n (slot_count page)) one ∙ itself (slot_count page)) ∙ is) in omega (arith, up, differ)
+          less up = let differ : free_slot page ≢ slot_count page =
+              λ one. true≢false (sym (ap (λ n. nat_eq n (slot_count page)) one ∙ itself (slot_count page)) ∙ is) in omega (arith, up, differ)
             where
               itself : (n : ℕ) → nat_eq n n ≡ true
               itself n = grind arith
 
   -- a place is behind the page's first byte and inside it
-  pub place_within : (k : ℕ) (place : Place) → lowest page ≤ 4096 → 10 ≤ k → place_for k page ≡ Some place → (place.slot < 1022) × (1 ≤ place.at) × (place.at + k ≤ 4096)
+  pub place_within : (k : ℕ) (place : Place) → lowest page ≤ 4096 → 10 ≤ k → place_for k page ≡ Some place
+      → (place.slot < 1022) × (1 ≤ place.at) × (place.at + k ≤ 4096)
   place_within k place low some is = at (nat_le (slot_at (slots_then page) + k) (lowest page)) refl is
     where
       found : slot_at (slots_then page) + k ≤ lowest page → (free_slot page < 1022) × (1 ≤ lowest page - k) × (lowest page - k + k ≤ 4096)
       found fits = let count = count_is in let slot = count.slot in (omega (arith, slot, fits, low, some), omega (arith, fits), omega (arith, fits, low))
 
-      at : (b : Bool) → nat_le (slot_at (slots_then page) + k) (lowest page) ≡ b → (if b then Some (record { slot = free_slot page; count = slots_then page; at = lowest page - k }) else None) ≡ Some place
+      at : (b : Bool) → nat_le (slot_at (slots_then page) + k) (lowest page) ≡ b
+          → (if b then Some (record { slot = free_slot page; count = slots_then page; at = lowest page - k }) else None) ≡ Some place
           → (place.slot < 1022) × (1 ≤ place.at) × (place.at + k ≤ 4096)
-      at true fits is = subst (λ (p : Place). (p.slot < 1022) × (1 ≤ p.at) × (p.at + k ≤ 4096)) (one_place _ _ is) (found (leb-true (slot_at (slots_then page) + k) (lowest page) fits))
+      at true fits is = subst (λ (p : Place). (p.slot < 1022) × (1 ≤ p.at) × (p.at + k ≤ 4096)) (one_place _ _ is)
+          (found (leb-true (slot_at (slots_then page) + k) (lowest page) fits))
       at false fits is = cc
 
   module _ (sound : IsSound page) (k : ℕ) where
@@ -84,7 +91,8 @@ module _ (page : List ℕ) where
               above = λ s has. let within = (sound.inside s has).0 in omega (arith, fits, within);
             }
 
-        at : (b : Bool) → nat_le (slot_at (slots_then page) + k) (lowest page) ≡ b → (if b then Some (record { slot = free_slot page; count = slots_then page; at = lowest page - k }) else None) ≡ Some place → IsPlace page place k
+        at : (b : Bool) → nat_le (slot_at (slots_then page) + k) (lowest page) ≡ b
+            → (if b then Some (record { slot = free_slot page; count = slots_then page; at = lowest page - k }) else None) ≡ Some place → IsPlace page place k
         at true fits is = subst (λ (p : Place). IsPlace page p k) (one_place _ _ is) (found (leb-true (slot_at (slots_then page) + k) (lowest page) fits))
         at false fits is = cc
 

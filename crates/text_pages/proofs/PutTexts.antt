@@ -23,7 +23,8 @@ use Rattle.text_pages.proofs.TakeSteps.{need_before}
 use Rattle.text_pages.proofs.Ranges.{split}
 
 -- a stop by what was known later is one by what is known
-pub stop_before : (old new : Known) (all : PageId → Option (List ℕ)) (space : Space) (end : PageEnd) → Grows old new → IsStop new all space end → IsStop old all space end
+pub stop_before : (old new : Known) (all : PageId → Option (List ℕ)) (space : Space) (end : PageEnd) → Grows old new → IsStop new all space end
+    → IsStop old all space end
 stop_before old new all space end grows is = split is (λ none. inl none) (λ need. inr (need_before old new all space end grows need))
 
 -- why a text isn't put by what was known later is why by what is known, where page numbers allow for what was made
@@ -57,7 +58,8 @@ piece_short n bytes = (part_size 4074 (drop (n * 4074) bytes)).0
 module _ (all : PageId → Option (List ℕ)) (space : Space) (texts : TextMap) (text : List ℕ) where
   -- the text has been put, on the pages of some set, with `most` new pages at most
   abbrev PutText : (ℕ → Bool) → Known → ℕ → Result (TextRef × Work) PageEnd → Type 0
-  PutText set k most r = MatchResult r (λ put. (then_set : ℕ → Bool) × Loose (among then_set put.1.now all space) texts put.0 text) (λ end. IsUnput set k all space most end)
+  PutText set k most r = MatchResult r (λ put. (then_set : ℕ → Bool) × Loose (among then_set put.1.now all space) texts put.0 text)
+      (λ end. IsUnput set k all space most end)
 
   put_before : (set then_set : ℕ → Bool) (old new : Known) (few : ℕ) (r : Result (TextRef × Work) PageEnd) → Grows old new
       → next_page (bytes (among then_set new all space) 0) ≤ next_page (bytes (among set old all space) 0) + 1
@@ -71,17 +73,20 @@ module _ (all : PageId → Option (List ℕ)) (space : Space) (texts : TextMap) 
   pieces_put (suc n) set w next within page_small slot_small l =
       carried (piece_put_in w space next (piece_of n text))
       (put_ends set w all space l.means.form next (piece_of n text) page_small slot_small (piece_long n text (omega (arith, within))) (piece_short n text))
-      (λ (then_set : ℕ → Bool) (put : TextRef × Work) page_small slot_small l. pieces_put n then_set put.1 put.0 (omega (arith, within)) page_small slot_small l)
+      (λ (then_set : ℕ → Bool) (put : TextRef × Work) page_small slot_small l. pieces_put n then_set put.1 put.0
+      (omega (arith, within)) page_small slot_small l)
     where
       carried : (r : Result (TextRef × Work) PageEnd) → PutEnds set w all space next (piece_of n text) r
-          → ((then_set : ℕ → Bool) (put : TextRef × Work) → put.0.page < 256 ^ 8 → put.0.slot < 256 ^ 2 → Loose (among then_set put.1.now all space) texts put.0 (drop (n * 4074) text)
+          → ((then_set : ℕ → Bool) (put : TextRef × Work) → put.0.page < 256 ^ 8 → put.0.slot < 256 ^ 2
+          → Loose (among then_set put.1.now all space) texts put.0 (drop (n * 4074) text)
           → PutText then_set put.1.now n (pieces_put_in n put.1 space put.0 text))
           → PutText set w.now (suc n) (and_then r (λ (put : TextRef × Work). pieces_put_in n put.1 space put.0 text))
       carried (Ok put) step more =
           put_before set step.then_set w.now put.1.now n (pieces_put_in n put.1 space put.0 text) step.grows step.made
           (more step.then_set put step.page_small step.slot_small
           (subst (Loose (among step.then_set put.1.now all space) texts put.0) (piece_and_rest n text)
-          (loose_put (among set w.now all space) (among step.then_set put.1.now all space) texts put.0 next (piece_of n text) (drop (suc n * 4074) text) l step.puts)))
+          (loose_put (among set w.now all space) (among step.then_set put.1.now all space) texts put.0 next (piece_of n text)
+          (drop (suc n * 4074) text) l step.puts)))
       carried (Err end) is more = unput_before set set w.now w.now all space 1 (suc n) end (λ id is. is) (omega arith) is
 
 -- all of a text
@@ -92,7 +97,8 @@ nothing_behind text = drop_all (((length text + 4073) / 4074) * 4074) text (omeg
 abbrev pub PutSomewhere : Known → (PageId → Option (List ℕ)) → Space → TextMap → List ℕ → TextRef → Type 0
 PutSomewhere k all space texts text at = (set : ℕ → Bool) × PutAlone (among set k all space) texts text at
 
-pub put_text_means : (set : ℕ → Bool) (w : Work) (all : PageId → Option (List ℕ)) (space : Space) (texts : TextMap) (text : List ℕ) → AreTexts (among set w.now all space) texts
+pub put_text_means : (set : ℕ → Bool) (w : Work) (all : PageId → Option (List ℕ)) (space : Space) (texts : TextMap) (text : List ℕ)
+    → AreTexts (among set w.now all space) texts
     → MatchResult (put_in w space text) (λ put. PutSomewhere put.1.now all space texts text put.0) (λ end. IsUnput set w.now all space (piece_count text) end)
 put_text_means set w all space texts [] m = (set, (refl, m))
 put_text_means set w all space texts (b ∷ bs) m =
@@ -101,13 +107,15 @@ put_text_means set w all space texts (b ∷ bs) m =
     (subst (Loose (among set w.now all space) texts nowhere) (sym (nothing_behind (b ∷ bs))) (loose_empty (among set w.now all space) texts nowhere refl m)))
   where
     carried : (r : Result (TextRef × Work) PageEnd)
-        → MatchResult r (λ put. (then_set : ℕ → Bool) × Loose (among then_set put.1.now all space) texts put.0 (b ∷ bs)) (λ end. IsUnput set w.now all space (piece_count (b ∷ bs)) end)
+        → MatchResult r (λ put. (then_set : ℕ → Bool) × Loose (among then_set put.1.now all space) texts put.0 (b ∷ bs))
+        (λ end. IsUnput set w.now all space (piece_count (b ∷ bs)) end)
         → MatchResult r (λ put. PutSomewhere put.1.now all space texts (b ∷ bs) put.0) (λ end. IsUnput set w.now all space (piece_count (b ∷ bs)) end)
     carried (Ok put) l = (l.0, text_put (among l.0 put.1.now all space) texts put.0 b bs l.1)
     carried (Err end) is = is
 
 -- what is said of the pages of a set, of all pages
-pub is_put : (k : Known) (all : PageId → Option (List ℕ)) (space : Space) (texts : TextMap) (text : List ℕ) (at : TextRef) → PutSomewhere k all space texts text at → IsPut (seen k all space) texts text at
+pub is_put : (k : Known) (all : PageId → Option (List ℕ)) (space : Space) (texts : TextMap) (text : List ℕ) (at : TextRef)
+    → PutSomewhere k all space texts text at → IsPut (seen k all space) texts text at
 is_put k all space texts text at is = (is.1.0, record { reached = is.0; alone = is.1.1 })
 
 pub not_put : (set : ℕ → Bool) (k : Known) (all : PageId → Option (List ℕ)) (space : Space) (text : List ℕ) (end : PageEnd) → IsForm (among set k all space)
@@ -121,15 +129,18 @@ not_put set k all space text end form is = split is
     ))
 
 -- what the call `put` does
-pub put_means : (w : Work) (all : PageId → Option (List ℕ)) (space : Space) (texts : TextMap) (text : List ℕ) → MeansTexts (seen w.now all space) texts → (r : Result TextRef PageEnd) (new : Work)
+pub put_means : (w : Work) (all : PageId → Option (List ℕ)) (space : Space) (texts : TextMap) (text : List ℕ) → MeansTexts (seen w.now all space) texts
+    → (r : Result TextRef PageEnd) (new : Work)
     → Answers (put_in w space text) r new → MatchResult r (λ at. IsPut (seen new.now all space) texts text at) (λ end. IsNotPut w.now all space text end)
 put_means w all space texts text m r new answer = ended (put_in w space text) r (put_text_means m.reached w all space texts text m.alone) answer
   where
     ended : (s : Result (TextRef × Work) PageEnd) (r : Result TextRef PageEnd)
-        → MatchResult s (λ put. PutSomewhere put.1.now all space texts text put.0) (λ end. IsUnput m.reached w.now all space (piece_count text) end) → Answers s r new
+        → MatchResult s (λ put. PutSomewhere put.1.now all space texts text put.0) (λ end. IsUnput m.reached w.now all space (piece_count text) end)
+        → Answers s r new
         → MatchResult r (λ at. IsPut (seen new.now all space) texts text at) (λ end. IsNotPut w.now all space text end)
     ended (Ok put) (Ok at) is answer =
-        subst (λ (p : TextRef × Work). IsPut (seen p.1.now all space) texts text p.0) (λ i. (sym answer.0 i, sym answer.1 i)) (is_put put.1.now all space texts text put.0 is)
+        subst (λ (p : TextRef × Work). IsPut (seen p.1.now all space) texts text p.0) (λ i. (sym answer.0 i, sym answer.1 i))
+        (is_put put.1.now all space texts text put.0 is)
     ended (Ok put) (Err end) is answer = inl (inl answer)
     ended (Err why) (Ok at) is answer = absurd answer
     ended (Err why) (Err end) is answer = split answer

@@ -15,6 +15,7 @@ all_taken at bytes short =
 
 -- the last of so many pieces is put first
 pub put_step : (n : ℕ) (w : Work) (space : Space) (next : TextRef) (bytes : List ℕ) → 0 < n
-    → pieces_put_in n w space next bytes ≡ and_then (piece_put_in w space next (piece_of (n - 1) bytes)) (λ (put : TextRef × Work). pieces_put_in (n - 1) put.1 space put.0 bytes)
+    → pieces_put_in n w space next bytes
+    ≡ and_then (piece_put_in w space next (piece_of (n - 1) bytes)) (λ (put : TextRef × Work). pieces_put_in (n - 1) put.1 space put.0 bytes)
 put_step n w space next bytes some =
     let more : n ≡ suc (n - 1) = omega (arith, some) in ap (λ m. pieces_put_in m w space next bytes) more

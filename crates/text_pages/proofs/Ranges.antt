@@ -23,12 +23,14 @@ bytes_at-part page low m i n inside =
     ∙ ap (take n) (drop-drop i low page)
 
 -- a part of what was written
-pub bytes_at-inside : (page : List ℕ) (to : ℕ) (bytes : List ℕ) (i n : ℕ) → to ≤ length page → i + n ≤ length bytes → bytes_at (to + i) n (with_bytes page to bytes) ≡ bytes_at i n bytes
+pub bytes_at-inside : (page : List ℕ) (to : ℕ) (bytes : List ℕ) (i n : ℕ) → to ≤ length page → i + n ≤ length bytes
+    → bytes_at (to + i) n (with_bytes page to bytes) ≡ bytes_at i n bytes
 bytes_at-inside page to bytes i n within inside =
     sym (bytes_at-part (with_bytes page to bytes) to (length bytes) i n inside) ∙ ap (bytes_at i n) (bytes_at-written page to bytes within)
 
 -- what stands apart from a write stays
-pub bytes_beside : (q n : ℕ) (page : List ℕ) (to : ℕ) (bytes : List ℕ) → Apart q n to (length bytes) → to + length bytes ≤ length page → bytes_at q n (with_bytes page to bytes) ≡ bytes_at q n page
+pub bytes_beside : (q n : ℕ) (page : List ℕ) (to : ℕ) (bytes : List ℕ) → Apart q n to (length bytes) → to + length bytes ≤ length page
+    → bytes_at q n (with_bytes page to bytes) ≡ bytes_at q n page
 bytes_beside q n page to bytes apart within = ⊎_elim
     (λ before. bytes_at-before page q n to bytes before (omega (arith, within)))
     (λ behind. bytes_at-behind page q n to bytes behind (omega (arith, within)))

@@ -27,7 +27,8 @@ pub record IsOpen (page : List ℕ) : Type 0 where
 pub open_page : (page : List ℕ) → IsSound page → IsOpen page
 open_page page s = record { long = s.long; inside = λ t has. ((s.inside t has).1, (s.inside t has).2); apart = s.apart }
 
-module _ (page : List ℕ) (place : Place) (next : TextRef) (text : List ℕ) (o : IsOpen page) (p : IsPlace page place (10 + length text)) (some : 0 < length text) where
+module _ (page : List ℕ) (place : Place) (next : TextRef) (text : List ℕ) (o : IsOpen page) (p : IsPlace page place (10 + length text))
+    (some : 0 < length text) where
   abbrev new : List ℕ
   new = with_piece place next text page
 
@@ -60,7 +61,8 @@ module _ (page : List ℕ) (place : Place) (next : TextRef) (text : List ℕ) (o
       (λ same. let low = low_is in let at = at_is in let size = length_is in let within = p.inside in
       subst (λ s. (lowest new ≤ piece_at s new) × (11 ≤ piece_length s new) × (piece_at s new + piece_length s new ≤ 4096)) (sym same)
       (omega (arith, low, at), omega (arith, size, some), omega (arith, at, size, within)))
-      (λ differ. let was = old s has differ in let above = p.above s was.has in let low = low_is in let inside = o.inside s was.has in let at = was.at in let size = was.size in
+      (λ differ. let was = old s has differ in let above = p.above s was.has in let low = low_is in let inside = o.inside s was.has in let at = was.at in
+      let size = was.size in
       (omega (arith, above, low, at), omega (arith, inside, size), omega (arith, inside, at, size)))
 
   apart_new : (s t : ℕ) → HasPiece new s → HasPiece new t → s ≢ t → AreApart new s t
@@ -99,10 +101,12 @@ module _ (page : List ℕ) (slot : ℕ) (sound : IsSound page) (has : HasPiece p
   pub was_there : (s : ℕ) → HasPiece left s → HasPiece page s × (s ≢ slot)
   was_there s is =
       let count = out.new_count page slot sound has in let within = is.0 in let inside : s < slot_count page = omega (arith, count, within) in
-      let differ : s ≢ slot = λ same. let free = out.slot_free page slot sound has in let some = subst (λ s. 0 < piece_at s left) same is.1 in absurd (omega (arith, free, some)) in
+      let differ : s ≢ slot = λ same. let free = out.slot_free page slot sound has in let some = subst (λ s. 0 < piece_at s left) same is.1 in
+      absurd (omega (arith, free, some)) in
       ((inside, positive (piece_at s page) (out.slot_moved page slot sound has s inside differ) is.1), differ)
     where
-      positive : (n : ℕ) → piece_at s left ≡ (if not (n == 0) && nat_lt n (piece_at slot page) then n + piece_length slot page else n) → 0 < piece_at s left → 0 < n
+      positive : (n : ℕ) → piece_at s left ≡ (if not (n == 0) && nat_lt n (piece_at slot page) then n + piece_length slot page else n) → 0 < piece_at s left
+          → 0 < n
       positive zero same some = absurd (omega (arith, same, some))
       positive (suc n) same some = omega arith
 
@@ -112,24 +116,33 @@ module _ (page : List ℕ) (slot : ℕ) (sound : IsSound page) (has : HasPiece p
       let low = out.new_lowest page slot sound has in let size = out.length_stays page slot sound has s there.0 differ in
       let within = sound.inside s there in let hole = sound.inside slot has in
       split (out.either_place page slot sound has s there differ)
-      (λ (m : out.IsMoved page slot sound has s there differ). let at = m.at in let before = m.before in (omega (arith, at, low, within), omega (arith, size, within), omega (arith, at, size, before, hole)))
-      (λ (m : out.IsStill page slot sound has s there differ). let at = m.at in let behind = m.behind in (omega (arith, at, low, behind, hole), omega (arith, size, within), omega (arith, at, size, within)))
+      (λ (m : out.IsMoved page slot sound has s there differ). let at = m.at in let before = m.before in
+      (omega (arith, at, low, within), omega (arith, size, within), omega (arith, at, size, before, hole)))
+      (λ (m : out.IsStill page slot sound has s there differ). let at = m.at in let behind = m.behind in
+      (omega (arith, at, low, behind, hole), omega (arith, size, within), omega (arith, at, size, within)))
 
   apart_left : (s u : ℕ) → HasPiece left s → HasPiece left u → s ≢ u → AreApart left s u
   apart_left s u is is' differ =
       let was = was_there s is in let was' = was_there u is' in
       let size = out.length_stays page slot sound has s was.0.0 was.1 in let size' = out.length_stays page slot sound has u was'.0.0 was'.1 in
       split (out.either_place page slot sound has s was.0 was.1)
-      (λ (m : out.IsMoved page slot sound has s was.0 was.1). let at = m.at in let before = m.before in split (out.either_place page slot sound has u was'.0 was'.1)
-      (λ (m' : out.IsMoved page slot sound has u was'.0 was'.1). let at' = m'.at in split (sound.apart s u was.0 was'.0 differ) (λ l. inl (omega (arith, l, at, at', size))) (λ r. inr (omega (arith, r, at, at', size'))))
-      (λ (m' : out.IsStill page slot sound has u was'.0 was'.1). let at' = m'.at in let behind = m'.behind in inl (omega (arith, at, at', before, behind, size))))
-      (λ (m : out.IsStill page slot sound has s was.0 was.1). let at = m.at in let behind = m.behind in split (out.either_place page slot sound has u was'.0 was'.1)
-      (λ (m' : out.IsMoved page slot sound has u was'.0 was'.1). let at' = m'.at in let before = m'.before in inr (omega (arith, at, at', before, behind, size')))
-      (λ (m' : out.IsStill page slot sound has u was'.0 was'.1). let at' = m'.at in split (sound.apart s u was.0 was'.0 differ) (λ l. inl (omega (arith, l, at, at', size))) (λ r. inr (omega (arith, r, at, at', size')))))
+      (λ (m : out.IsMoved page slot sound has s was.0 was.1). let at = m.at in let before = m.before in
+      split (out.either_place page slot sound has u was'.0 was'.1)
+      (λ (m' : out.IsMoved page slot sound has u was'.0 was'.1). let at' = m'.at in
+      split (sound.apart s u was.0 was'.0 differ) (λ l. inl (omega (arith, l, at, at', size))) (λ r. inr (omega (arith, r, at, at', size'))))
+      (λ (m' : out.IsStill page slot sound has u was'.0 was'.1). let at' = m'.at in let behind = m'.behind in
+      inl (omega (arith, at, at', before, behind, size))))
+      (λ (m : out.IsStill page slot sound has s was.0 was.1). let at = m.at in let behind = m.behind in
+      split (out.either_place page slot sound has u was'.0 was'.1)
+      (λ (m' : out.IsMoved page slot sound has u was'.0 was'.1). let at' = m'.at in let before = m'.before in
+      inr (omega (arith, at, at', before, behind, size')))
+      (λ (m' : out.IsStill page slot sound has u was'.0 was'.1). let at' = m'.at in
+      split (sound.apart s u was.0 was'.0 differ) (λ l. inl (omega (arith, l, at, at', size))) (λ r. inr (omega (arith, r, at, at', size')))))
 
   pub sound_without : IsSound (closed (hole_of slot page) page)
   sound_without =
-      let count = out.new_count page slot sound has in let low = out.new_lowest page slot sound has in let slots = sound.slots in let hole = sound.inside slot has in
+      let count = out.new_count page slot sound has in let low = out.new_lowest page slot sound has in let slots = sound.slots in let hole =
+      sound.inside slot has in
       record {
         long = out.long_new page slot sound has;
         slots = omega (arith, count, low, slots);

@@ -18,7 +18,8 @@ use Rattle.page_bytes.proofs.Askings.{both_gave, test_passed, asked_there, one_v
 use Rattle.text_pages.proofs.Passing.{slotted_is, has_piece_is, may_go_is}
 
 -- a head that was tested is there
-pub first_there : (k : Known) (space : Space) (n : ℕ) → first_in k space ≡ Ok n → (head : List ℕ) × ((map.get k.pages (head_of space) ≡ Some head) × (n ≡ tried_first head) × (is_head head ≡ true))
+pub first_there : (k : Known) (space : Space) (n : ℕ) → first_in k space ≡ Ok n
+    → (head : List ℕ) × ((map.get k.pages (head_of space) ≡ Some head) × (n ≡ tried_first head) × (is_head head ≡ true))
 first_there k space n is =
     let whole = both_gave (head_in k space) (λ head. Ok (tried_first head)) n is in
     let asked_is = both_gave (asked k (head_of space) (head_of space)) (λ head. tested (head_of space) (is_head head) head) whole.0 whole.1.0 in
@@ -32,7 +33,8 @@ first_there k space n is =
     )
 
 -- a text page that was tested is there
-pub slotted_there : (k : Known) (space : Space) (from number : ℕ) (page : List ℕ) → text_page k space from number ≡ Ok page → (map.get k.pages (page_in space number) ≡ Some page) × (is_writable page ≡ true)
+pub slotted_there : (k : Known) (space : Space) (from number : ℕ) (page : List ℕ) → text_page k space from number ≡ Ok page
+    → (map.get k.pages (page_in space number) ≡ Some page) × (is_writable page ≡ true)
 slotted_there k space from number page is =
     let id = page_in space number in
     let found = both_gave (asked k (page_in space from) id) (λ page. tested id (is_writable page) page) page is in
@@ -49,7 +51,8 @@ pub record IsTested (k : Known) (space : Space) (at : TextRef) (page : List ℕ)
 pub piece_there : (k : Known) (space : Space) (from : ℕ) (at : TextRef) (page : List ℕ) → piece_in k space from at ≡ Ok page → IsTested k space at page
 piece_there k space from at page is =
     let id = page_in space at.page in
-    let found = both_gave (text_page k space from at.page) (λ page. and_then (tested (page_in space from) (has_piece at.slot page) page) (λ page. tested id (may_go at.slot page) page)) page is in
+    let found = both_gave (text_page k space from at.page)
+    (λ page. and_then (tested (page_in space from) (has_piece at.slot page) page) (λ page. tested id (may_go at.slot page) page)) page is in
     let first = slotted_there k space from at.page found.0 found.1.0 in
     let second = both_gave (tested (page_in space from) (has_piece at.slot found.0) found.0) (λ page. tested id (may_go at.slot page) page) page found.1.1 in
     let has = test_passed (page_in space from) (has_piece at.slot found.0) found.0 second.0 second.1.0 in
@@ -78,7 +81,8 @@ module _ (w : Work) (space : Space) (at : TextRef) (P : Work → Type 0) where
     -- the page went, and where it was tried first none is
     pub freed : (b : Bool) → P (if b then with_first (without_page w (page_in space at.page)) space 0 else without_page w (page_in space at.page))
     -- the piece went, and its page may be tried first
-    pub holed : (b : Bool) → P (if b then with_first (with_hole w space at.page (hole_of at.slot page)) space at.page else with_hole w space at.page (hole_of at.slot page))
+    pub holed : (b : Bool) → P
+        (if b then with_first (with_hole w space at.page (hole_of at.slot page)) space at.page else with_hole w space at.page (hole_of at.slot page))
 
   module _ (page : List ℕ) (cases : (head : List ℕ) → map.get w.now.pages (head_of space) ≡ Some head → EachCase page) where
     abbrev gone_page : Work
@@ -94,10 +98,12 @@ module _ (w : Work) (space : Space) (at : TextRef) (P : Work → Type 0) where
         subst (λ (r : Unit {0} × Work). P r.1) (one_value _ gone first.1.1) ((cases head.0 head.1.0).freed (first.0 == at.page))
 
     noted_case : (first room : ℕ) (head : List ℕ) (gone : Unit {0} × Work) → map.get w.now.pages (head_of space) ≡ Some head → (b : Bool)
-        → (if b then Ok (tt, gone_piece) else and_then (room_in gone_piece.now space first) (λ tried. Ok (tt, if is_roomier room tried then with_first gone_piece space at.page else gone_piece))) ≡ Ok gone → P gone.1
+        → (if b then Ok (tt, gone_piece) else and_then (room_in gone_piece.now space first)
+        (λ tried. Ok (tt, if is_roomier room tried then with_first gone_piece space at.page else gone_piece))) ≡ Ok gone → P gone.1
     noted_case first room head gone there true is = subst (λ (r : Unit {0} × Work). P r.1) (one_value (tt, gone_piece) gone is) ((cases head there).holed false)
     noted_case first room head gone there false is =
-        let tried = both_gave (room_in gone_piece.now space first) (λ tried. Ok (tt, if is_roomier room tried then with_first gone_piece space at.page else gone_piece)) gone is in
+        let tried = both_gave (room_in gone_piece.now space first)
+        (λ tried. Ok (tt, if is_roomier room tried then with_first gone_piece space at.page else gone_piece)) gone is in
         subst (λ (r : Unit {0} × Work). P r.1) (one_value _ gone tried.1.1) ((cases head there).holed (is_roomier room tried.0))
 
     holed_case : (room : ℕ) (gone : Unit {0} × Work) → hole_made_in w space at.page (hole_of at.slot page) room ≡ Ok gone → P gone.1
@@ -105,18 +111,23 @@ module _ (w : Work) (space : Space) (at : TextRef) (P : Work → Type 0) where
         let first = both_gave (first_in w.now space) (λ first. roomier_in gone_piece space first at.page room) gone is in
         let head = first_there w.now space first.0 first.1.0 in noted_case first.0 room head.0 gone head.1.0 (first.0 == at.page) first.1.1
 
-    either_case : (room : ℕ) (gone : Unit {0} × Work) (b : Bool) → (if b then page_freed_in w space at.page else hole_made_in w space at.page (hole_of at.slot page) room) ≡ Ok gone → P gone.1
+    either_case : (room : ℕ) (gone : Unit {0} × Work) (b : Bool)
+        → (if b then page_freed_in w space at.page else hole_made_in w space at.page (hole_of at.slot page) room) ≡ Ok gone → P gone.1
     either_case room gone true is = freed_case gone is
     either_case room gone false is = holed_case room gone is
 
-  pub taken_case : (from : ℕ) (next : TextRef) (new : Work) → ((page head : List ℕ) → IsTested w.now space at page → map.get w.now.pages (head_of space) ≡ Some head → EachCase page) → piece_taken_in w space from at ≡ Ok (next, new) → P new
+  pub taken_case : (from : ℕ) (next : TextRef) (new : Work)
+      → ((page head : List ℕ) → IsTested w.now space at page → map.get w.now.pages (head_of space) ≡ Some head → EachCase page)
+      → piece_taken_in w space from at ≡ Ok (next, new) → P new
   taken_case from next new cases is =
-      let looked = both_gave (leaving_in w.now space from at) (λ leaving. and_then (piece_gone_in w space at.page leaving) (λ gone. Ok (leaving.next, gone.1))) (next, new) is in
+      let looked = both_gave (leaving_in w.now space from at) (λ leaving. and_then (piece_gone_in w space at.page leaving) (λ gone. Ok (leaving.next, gone.1)))
+      (next, new) is in
       let found = both_gave (piece_in w.now space from at) (λ page. Ok (leaving_of at.slot page)) looked.0 looked.1.0 in
       let page = found.0 in
       let leaving_is : leaving_of at.slot page ≡ looked.0 = one_value (leaving_of at.slot page) looked.0 found.1.1 in
       let gone = both_gave (piece_gone_in w space at.page looked.0) (λ (gone : Unit {0} × Work). Ok (looked.0.next, gone.1)) (next, new) looked.1.1 in
       let new_is : gone.0.1 ≡ new = ap (λ (p : TextRef × Work). p.1) (one_value (looked.0.next, gone.0.1) (next, new) gone.1.1) in
       subst P new_is
-      (either_case page (λ head there. cases page head (piece_there w.now space from at page found.1.0) there) (leaving_of at.slot page).room gone.0 (leaving_of at.slot page).only
+      (either_case page (λ head there. cases page head (piece_there w.now space from at page found.1.0) there) (leaving_of at.slot page).room gone.0
+      (leaving_of at.slot page).only
       (ap (piece_gone_in w space at.page) leaving_is ∙ gone.1.0))

@@ -24,7 +24,8 @@ use Rattle.text_pages.proofs.Ranges.{split}
 use Rattle.text_pages.proofs.TakeSteps.{TakeEnds, take_ends}
 
 -- a text that is there stands beside the others
-pub loose_there : (pages : ℕ → Option (List ℕ)) (texts : TextMap) (at : TextRef) → AreTexts pages texts → IsSome (text_in texts at) → (text : List ℕ) × Loose pages (map.remove texts at) at text
+pub loose_there : (pages : ℕ → Option (List ℕ)) (texts : TextMap) (at : TextRef) → AreTexts pages texts → IsSome (text_in texts at)
+    → (text : List ℕ) × Loose pages (map.remove texts at) at text
 loose_there pages texts at m there = from (at.page == 0) refl there
   where
     from : (b : Bool) → (at.page == 0) ≡ b → IsSome (if b then Some [] else map.get texts at) → (text : List ℕ) × Loose pages (map.remove texts at) at text
@@ -48,9 +49,11 @@ module _ (set : ℕ → Bool) (w : Work) (all : PageId → Option (List ℕ)) (s
       past : (t.at.page == 0) ≡ false → t.at.page ≢ 0
       past is none = true≢false (sym (eq-eqb t.at.page 0 none) ∙ is)
 
-      carried : t.at.page ≢ 0 → (r : Result (TextRef × Work) PageEnd) → TakeEnds set t.work all space t.at r → LeftOf (and_then r (λ (taken : TextRef × Work). Ok (record { at = taken.0; from = t.at.page; work = taken.1 })))
+      carried : t.at.page ≢ 0 → (r : Result (TextRef × Work) PageEnd) → TakeEnds set t.work all space t.at r
+          → LeftOf (and_then r (λ (taken : TextRef × Work). Ok (record { at = taken.0; from = t.at.page; work = taken.1 })))
       carried differ (Ok taken) step =
-          let left = loose_taken (among set t.work.now all space) (among set taken.1.now all space) texts t.at h.text h.rest (omega (arith, differ)) step.takes in
+          let left = loose_taken (among set t.work.now all space) (among set taken.1.now all space) texts t.at h.text h.rest
+          (omega (arith, differ)) step.takes in
           record {
             text = left.0;
             rest = subst (λ next. Loose (among set taken.1.now all space) texts next left.0) (sym step.leads) left.1;
@@ -59,9 +62,12 @@ module _ (set : ℕ → Bool) (w : Work) (all : PageId → Option (List ℕ)) (s
           }
       carried differ (Err end) is = stop_before w.now t.work.now all space end h.grows is
 
-      at_page : (b : Bool) → (t.at.page == 0) ≡ b → LeftOf (if b then Ok t else and_then (piece_taken_in t.work space t.from t.at) (λ (taken : TextRef × Work). Ok (record { at = taken.0; from = t.at.page; work = taken.1 })))
+      at_page : (b : Bool) → (t.at.page == 0) ≡ b
+          → LeftOf (if b then Ok t else and_then (piece_taken_in t.work space t.from t.at)
+          (λ (taken : TextRef × Work). Ok (record { at = taken.0; from = t.at.page; work = taken.1 })))
       at_page true is = h
-      at_page false is = carried (past is) (piece_taken_in t.work space t.from t.at) (take_ends set t.work all space h.rest.means.form t.from t.at (first_piece (among set t.work.now all space) texts t.at h.text h.rest (past is)).0)
+      at_page false is = carried (past is) (piece_taken_in t.work space t.from t.at)
+          (take_ends set t.work all space h.rest.means.form t.from t.at (first_piece (among set t.work.now all space) texts t.at h.text h.rest (past is)).0)
 
   pub left_after : (text : List ℕ) → Loose (among set w.now all space) texts at text → (n : ℕ) → LeftOf (taken_in w space at n)
   left_after text l zero = record { text = text; rest = l; grows = λ id is. is; made = omega arith }
@@ -72,7 +78,8 @@ module _ (set : ℕ → Bool) (w : Work) (all : PageId → Option (List ℕ)) (s
       more (Err end) is = is
 
   -- what the call `remove` does
-  pub remove_ends : (text : List ℕ) → Loose (among set w.now all space) texts at text → (r : Result (Unit {0}) PageEnd) (new : Work) → IsRemoved w space at r new
+  pub remove_ends : (text : List ℕ) → Loose (among set w.now all space) texts at text → (r : Result (Unit {0}) PageEnd) (new : Work)
+      → IsRemoved w space at r new
       → MatchResult r (λ done. AreTexts (among set new.now all space) texts) (λ end. IsStop w.now all space end)
   remove_ends text l (Ok done) new is =
       let left : HasLeft is.1.0 = subst LeftOf is.1.1.0 (left_after text l is.0) in
@@ -83,7 +90,8 @@ module _ (set : ℕ → Bool) (w : Work) (all : PageId → Option (List ℕ)) (s
   abbrev PutThen : Work → List ℕ → Result (TextRef × Work) PageEnd → Type 0
   PutThen v bytes r = MatchResult r (λ put. PutSomewhere put.1.now all space texts bytes put.0) (λ end. IsUnput set v.now all space (piece_count bytes) end)
 
-  pub replace_ends : (text : List ℕ) → Loose (among set w.now all space) texts at text → (bytes : List ℕ) (r : Result TextRef PageEnd) (new : Work) → IsReplaced w space at bytes r new
+  pub replace_ends : (text : List ℕ) → Loose (among set w.now all space) texts at text → (bytes : List ℕ) (r : Result TextRef PageEnd) (new : Work)
+      → IsReplaced w space at bytes r new
       → MatchResult r (λ ref. PutSomewhere new.now all space texts bytes ref) (λ end. IsUnput set w.now all space (piece_count bytes) end)
   replace_ends text l bytes (Ok ref) new is =
       let left : HasLeft is.1.0 = subst LeftOf is.1.1.0 (left_after text l is.0) in
@@ -96,26 +104,31 @@ module _ (set : ℕ → Bool) (w : Work) (all : PageId → Option (List ℕ)) (s
       unput_before set set w.now put.1.0.work.now all space (piece_count bytes) (piece_count bytes) end left.grows (omega (arith, made))
       (subst (PutThen put.1.0.work bytes) put.1.1.2 (put_text_means set put.1.0.work all space texts bytes left.rest.means))))
 
-pub remove_means : (w : Work) (all : PageId → Option (List ℕ)) (space : Space) (texts : TextMap) (at : TextRef) → MeansTexts (seen w.now all space) texts → IsSome (text_in texts at)
+pub remove_means : (w : Work) (all : PageId → Option (List ℕ)) (space : Space) (texts : TextMap) (at : TextRef) → MeansTexts (seen w.now all space) texts
+    → IsSome (text_in texts at)
     → (r : Result (Unit {0}) PageEnd) (new : Work) → IsRemoved w space at r new
     → MatchResult r (λ done. MeansTexts (seen new.now all space) (map.remove texts at)) (λ end. IsStop w.now all space end)
 remove_means w all space texts at m there r new is =
     let l = loose_there (among m.reached w.now all space) texts at m.alone there in
     whole r (remove_ends m.reached w all space (map.remove texts at) at l.0 l.1 r new is)
   where
-    whole : (r : Result (Unit {0}) PageEnd) → MatchResult r (λ done. AreTexts (among m.reached new.now all space) (map.remove texts at)) (λ end. IsStop w.now all space end)
+    whole : (r : Result (Unit {0}) PageEnd)
+        → MatchResult r (λ done. AreTexts (among m.reached new.now all space) (map.remove texts at)) (λ end. IsStop w.now all space end)
         → MatchResult r (λ done. MeansTexts (seen new.now all space) (map.remove texts at)) (λ end. IsStop w.now all space end)
     whole (Ok done) is = record { reached = m.reached; alone = is }
     whole (Err end) is = is
 
-pub replace_means : (w : Work) (all : PageId → Option (List ℕ)) (space : Space) (texts : TextMap) (at : TextRef) → MeansTexts (seen w.now all space) texts → IsSome (text_in texts at) → (bytes : List ℕ)
+pub replace_means : (w : Work) (all : PageId → Option (List ℕ)) (space : Space) (texts : TextMap) (at : TextRef) → MeansTexts (seen w.now all space) texts
+    → IsSome (text_in texts at) → (bytes : List ℕ)
     → (r : Result TextRef PageEnd) (new : Work) → IsReplaced w space at bytes r new
     → MatchResult r (λ ref. IsPut (seen new.now all space) (map.remove texts at) bytes ref) (λ end. IsNotPut w.now all space bytes end)
 replace_means w all space texts at m there bytes r new is =
     let l = loose_there (among m.reached w.now all space) texts at m.alone there in
     whole r (replace_ends m.reached w all space (map.remove texts at) at l.0 l.1 bytes r new is)
   where
-    whole : (r : Result TextRef PageEnd) → MatchResult r (λ ref. PutSomewhere new.now all space (map.remove texts at) bytes ref) (λ end. IsUnput m.reached w.now all space (piece_count bytes) end)
+    whole : (r : Result TextRef PageEnd)
+        → MatchResult r (λ ref. PutSomewhere new.now all space (map.remove texts at) bytes ref)
+        (λ end. IsUnput m.reached w.now all space (piece_count bytes) end)
         → MatchResult r (λ ref. IsPut (seen new.now all space) (map.remove texts at) bytes ref) (λ end. IsNotPut w.now all space bytes end)
     whole (Ok ref) is = is_put new.now all space (map.remove texts at) bytes ref is
     whole (Err end) is = not_put m.reached w.now all space bytes end m.alone.form is

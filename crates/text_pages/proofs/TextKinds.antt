@@ -17,20 +17,25 @@ IsOfText page = IsOfKind TEXT_KIND page
 
 of_slot : (slot at len : ℕ) (page : List ℕ) → IsOfText page → slot < 1022 → IsOfText (with_slot slot at len page)
 of_slot slot at len page is below =
-    of_field TEXT_KIND 2 (with_field 2 page (slot_at slot) at) (slot_at slot + 2) len (of_field TEXT_KIND 2 page (slot_at slot) at is (omega arith) (omega (arith, below))) (omega arith) (omega (arith, below))
+    of_field TEXT_KIND 2 (with_field 2 page (slot_at slot) at) (slot_at slot + 2) len
+    (of_field TEXT_KIND 2 page (slot_at slot) at is (omega arith) (omega (arith, below))) (omega arith) (omega (arith, below))
 
 -- a piece is put in
-pub of_piece : (place : Place) (next : TextRef) (text page : List ℕ) → IsOfText page → place.slot < 1022 → 1 ≤ place.at → place.at + (10 + length text) ≤ 4096 → IsOfText (with_piece place next text page)
+pub of_piece : (place : Place) (next : TextRef) (text page : List ℕ) → IsOfText page → place.slot < 1022 → 1 ≤ place.at → place.at + (10 + length text) ≤ 4096
+    → IsOfText (with_piece place next text page)
 of_piece place next text page is below past within =
     let first = with_field 8 page place.at next.page in let second = with_field 2 first (place.at + 8) next.slot in
     let slotted = with_slot place.slot place.at (10 + length text) (with_content place.at next text page) in
     let one : IsOfText first = of_field TEXT_KIND 8 page place.at next.page is past (omega (arith, within)) in
     let two : IsOfText second = of_field TEXT_KIND 2 first (place.at + 8) next.slot one (omega arith) (omega (arith, within)) in
     let content : IsOfText (with_content place.at next text page) = of_bytes TEXT_KIND second (place.at + 10) text two (omega arith) (omega (arith, within)) in
-    of_field TEXT_KIND 2 (with_field 2 slotted 2 place.count) 4 place.at (of_field TEXT_KIND 2 slotted 2 place.count (of_slot place.slot place.at (10 + length text) (with_content place.at next text page) content below) (omega arith) (omega arith)) (omega arith) (omega arith)
+    of_field TEXT_KIND 2 (with_field 2 slotted 2 place.count) 4 place.at
+    (of_field TEXT_KIND 2 slotted 2 place.count (of_slot place.slot place.at (10 + length text) (with_content place.at next text page) content below)
+    (omega arith) (omega arith)) (omega arith) (omega arith)
 
 pub of_new_page : (next : TextRef) (text : List ℕ) → length text ≤ 4074 → IsOfText (page_with_piece next text)
-of_new_page next text short = of_piece (only_place text) next text blank (record { long = blank_long; kind_is = blank_kind }) (omega arith) (omega (arith, short)) (omega (arith, short))
+of_new_page next text short =
+    of_piece (only_place text) next text blank (record { long = blank_long; kind_is = blank_kind }) (omega arith) (omega (arith, short)) (omega (arith, short))
 
 -- a piece is taken out
 module _ (hole : Hole) (inside : IsHole hole) (past : 1 ≤ hole.lowest) where
@@ -48,6 +53,9 @@ module _ (hole : Hole) (inside : IsHole hole) (past : 1 ≤ hole.lowest) where
   pub of_closed : (page : List ℕ) → IsOfText page → IsOfText (closed hole page)
   of_closed page is =
       let long = is.long in let size = length-bytes_at hole.lowest (hole.at - hole.lowest) page (omega (arith, long, inside)) in
-      let pieces : IsOfText (moved_pieces hole page) = of_bytes TEXT_KIND page (hole.lowest + hole.length) (bytes_at hole.lowest (hole.at - hole.lowest) page) is (omega (arith, past)) (omega (arith, size, inside)) in
+      let pieces : IsOfText (moved_pieces hole page) =
+      of_bytes TEXT_KIND page (hole.lowest + hole.length) (bytes_at hole.lowest (hole.at - hole.lowest) page) is (omega (arith, past))
+      (omega (arith, size, inside)) in
       let slots = of_moved_slots hole.count (moved_pieces hole page) pieces inside.0 in
-      of_field TEXT_KIND 2 (slots_closed hole inside page) 4 (hole.lowest + hole.length) (of_slot hole.slot 0 0 (moved_slots hole hole.count (moved_pieces hole page)) slots (omega (arith, inside))) (omega arith) (omega arith)
+      of_field TEXT_KIND 2 (slots_closed hole inside page) 4 (hole.lowest + hole.length)
+      (of_slot hole.slot 0 0 (moved_slots hole hole.count (moved_pieces hole page)) slots (omega (arith, inside))) (omega arith) (omega arith)

@@ -24,11 +24,13 @@ pub weight : PageMap → ℕ
 weight pages = entries_weight (map.entries pages)
 
 -- a page under a new name adds its weight
-added : (id : PageId) (v : List ℕ) (es : List (PageId × List ℕ)) → find page_cmp id es ≡ None → entries_weight (put page_cmp id v es) ≡ entries_weight es + page_weight v
+added : (id : PageId) (v : List ℕ) (es : List (PageId × List ℕ)) → find page_cmp id es ≡ None
+    → entries_weight (put page_cmp id v es) ≡ entries_weight es + page_weight v
 added id v [] none = omega arith
 added id v (e ∷ es) none = at (page_cmp id e.0) none (λ later. added id v es later)
   where
-    at : (o : Ordering) → cond (is_eq o) (Some e.1) (find page_cmp id es) ≡ None → (find page_cmp id es ≡ None → entries_weight (put page_cmp id v es) ≡ entries_weight es + page_weight v)
+    at : (o : Ordering) → cond (is_eq o) (Some e.1) (find page_cmp id es) ≡ None
+        → (find page_cmp id es ≡ None → entries_weight (put page_cmp id v es) ≡ entries_weight es + page_weight v)
         → entries_weight (by_order o ((id, v) ∷ e ∷ es) ((e.0, v) ∷ es) (e ∷ put page_cmp id v es)) ≡ (page_weight e.1 + entries_weight es) + page_weight v
     at Less is rest = omega arith
     at Equal is rest = cc
@@ -60,5 +62,6 @@ weight-without m id x is =
 -- a page in the place of another changes the weight by the difference of the two
 pub weight-replaced : (m : PageMap) (id : PageId) (x v : List ℕ) → map.get m id ≡ Some x → weight (map.insert m id v) + page_weight x ≡ weight m + page_weight v
 weight-replaced m id x v is =
-    let new : weight (map.insert m id v) ≡ weight (map.remove m id) + page_weight v = ap weight (sym (again m id v)) ∙ weight-added (map.remove m id) id v (gone m id) in
+    let new : weight (map.insert m id v) ≡ weight (map.remove m id) + page_weight v = ap weight (sym (again m id v))
+    ∙ weight-added (map.remove m id) id v (gone m id) in
     let old = weight-without m id x is in omega (arith, new, old)

@@ -94,7 +94,8 @@ pub record AreTexts (pages : ℕ → Option (List ℕ)) (texts : TextMap) : Type
   pub leads : (at : TextRef) → IsSome (map.get texts at) → IsChain pages at (chain at)
   pub joins : (at : TextRef) (text : List ℕ) → map.get texts at ≡ Some text → (text ≡ joined_bytes pages (chain at)) × (0 < length text)
   pub once : (at : TextRef) → IsSome (map.get texts at) → IsOnceEach (chain at)
-  pub apart : (at other r : TextRef) → IsSome (map.get texts at) → IsSome (map.get texts other) → is_listed (chain at) r ≡ true → is_listed (chain other) r ≡ true → at ≡ other
+  pub apart : (at other r : TextRef) → IsSome (map.get texts at) → IsSome (map.get texts other) → is_listed (chain at) r ≡ true
+      → is_listed (chain other) r ≡ true → at ≡ other
 
 -- The pages mean these texts: those of some set do, alone. These are the head, the page that it tries first, and the pages of the
 -- chains; a page that nothing leads to may have anything.

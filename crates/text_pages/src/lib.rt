@@ -24,4 +24,3 @@ mod writing;
 
 pub use laws::{frame_law, keeping_laws};
 pub use texts::{get, put, remove, replace};
-

@@ -38,7 +38,8 @@ back : (a b : List ℕ) → bytes_eq a b ≡ eq_by_cmp (slice_cmp nat_cmp) b a
 back a b = sym (is_eq-slice_cmp a b) ∙ (eq_by_cmp_equiv nat_list_cmp_total).symm a b
 
 -- what the changes have at a name
-pub get-entries : {A Z : Type 0} (es : List (String A × Option (Arc Doc Z))) (q : List ℕ) → map.get (changes_of_entries es) q ≡ entry_of (lookup (λ k. bytes_eq q (string_bytes k)) es)
+pub get-entries : {A Z : Type 0} (es : List (String A × Option (Arc Doc Z))) (q : List ℕ)
+    → map.get (changes_of_entries es) q ≡ entry_of (lookup (λ k. bytes_eq q (string_bytes k)) es)
 get-entries es q = map.get-from_entries nat_list_cmp_total (list_map (λ e. (string_bytes e.0, unshared e.1)) es) q ∙ find-texts q es
 
 -- one change more

@@ -21,14 +21,16 @@ IsAt name found = IfSome found (λ doc. IsTrue (is_document_name name) × IsVali
 inserted : (F : Forest) (name : List ℕ) (doc : Doc) → IsForest F → IsTrue (is_document_name name) → IsValid doc → IsForest (forests.insert F name doc)
 inserted F name doc forest named valid q =
     elim (bytes_eq name q) as (λ b. bytes_eq name q ≡ b → IsAt q (forests.get (forests.insert F name doc) q)) [
-      | true ↦ λ same. subst (λ z. IsAt z (forests.get (forests.insert F name doc) z)) ((bytes_eq-Decides name q).0 same) (subst (IsAt name) (sym (get-put F name doc)) (named, valid))
+      | true ↦ λ same. subst (λ z. IsAt z (forests.get (forests.insert F name doc) z)) ((bytes_eq-Decides name q).0 same)
+          (subst (IsAt name) (sym (get-put F name doc)) (named, valid))
       | false ↦ λ other. subst (IsAt q) (sym (get-beside F name q doc other)) (forest q)
     ] refl
 
 removed : (F : Forest) (name : List ℕ) → IsForest F → IsForest (forests.remove F name)
 removed F name forest q =
     elim (bytes_eq name q) as (λ b. bytes_eq name q ≡ b → IsAt q (forests.get (forests.remove F name) q)) [
-      | true ↦ λ same. subst (λ z. IsAt z (forests.get (forests.remove F name) z)) ((bytes_eq-Decides name q).0 same) (subst (IsAt name) (sym (get-gone F name)) tt)
+      | true ↦ λ same. subst (λ z. IsAt z (forests.get (forests.remove F name) z)) ((bytes_eq-Decides name q).0 same)
+          (subst (IsAt name) (sym (get-gone F name)) tt)
       | false ↦ λ other. subst (IsAt q) (sym (get-beside-gone F name q other)) (forest q)
     ] refl
 

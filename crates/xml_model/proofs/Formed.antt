@@ -75,8 +75,10 @@ was_not false h = refl
 -- ---- the fold at each variant
 
 element_is : (name : List ℕ) (attrs : List Attr) (s : _) (row : Row_of-Node _)
-    → sibling (Element' name attrs s row) ≡ record { is_text = false; is_formed = is_name name && (are_attributes attrs && are_formed false (map sibling (items-the_row-Node _ row))) }
-element_is name attrs s row = fold_out-Node Sibling sibling_step (Element' name attrs s row) ∙ rw (outs-Element' name attrs s row, items_shown-the_row-Node-0 s row) refl
+    → sibling (Element' name attrs s row)
+    ≡ record { is_text = false; is_formed = is_name name && (are_attributes attrs && are_formed false (map sibling (items-the_row-Node _ row))) }
+element_is name attrs s row = fold_out-Node Sibling sibling_step (Element' name attrs s row)
+    ∙ rw (outs-Element' name attrs s row, items_shown-the_row-Node-0 s row) refl
 
 text_is : (value : List ℕ) → sibling (Text value) ≡ record { is_text = true; is_formed = nat_lt 0 (length value) }
 text_is value = fold_out-Node Sibling sibling_step (Text value) ∙ rw (outs-Text value) refl
@@ -93,17 +95,23 @@ text_same (Pi target value) = ap (λ x. x.is_text) (instruction_is target value)
 
 pub attributes_hold : (attrs : List Attr) → AreAttributes attrs → IsTrue (are_attributes attrs)
 attributes_hold [] h = refl
-attributes_hold (a ∷ more) h = both (is_name a.name) _ h.0 (both (not (has_attribute a.name more)) (are_attributes more) (is_not _ h.1) (attributes_hold more h.2))
+attributes_hold (a ∷ more) h =
+    both (is_name a.name) _ h.0 (both (not (has_attribute a.name more)) (are_attributes more) (is_not _ h.1) (attributes_hold more h.2))
 
 pub attributes_of : (attrs : List Attr) → IsTrue (are_attributes attrs) → AreAttributes attrs
 attributes_of [] h = tt
 attributes_of (a ∷ more) h =
-    let rest = second (is_name a.name) _ h in
-    (first (is_name a.name) _ h, was_not _ (first (not (has_attribute a.name more)) (are_attributes more) rest), attributes_of more (second (not (has_attribute a.name more)) (are_attributes more) rest))
+    let rest = second (is_name a.name) _ h in (
+      first (is_name a.name) _ h,
+      was_not _ (first (not (has_attribute a.name more)) (are_attributes more) rest),
+      attributes_of more
+          (second (not (has_attribute a.name more)) (are_attributes more) rest),
+    )
 
 -- ---- one sibling before the others
 
-list_holds : (after : Bool) (n : Node) (more : List Node) → (after && is_text n) ≡ false → IsTrue (sibling n).is_formed → IsTrue (are_formed (is_text n) (map sibling more)) → IsTrue (are_formed after (map sibling (n ∷ more)))
+list_holds : (after : Bool) (n : Node) (more : List Node) → (after && is_text n) ≡ false → IsTrue (sibling n).is_formed
+    → IsTrue (are_formed (is_text n) (map sibling more)) → IsTrue (are_formed after (map sibling (n ∷ more)))
 list_holds after n more apart formed rest =
     both (not (after && (sibling n).is_text)) _ (is_not _ (ap (λ t. after && t) (text_same n) ∙ apart))
     (both (sibling n).is_formed _ formed (subst (λ t. IsTrue (are_formed t (map sibling more))) (sym (text_same n)) rest))
@@ -114,21 +122,26 @@ list_apart after n more h = ap (λ t. after && t) (sym (text_same n)) ∙ was_no
 list_first : (after : Bool) (n : Node) (more : List Node) → IsTrue (are_formed after (map sibling (n ∷ more))) → IsTrue (sibling n).is_formed
 list_first after n more h = first (sibling n).is_formed _ (second (not (after && (sibling n).is_text)) _ h)
 
-list_rest : (after : Bool) (n : Node) (more : List Node) → IsTrue (are_formed after (map sibling (n ∷ more))) → IsTrue (are_formed (is_text n) (map sibling more))
-list_rest after n more h = subst (λ t. IsTrue (are_formed t (map sibling more))) (text_same n) (second (sibling n).is_formed _ (second (not (after && (sibling n).is_text)) _ h))
+list_rest : (after : Bool) (n : Node) (more : List Node) → IsTrue (are_formed after (map sibling (n ∷ more)))
+    → IsTrue (are_formed (is_text n) (map sibling more))
+list_rest after n more h =
+    subst (λ t. IsTrue (are_formed t (map sibling more))) (text_same n) (second (sibling n).is_formed _ (second (not (after && (sibling n).is_text)) _ h))
 
 -- ---- trees
 
 mutual
   node_holds : (n : Node) → IsFormed n → IsTrue (sibling n).is_formed
   node_holds (Element' name attrs s row) h =
-      subst (λ x. IsTrue x.is_formed) (sym (element_is name attrs s row)) (both (is_name name) _ h.0 (both (are_attributes attrs) _ (attributes_hold attrs h.1) (row_holds _ false row h.2 h.3)))
+      subst (λ x. IsTrue x.is_formed) (sym (element_is name attrs s row))
+      (both (is_name name) _ h.0 (both (are_attributes attrs) _ (attributes_hold attrs h.1) (row_holds _ false row h.2 h.3)))
   node_holds (Text value) h = subst (λ x. IsTrue x.is_formed) (sym (text_is value)) (grind (arith, nat_tests))
   node_holds (Pi target value) h = subst (λ x. IsTrue x.is_formed) (sym (instruction_is target value)) h
 
-  row_holds : (m : _) (after : Bool) (row : Row_of-Node m) → IsApart after (items-the_row-Node m row) → AreFormed row → IsTrue (are_formed after (map sibling (items-the_row-Node m row)))
+  row_holds : (m : _) (after : Bool) (row : Row_of-Node m) → IsApart after (items-the_row-Node m row) → AreFormed row
+      → IsTrue (are_formed after (map sibling (items-the_row-Node m row)))
   row_holds _ after end_of-Node apart h = refl
-  row_holds _ after (more_of-Node n row) apart h = list_holds after n (items-the_row-Node _ row) apart.0 (node_holds n h.0) (row_holds _ (is_text n) row apart.1 h.1)
+  row_holds _ after (more_of-Node n row) apart h =
+      list_holds after n (items-the_row-Node _ row) apart.0 (node_holds n h.0) (row_holds _ (is_text n) row apart.1 h.1)
 
 mutual
   node_of : (n : Node) → IsTrue (sibling n).is_formed → IsFormed n
@@ -140,13 +153,16 @@ mutual
   node_of (Text value) h = ltb-true 0 (length value) (subst (λ x. IsTrue x.is_formed) (text_is value) h)
   node_of (Pi target value) h = subst (λ x. IsTrue x.is_formed) (instruction_is target value) h
 
-  row_apart : (m : _) (after : Bool) (row : Row_of-Node m) → IsTrue (are_formed after (map sibling (items-the_row-Node m row))) → IsApart after (items-the_row-Node m row)
+  row_apart : (m : _) (after : Bool) (row : Row_of-Node m) → IsTrue (are_formed after (map sibling (items-the_row-Node m row)))
+      → IsApart after (items-the_row-Node m row)
   row_apart _ after end_of-Node h = tt
-  row_apart _ after (more_of-Node n row) h = (list_apart after n (items-the_row-Node _ row) h, row_apart _ (is_text n) row (list_rest after n (items-the_row-Node _ row) h))
+  row_apart _ after (more_of-Node n row) h =
+      (list_apart after n (items-the_row-Node _ row) h, row_apart _ (is_text n) row (list_rest after n (items-the_row-Node _ row) h))
 
   row_of : (m : _) (after : Bool) (row : Row_of-Node m) → IsTrue (are_formed after (map sibling (items-the_row-Node m row))) → AreFormed row
   row_of _ after end_of-Node h = tt
-  row_of _ after (more_of-Node n row) h = (node_of n (list_first after n (items-the_row-Node _ row) h), row_of _ (is_text n) row (list_rest after n (items-the_row-Node _ row) h))
+  row_of _ after (more_of-Node n row) h =
+      (node_of n (list_first after n (items-the_row-Node _ row) h), row_of _ (is_text n) row (list_rest after n (items-the_row-Node _ row) h))
 
 all_hold : (after : Bool) (nodes : List Node) → IsApart after nodes → AllFormed nodes → IsTrue (are_formed after (map sibling nodes))
 all_hold after [] apart h = refl
@@ -166,4 +182,11 @@ form_is_valid doc h = record { formed = all_hold false doc.kids h.apart h.formed
 
 -- a valid document has this form
 pub valid_has_form : (doc : Doc) → IsValid doc → HasForm doc
-valid_has_form doc h = record { formed = all_of false doc.kids h.formed; apart = all_apart false doc.kids h.formed; depth = h.depth; nodes = h.nodes; text = h.text }
+valid_has_form doc h = record {
+  formed = all_of false doc.kids h.formed;
+  apart = all_apart false doc.kids h.formed;
+  depth = h.depth;
+  nodes = h.nodes;
+  text =
+      h.text;
+}

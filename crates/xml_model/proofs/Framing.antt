@@ -37,7 +37,8 @@ get-beside-gone F name q other = forests.get-remove nat_list_cmp_total F name q 
 
 -- ---- what is said depends on the document of the name alone
 
-added_says : (name : List ℕ) (o : Option Doc) (made : Result Doc RefusedLine) (F G : Forest) → (added_where_free o name made F).says ≡ (added_where_free o name made G).says
+added_says : (name : List ℕ) (o : Option Doc) (made : Result Doc RefusedLine) (F G : Forest)
+    → (added_where_free o name made F).says ≡ (added_where_free o name made G).says
 added_says name (Some there) made F G = refl
 added_says name None (Ok doc) F G = refl
 added_says name None (Err refused) F G = refl

@@ -80,7 +80,8 @@ instruction_form target (b ∷ bs) h =
     ap₂ instruction (before_space_all target (escaped (b ∷ bs)) w) (ap unescaped (behind_space_all target (escaped (b ∷ bs)) w) ∙ escaped_again (b ∷ bs))
 
 -- a line that is not refused is taken
-pub taken_after : (line : Line) (f : Form) (r : Reading) (rest : List Line) → form line ≡ f → refusal f r ≡ None → after (line ∷ rest) r ≡ after rest (record (taken f r) { lines = next_line r.lines })
+pub taken_after : (line : Line) (f : Form) (r : Reading) (rest : List Line) → form line ≡ f → refusal f r ≡ None
+    → after (line ∷ rest) r ≡ after rest (record (taken f r) { lines = next_line r.lines })
 taken_after line f r rest e n = rw (e, n) refl
 
 -- each list of bytes is the same as itself
@@ -105,7 +106,8 @@ with_characters_apart c cs (Pi target value ∷ []) e = rw (outs-Pi target value
 with_characters_apart c cs (n ∷ m ∷ more) e = ap (λ r. n ∷ r) (with_characters_apart c cs (m ∷ more) e)
 
 -- the same of each value that is not empty
-pub with_characters_more : (value : List ℕ) (here : List Node) → 0 < length value → ends_in_text here ≡ false → with_characters value here ≡ here ++ Text value ∷ []
+pub with_characters_more : (value : List ℕ) (here : List Node) → 0 < length value → ends_in_text here ≡ false
+    → with_characters value here ≡ here ++ Text value ∷ []
 with_characters_more [] here h e = absurd (omega arith)
 with_characters_more (c ∷ cs) here h e = with_characters_apart c cs here e
 
@@ -122,24 +124,29 @@ module _ (stack : List OpenElement) (here : List Node) (tag : Bool) (n b l : ℕ
   pub begins_after : (name : List ℕ) → IsTrue (is_name name) → length stack < DEPTH_MAX → n + 1 ≤ NODES_MAX
       → after ((40 ∷ name) ∷ rest) (state stack here tag n b l) ≡ after rest (state (opened name [] here ∷ stack) [] true (n + 1) b (next_line l))
   begins_after name h room few =
-      taken_after (40 ∷ name) (begins name) (state stack here tag n b l) rest refl (rw (h, lt-leb DEPTH_MAX (length stack) room, le-ltb NODES_MAX (n + 1) few) refl)
+      taken_after (40 ∷ name) (begins name) (state stack here tag n b l) rest refl
+      (rw (h, lt-leb DEPTH_MAX (length stack) room, le-ltb NODES_MAX (n + 1) few) refl)
 
   -- the end of the innermost element puts it behind the nodes before it
   pub ends_after : (name : List ℕ) (attrs : List Attr) (before : List Node) → IsTrue (is_name name)
-      → after ((41 ∷ name) ∷ rest) (state (opened name attrs before ∷ stack) here tag n b l) ≡ after rest (state stack (before ++ Element name attrs here ∷ []) false n b (next_line l))
+      → after ((41 ∷ name) ∷ rest) (state (opened name attrs before ∷ stack) here tag n b l)
+      ≡ after rest (state stack (before ++ Element name attrs here ∷ []) false n b (next_line l))
   ends_after name attrs before h =
       taken_after (41 ∷ name) (ends name) (state (opened name attrs before ∷ stack) here tag n b l) rest refl (rw (h, same_bytes name) refl)
 
   -- an attribute of a new name goes to the innermost element
-  pub attribute_after : (name : List ℕ) (attrs : List Attr) (before : List Node) (a : Attr) → IsTrue (is_name a.name) → has_attribute a.name attrs ≡ false → n + 1 ≤ NODES_MAX → b + length a.value ≤ TEXT_BYTES_MAX
-      → after (attribute_line a ∷ rest) (state (opened name attrs before ∷ stack) here true n b l) ≡ after rest (state (opened name (attrs ++ a ∷ []) before ∷ stack) here true (n + 1) (b + length a.value) (next_line l))
+  pub attribute_after : (name : List ℕ) (attrs : List Attr) (before : List Node) (a : Attr) → IsTrue (is_name a.name) → has_attribute a.name attrs ≡ false
+      → n + 1 ≤ NODES_MAX → b + length a.value ≤ TEXT_BYTES_MAX
+      → after (attribute_line a ∷ rest) (state (opened name attrs before ∷ stack) here true n b l)
+      ≡ after rest (state (opened name (attrs ++ a ∷ []) before ∷ stack) here true (n + 1) (b + length a.value) (next_line l))
   attribute_after name attrs before a h new few short =
       taken_after (attribute_line a) (attribute a.name a.value) (state (opened name attrs before ∷ stack) here true n b l) rest (attribute_form a h)
       (rw (h, new, le-ltb NODES_MAX (n + 1) few, le-ltb TEXT_BYTES_MAX (b + length a.value) short) refl)
 
   -- characters behind what is no text are a text
   pub characters_after : (value : List ℕ) → 0 < length value → ends_in_text here ≡ false → n + 1 ≤ NODES_MAX → b + length value ≤ TEXT_BYTES_MAX
-      → after ((45 ∷ escaped value) ∷ rest) (state stack here tag n b l) ≡ after rest (state stack (here ++ Text value ∷ []) false (n + 1) (b + length value) (next_line l))
+      → after ((45 ∷ escaped value) ∷ rest) (state stack here tag n b l)
+      ≡ after rest (state stack (here ++ Text value ∷ []) false (n + 1) (b + length value) (next_line l))
   characters_after value some apart few short =
       let added : texts_added value here ≡ 1 = texts_added_one value here some apart in
       taken_after (45 ∷ escaped value) (characters value) (state stack here tag n b l) rest (characters_form value)
@@ -148,7 +155,8 @@ module _ (stack : List OpenElement) (here : List Node) (tag : Bool) (n b l : ℕ
 
   -- an instruction is a node
   pub instruction_after : (target value : List ℕ) → IsTrue (is_name target) → n + 1 ≤ NODES_MAX → b + length value ≤ TEXT_BYTES_MAX
-      → after ((63 ∷ (target ++ behind_target value)) ∷ rest) (state stack here tag n b l) ≡ after rest (state stack (here ++ Pi target value ∷ []) false (n + 1) (b + length value) (next_line l))
+      → after ((63 ∷ (target ++ behind_target value)) ∷ rest) (state stack here tag n b l)
+      ≡ after rest (state stack (here ++ Pi target value ∷ []) false (n + 1) (b + length value) (next_line l))
   instruction_after target value h few short =
       taken_after (63 ∷ (target ++ behind_target value)) (instruction target value) (state stack here tag n b l) rest (instruction_form target value h)
       (rw (h, le-ltb NODES_MAX (n + 1) few, le-ltb TEXT_BYTES_MAX (b + length value) short) refl)

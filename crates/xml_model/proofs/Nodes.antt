@@ -19,16 +19,21 @@ module _ (A : Type 0) (meaning : Node-F A → A) where
   pub fold-Pi : (target value : List ℕ) → fold-Node A meaning (Pi target value) ≡ meaning (Node-F.Pi target value)
   fold-Pi target value = fold_out-Node A meaning (Pi target value) ∙ rw (outs-Pi target value) refl
 
-  pub fold-Element' : (name : List ℕ) (attrs : List Attr) (s : _) (row : Row_of-Node _) → fold-Node A meaning (Element' name attrs s row) ≡ meaning (Node-F.Element name attrs (map (fold-Node A meaning) (items-the_row-Node _ row)))
-  fold-Element' name attrs s row = fold_out-Node A meaning (Element' name attrs s row) ∙ rw (outs-Element' name attrs s row, items_shown-the_row-Node-0 s row) refl
+  pub fold-Element' : (name : List ℕ) (attrs : List Attr) (s : _) (row : Row_of-Node _)
+      → fold-Node A meaning (Element' name attrs s row) ≡ meaning (Node-F.Element name attrs (map (fold-Node A meaning) (items-the_row-Node _ row)))
+  fold-Element' name attrs s row = fold_out-Node A meaning (Element' name attrs s row)
+      ∙ rw (outs-Element' name attrs s row, items_shown-the_row-Node-0 s row) refl
 
-  pub fold-Element : (name : List ℕ) (attrs : List Attr) (kids : List Node) → fold-Node A meaning (Element name attrs kids) ≡ meaning (Node-F.Element name attrs (map (fold-Node A meaning) kids))
+  pub fold-Element : (name : List ℕ) (attrs : List Attr) (kids : List Node)
+      → fold-Node A meaning (Element name attrs kids) ≡ meaning (Node-F.Element name attrs (map (fold-Node A meaning) kids))
   fold-Element name attrs kids = fold_out-Node A meaning (Element name attrs kids) ∙ rw (outs-Element name attrs kids) refl
 
 -- an element made of the list of a row's nodes is the element with that row
-pub made-Element' : (name : List ℕ) (attrs : List Attr) (s : _) (row : Row_of-Node _) → Element name attrs (items-the_row-Node _ row) ≡ Element' name attrs s row
+pub made-Element' : (name : List ℕ) (attrs : List Attr) (s : _) (row : Row_of-Node _)
+    → Element name attrs (items-the_row-Node _ row) ≡ Element' name attrs s row
 made-Element' name attrs s row =
-    ap (λ kids. Element name attrs kids) (sym (items_shown-the_row-Node-0 s row)) ∙ (sym (rolls-Element name attrs _) ∙ (ap roll-Node (sym (outs-Element' name attrs s row)) ∙ roll-out-Node (Element' name attrs s row)))
+    ap (λ kids. Element name attrs kids) (sym (items_shown-the_row-Node-0 s row))
+    ∙ (sym (rolls-Element name attrs _) ∙ (ap roll-Node (sym (outs-Element' name attrs s row)) ∙ roll-out-Node (Element' name attrs s row)))
 
 -- whether a node is a text, by its layer and by its variant
 pub is_text-layer : (n : Node) → is_text_layer (out-Node n) ≡ is_text n
@@ -71,7 +76,8 @@ row_formed _ end_of-Node formed = tt
 row_formed _ (more_of-Node x row) formed = (formed.0, row_formed _ row formed.1)
 
 -- so is an element, by its name, its attributes and its children
-pub formed-Element : (name : List ℕ) (attrs : List Attr) (kids : List Node) → IsTrue (is_name name) → AreAttributes attrs → IsApart false kids → AllFormed kids → IsFormed (Element name attrs kids)
+pub formed-Element : (name : List ℕ) (attrs : List Attr) (kids : List Node) → IsTrue (is_name name) → AreAttributes attrs → IsApart false kids → AllFormed kids
+    → IsFormed (Element name attrs kids)
 formed-Element name attrs kids named are apart formed =
     let whole = sym (items_hidden-the_row-Node-0 kids) in
     (named, are, subst (IsApart false) whole apart, row_formed _ (hidden-the_row-Node-0 kids) (subst AllFormed whole formed))

@@ -22,7 +22,8 @@ not_behind name [] a more h = (or_parts _ _ h).0
 not_behind name (d ∷ done) a more h = not_behind name done a more (or_parts _ _ h).1
 
 -- an attribute behind others has a name that none of them has
-pub attribute_is_new : (done : List Attr) (a : Attr) (more : List Attr) → AreAttributes (done ++ a ∷ more) → IsTrue (is_name a.name) × (has_attribute a.name done ≡ false)
+pub attribute_is_new : (done : List Attr) (a : Attr) (more : List Attr) → AreAttributes (done ++ a ∷ more)
+    → IsTrue (is_name a.name) × (has_attribute a.name done ≡ false)
 attribute_is_new [] a more h = (h.0, refl)
 attribute_is_new (d ∷ done) a more h =
     let i = attribute_is_new done a more h.2 in
@@ -62,13 +63,15 @@ record AttributesRead (todo done : List Attr) (name : List ℕ) (before : List N
   pub line : ℕ
   pub nodes_are : nodes ≡ n + length todo
   pub bytes_are : bytes ≡ b + value_bytes todo
-  pub reads : after (map attribute_line todo ++ rest) (state (opened name done before ∷ stack) [] true n b l) ≡ after rest (state (opened name (done ++ todo) before ∷ stack) [] true nodes bytes line)
+  pub reads : after (map attribute_line todo ++ rest) (state (opened name done before ∷ stack) [] true n b l)
+      ≡ after rest (state (opened name (done ++ todo) before ∷ stack) [] true nodes bytes line)
 
 -- one attribute, and then the others
 attributes_more : (a : Attr) (todo done : List Attr) (name : List ℕ) (before : List Node) (stack : List OpenElement) (n b l : ℕ) (rest : List Line)
     → after (attribute_line a ∷ (map attribute_line todo ++ rest)) (state (opened name done before ∷ stack) [] true n b l)
     ≡ after (map attribute_line todo ++ rest) (state (opened name (done ++ a ∷ []) before ∷ stack) [] true (n + 1) (b + length a.value) (next_line l))
-    → AttributesRead todo (done ++ a ∷ []) name before stack (n + 1) (b + length a.value) (next_line l) rest → AttributesRead (a ∷ todo) done name before stack n b l rest
+    → AttributesRead todo (done ++ a ∷ []) name before stack (n + 1) (b + length a.value) (next_line l) rest
+    → AttributesRead (a ∷ todo) done name before stack n b l rest
 attributes_more a todo done name before stack n b l rest first then =
     record {
       nodes = then.nodes;
@@ -76,7 +79,8 @@ attributes_more a todo done name before stack n b l rest first then =
       line = then.line;
       nodes_are = omega (arith, then.nodes_are);
       bytes_are = omega (arith, then.bytes_are);
-      reads = first ∙ (then.reads ∙ ap (λ attrs. after rest (state (opened name attrs before ∷ stack) [] true then.nodes then.bytes then.line)) (append_assoc done (a ∷ []) todo));
+      reads = first ∙ (then.reads
+          ∙ ap (λ attrs. after rest (state (opened name attrs before ∷ stack) [] true then.nodes then.bytes then.line)) (append_assoc done (a ∷ []) todo));
     }
 
 -- the lines of attributes of different names are read as these attributes
@@ -88,7 +92,8 @@ attributes_read (a ∷ todo) done name before stack n b l rest are few short =
     let new = attribute_is_new done a todo are in
     attributes_more a todo done name before stack n b l rest
     (attribute_after stack [] true n b l (map attribute_line todo ++ rest) name done before a new.0 new.1 (omega arith) (omega arith))
-    (attributes_read todo (done ++ a ∷ []) name before stack (n + 1) (b + length a.value) (next_line l) rest (subst AreAttributes (sym (append_assoc done (a ∷ []) todo)) are) (omega arith) (omega arith))
+    (attributes_read todo (done ++ a ∷ []) name before stack (n + 1) (b + length a.value) (next_line l) rest
+    (subst AreAttributes (sym (append_assoc done (a ∷ []) todo)) are) (omega arith) (omega arith))
 
 -- no nodes
 pub none_read : (stack : List OpenElement) (here : List Node) (tag : Bool) (n b l : ℕ) (rest : List Line) → Reads [] stack here [] tag n b l rest
@@ -108,7 +113,8 @@ behind_read first then stack here x xs tag n b l rest one others =
       nodes_are = omega (arith, one.nodes_are, others.nodes_are);
       bytes_are = omega (arith, one.bytes_are, others.bytes_are);
       reads = ap (λ lines. after lines (state stack here tag n b l)) (append_assoc first then rest)
-          ∙ (one.reads ∙ (others.reads ∙ ap (λ h. after rest (state stack h others.tag_then others.nodes others.bytes others.line)) (append_assoc here (x ∷ []) xs)));
+          ∙ (one.reads ∙ (others.reads
+          ∙ ap (λ h. after rest (state stack h others.tag_then others.nodes others.bytes others.line)) (append_assoc here (x ∷ []) xs)));
     }
 
 -- the same where the reading of the others is known from each place that the first may lead to
@@ -125,7 +131,8 @@ more_read first then stack here x xs tag n b l rest one others =
 pub regrouped : (front lines : List Line) (last : Line) (rest : List Line) → (front ++ (lines ++ last ∷ [])) ++ rest ≡ front ++ (lines ++ last ∷ rest)
 regrouped front lines last rest = append_assoc front (lines ++ last ∷ []) rest ∙ ap (λ ls. front ++ ls) (append_assoc lines (last ∷ []) rest)
 
-element_from : (name : List ℕ) (attrs : List Attr) (kids : List Node) (lines : List Line) (stack : List OpenElement) (here : List Node) (tag : Bool) (n b l : ℕ) (rest : List Line)
+element_from : (name : List ℕ) (attrs : List Attr) (kids : List Node) (lines : List Line) (stack : List OpenElement) (here : List Node) (tag : Bool) (n b l : ℕ)
+    (rest : List Line)
     → IsTrue (is_name name) → length stack < DEPTH_MAX → n + 1 ≤ NODES_MAX
     → (a : AttributesRead attrs [] name here stack (n + 1) b (next_line l) (lines ++ (41 ∷ name) ∷ rest))
     → Reads lines (opened name attrs here ∷ stack) [] kids true a.nodes a.bytes a.line ((41 ∷ name) ∷ rest)
@@ -144,9 +151,11 @@ element_from name attrs kids lines stack here tag n b l rest named room few a i 
     }
 
 -- the same where the reading of the content is known from each place that the attributes may lead to
-element_reads : (name : List ℕ) (attrs : List Attr) (kids : List Node) (lines : List Line) (stack : List OpenElement) (here : List Node) (tag : Bool) (n b l : ℕ) (rest : List Line)
+element_reads : (name : List ℕ) (attrs : List Attr) (kids : List Node) (lines : List Line) (stack : List OpenElement) (here : List Node) (tag : Bool)
+    (n b l : ℕ) (rest : List Line)
     → IsTrue (is_name name) → AreAttributes attrs → length stack < DEPTH_MAX → n + (1 + length attrs) ≤ NODES_MAX → b + value_bytes attrs ≤ TEXT_BYTES_MAX
-    → ((m c k : ℕ) → m ≡ n + (1 + length attrs) → c ≡ b + value_bytes attrs → Reads lines (opened name attrs here ∷ stack) [] kids true m c k ((41 ∷ name) ∷ rest))
+    → ((m c k : ℕ) → m ≡ n + (1 + length attrs) → c ≡ b + value_bytes attrs
+    → Reads lines (opened name attrs here ∷ stack) [] kids true m c k ((41 ∷ name) ∷ rest))
     → Reads ((40 ∷ name) ∷ (map attribute_line attrs ++ (lines ++ (41 ∷ name) ∷ []))) stack here (Element name attrs kids ∷ []) tag n b l rest
 element_reads name attrs kids lines stack here tag n b l rest named are room few short inside =
     let a = attributes_read attrs [] name here stack (n + 1) b (next_line l) (lines ++ (41 ∷ name) ∷ rest) are (omega arith) short in
@@ -154,7 +163,8 @@ element_reads name attrs kids lines stack here tag n b l rest named are room few
 
 -- a text
 text_reads : (value : List ℕ) (stack : List OpenElement) (here : List Node) (tag : Bool) (n b l : ℕ) (rest : List Line)
-    → 0 < length value → ends_in_text here ≡ false → Fits (length stack) n b (Text value ∷ []) → Reads ((45 ∷ escaped value) ∷ []) stack here (Text value ∷ []) tag n b l rest
+    → 0 < length value → ends_in_text here ≡ false → Fits (length stack) n b (Text value ∷ [])
+    → Reads ((45 ∷ escaped value) ∷ []) stack here (Text value ∷ []) tag n b l rest
 text_reads value stack here tag n b l rest some apart fits =
     let one : count_node (Text value) ≡ 1 = fold-Text ℕ count_step value in
     let all : bytes_node (Text value) ≡ length value = fold-Text ℕ bytes_step value in
@@ -172,7 +182,8 @@ text_reads value stack here tag n b l rest some apart fits =
 
 -- an instruction
 instruction_reads : (target value : List ℕ) (stack : List OpenElement) (here : List Node) (tag : Bool) (n b l : ℕ) (rest : List Line)
-    → IsTrue (is_name target) → Fits (length stack) n b (Pi target value ∷ []) → Reads ((63 ∷ (target ++ behind_target value)) ∷ []) stack here (Pi target value ∷ []) tag n b l rest
+    → IsTrue (is_name target) → Fits (length stack) n b (Pi target value ∷ [])
+    → Reads ((63 ∷ (target ++ behind_target value)) ∷ []) stack here (Pi target value ∷ []) tag n b l rest
 instruction_reads target value stack here tag n b l rest named fits =
     let one : count_node (Pi target value) ≡ 1 = fold-Pi ℕ count_step target value in
     let all : bytes_node (Pi target value) ≡ length value = fold-Pi ℕ bytes_step target value in
@@ -193,7 +204,8 @@ pub fits_first : {k n b : ℕ} {x : Node} {xs : List Node} → Fits k n b (x ∷
 fits_first fits = record { deep = omega arith; few = omega arith; short = omega arith }
 
 -- the others fit behind it
-pub fits_others : {k n b : ℕ} {x : Node} {xs : List Node} (m c : ℕ) → Fits k n b (x ∷ xs) → m ≡ n + count_of (x ∷ []) → c ≡ b + bytes_of (x ∷ []) → Fits k m c xs
+pub fits_others : {k n b : ℕ} {x : Node} {xs : List Node} (m c : ℕ) → Fits k n b (x ∷ xs) → m ≡ n + count_of (x ∷ []) → c ≡ b + bytes_of (x ∷ [])
+    → Fits k m c xs
 fits_others m c fits e f = record { deep = omega arith; few = omega arith; short = omega arith }
 
 -- where an element fits, its attributes fit, and its content behind them
@@ -203,12 +215,19 @@ pub record FitsInside (k n b : ℕ) (attrs : List Attr) (kids : List Node) : Typ
   pub short : b + value_bytes attrs ≤ TEXT_BYTES_MAX
   pub inside : (m c : ℕ) → m ≡ n + (1 + length attrs) → c ≡ b + value_bytes attrs → Fits (suc k) m c kids
 
-fits_inside : {k n b : ℕ} (name : List ℕ) (attrs : List Attr) (s : _) (row : Row_of-Node _) → Fits k n b (Element' name attrs s row ∷ []) → FitsInside k n b attrs (items-the_row-Node _ row)
+fits_inside : {k n b : ℕ} (name : List ℕ) (attrs : List Attr) (s : _) (row : Row_of-Node _) → Fits k n b (Element' name attrs s row ∷ [])
+    → FitsInside k n b attrs (items-the_row-Node _ row)
 fits_inside name attrs s row fits =
     let depth = fold-Element' ℕ depth_step name attrs s row in
     let count = fold-Element' ℕ count_step name attrs s row in
     let bytes = fold-Element' ℕ bytes_step name attrs s row in
-    record { room = omega arith; few = omega arith; short = omega arith; inside = λ m c e f. record { deep = omega arith; few = omega arith; short = omega arith } }
+    record {
+      room = omega arith;
+      few = omega arith;
+      short = omega arith;
+      inside =
+          λ m c e f. record { deep = omega arith; few = omega arith; short = omega arith };
+    }
 
 mutual
   node_reads : (x : Node) (stack : List OpenElement) (here : List Node) (tag : Bool) (n b l : ℕ) (rest : List Line)
@@ -234,7 +253,8 @@ mutual
       (subst (λ after. IsApart after (items-the_row-Node _ row)) (sym (ends_in_text-push here x)) apart.1) (fits_others m c fits e f))
 
 -- a list of top nodes, with no element open
-list_reads : (xs : List Node) (here : List Node) (tag : Bool) (n b l : ℕ) → AllFormed xs → IsApart (ends_in_text here) xs → Fits 0 n b xs → Reads (pyx_of xs) [] here xs tag n b l []
+list_reads : (xs : List Node) (here : List Node) (tag : Bool) (n b l : ℕ) → AllFormed xs → IsApart (ends_in_text here) xs → Fits 0 n b xs
+    → Reads (pyx_of xs) [] here xs tag n b l []
 list_reads [] here tag n b l formed apart fits = none_read [] here tag n b l []
 list_reads (x ∷ xs) here tag n b l formed apart fits =
     more_read (pyx_node x) _ [] here x xs tag n b l []

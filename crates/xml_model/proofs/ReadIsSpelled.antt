@@ -26,13 +26,16 @@ nodes_are {lines = lines} e k = subst (Spell lines) (sym e) k
 
 -- ---- one line more at the end
 
-attributes-push : (tags : List Line) (attrs : List Attr) (line : Line) (a : Attr) → SpellAttributes tags attrs → form line ≡ attribute a.name a.value → SpellAttributes (tags ++ line ∷ []) (attrs ++ a ∷ [])
+attributes-push : (tags : List Line) (attrs : List Attr) (line : Line) (a : Attr) → SpellAttributes tags attrs → form line ≡ attribute a.name a.value
+    → SpellAttributes (tags ++ line ∷ []) (attrs ++ a ∷ [])
 attributes-push _ _ line a no_attributes e = an_attribute e no_attributes
 attributes-push _ _ line a (an_attribute f rest) e = an_attribute f (attributes-push _ _ line a rest e)
 
-characters-push : (run : List Line) (v : List ℕ) (line : Line) (w : List ℕ) → SpellCharacters run v → form line ≡ characters w → SpellCharacters (run ++ line ∷ []) (v ++ w)
+characters-push : (run : List Line) (v : List ℕ) (line : Line) (w : List ℕ) → SpellCharacters run v → form line ≡ characters w
+    → SpellCharacters (run ++ line ∷ []) (v ++ w)
 characters-push _ _ line w no_characters e = subst (SpellCharacters (line ∷ [])) (append-nil w) (some_characters e no_characters)
-characters-push _ _ line w (some_characters {value = v} {more = more} f rest) e = subst (SpellCharacters _) (sym (append_assoc v more w)) (some_characters f (characters-push _ _ line w rest e))
+characters-push _ _ line w (some_characters {value = v} {more = more} f rest) e =
+    subst (SpellCharacters _) (sym (append_assoc v more w)) (some_characters f (characters-push _ _ line w rest e))
 
 -- ---- runs of characters
 
@@ -61,22 +64,28 @@ both_there _ _ no_nodes e = tt
 both_there _ _ (an_element last f n a d k l rest) e = tt
 both_there _ _ (an_instruction f n rest) e = tt
 both_there _ _ (a_text {run = run} {rest = rest} s some apart more) e = absurd (true≢false (sym (run_begins run _ rest s (run_is_there run _ s some)) ∙ e))
-both_there _ _ (no_text {line = line} {run = run} {rest = rest} s none apart more) e = absurd (true≢false (sym (run_begins (line ∷ run) _ rest s (omega arith)) ∙ e))
+both_there _ _ (no_text {line = line} {run = run} {rest = rest} s none apart more) e =
+    absurd (true≢false (sym (run_begins (line ∷ run) _ rest s (omega arith)) ∙ e))
 
-begins-append : (rest lines : List Line) → begins_with_characters rest ≡ false → begins_with_characters lines ≡ false → begins_with_characters (rest ++ lines) ≡ false
+begins-append : (rest lines : List Line) → begins_with_characters rest ≡ false → begins_with_characters lines ≡ false
+    → begins_with_characters (rest ++ lines) ≡ false
 begins-append [] lines e f = f
 begins-append (line ∷ rest) lines e f = e
 
 -- ---- nodes after nodes
 
-element_lines : (first last : Line) (tags inside rest lines : List Line) → (first ∷ (tags ++ (inside ++ last ∷ rest))) ++ lines ≡ first ∷ (tags ++ (inside ++ last ∷ (rest ++ lines)))
-element_lines first last tags inside rest lines = ap (λ l. first ∷ l) (append_assoc tags (inside ++ last ∷ rest) lines ∙ ap (λ l. tags ++ l) (append_assoc inside (last ∷ rest) lines))
+element_lines : (first last : Line) (tags inside rest lines : List Line)
+    → (first ∷ (tags ++ (inside ++ last ∷ rest))) ++ lines ≡ first ∷ (tags ++ (inside ++ last ∷ (rest ++ lines)))
+element_lines first last tags inside rest lines =
+    ap (λ l. first ∷ l) (append_assoc tags (inside ++ last ∷ rest) lines ∙ ap (λ l. tags ++ l) (append_assoc inside (last ∷ rest) lines))
 
-pub Spell-append : (lines : List Line) (nodes : List Node) (then : List Line) (more : List Node) → Spell lines nodes → Spell then more → begins_with_characters then ≡ false → Spell (lines ++ then) (nodes ++ more)
+pub Spell-append : (lines : List Line) (nodes : List Node) (then : List Line) (more : List Node) → Spell lines nodes → Spell then more
+    → begins_with_characters then ≡ false → Spell (lines ++ then) (nodes ++ more)
 Spell-append _ _ then more no_nodes t e = t
 Spell-append _ _ then more (an_element {nodes = nodes} {first = first} {tags = tags} {inside = inside} {rest = rest} last f n a d k l r) t e =
     lines_are (element_lines first last tags inside rest then) (an_element last f n a d k l (Spell-append rest nodes then more r t e))
-Spell-append _ _ then more (an_instruction {nodes = nodes} {line = line} {rest = rest} f n r) t e = an_instruction {line = line} f n (Spell-append rest nodes then more r t e)
+Spell-append _ _ then more (an_instruction {nodes = nodes} {line = line} {rest = rest} f n r) t e =
+    an_instruction {line = line} f n (Spell-append rest nodes then more r t e)
 Spell-append _ _ then more (a_text {nodes = nodes} {run = run} {rest = rest} s some apart r) t e =
     lines_are (append_assoc run rest then) (a_text s some (begins-append rest then apart e) (Spell-append rest nodes then more r t e))
 Spell-append _ _ then more (no_text {nodes = nodes} {line = line} {run = run} {rest = rest} s none apart r) t e =
@@ -106,7 +115,8 @@ element_no_text : (name : List ℕ) (attrs : List Attr) (kids : List Node) → i
 element_no_text name attrs kids = refl
 
 -- a text at the end of its lines
-text_last : (run rest : List Line) (v : List ℕ) (nodes : List Node) (line : Line) (w : List ℕ) → SpellCharacters run v → 0 < length v → AreBoth rest nodes → begins_with_characters rest ≡ false
+text_last : (run rest : List Line) (v : List ℕ) (nodes : List Node) (line : Line) (w : List ℕ) → SpellCharacters run v → 0 < length v → AreBoth rest nodes
+    → begins_with_characters rest ≡ false
     → form line ≡ characters w → Spell (rest ++ line ∷ []) (with_characters w nodes) → Spell ((run ++ rest) ++ line ∷ []) (with_characters w (Text v ∷ nodes))
 text_last run [] v [] line w s some both apart e r =
     subst (λ nodes. Spell ((run ++ []) ++ line ∷ []) nodes) (sym (text_goes_on v w))
@@ -118,7 +128,8 @@ text_last run (l ∷ rest) v (n ∷ nodes) line w s some both apart e r =
     subst (λ t. Spell ((run ++ l ∷ rest) ++ line ∷ []) t) (sym (beside_more w (Text v) n nodes))
     (subst (λ lines. Spell lines (Text v ∷ with_characters w (n ∷ nodes))) (sym (append_assoc run (l ∷ rest) (line ∷ []))) (a_text s some apart r))
 
-no_text_last : (first : Line) (run rest : List Line) (v : List ℕ) (nodes : List Node) (line : Line) (w : List ℕ) → SpellCharacters (first ∷ run) v → v ≡ [] → AreBoth rest nodes → begins_with_characters rest ≡ false
+no_text_last : (first : Line) (run rest : List Line) (v : List ℕ) (nodes : List Node) (line : Line) (w : List ℕ) → SpellCharacters (first ∷ run) v → v ≡ []
+    → AreBoth rest nodes → begins_with_characters rest ≡ false
     → form line ≡ characters w → Spell (rest ++ line ∷ []) (with_characters w nodes) → Spell (((first ∷ run) ++ rest) ++ line ∷ []) (with_characters w nodes)
 no_text_last first run [] v [] line w s none both apart e r =
     subst (λ lines. Spell (lines ++ line ∷ []) (with_characters w [])) (sym (append-nil (first ∷ run)))
@@ -129,9 +140,13 @@ no_text_last first run (l ∷ rest) v [] line w s none both apart e r = absurd b
 no_text_last first run (l ∷ rest) v (n ∷ nodes) line w s none both apart e r =
     subst (λ lines. Spell lines (with_characters w (n ∷ nodes))) (sym (append_assoc (first ∷ run) (l ∷ rest) (line ∷ []))) (no_text s none apart r)
 
-pub Spell-characters : (lines : List Line) (nodes : List Node) (line : Line) (w : List ℕ) → Spell lines nodes → form line ≡ characters w → Spell (lines ++ line ∷ []) (with_characters w nodes)
-Spell-characters _ _ line w no_nodes e = subst (λ v. Spell (line ∷ []) (with_characters v [])) (append-nil w) (run_alone (line ∷ []) (w ++ []) (some_characters e no_characters) (omega arith))
-Spell-characters _ _ line w (an_element {name = name} {attrs = attrs} {kids = kids} {nodes = nodes} {first = first} {tags = tags} {inside = inside} {rest = rest} last f n a d k l r) e =
+pub Spell-characters : (lines : List Line) (nodes : List Node) (line : Line) (w : List ℕ) → Spell lines nodes → form line ≡ characters w
+    → Spell (lines ++ line ∷ []) (with_characters w nodes)
+Spell-characters _ _ line w no_nodes e =
+    subst (λ v. Spell (line ∷ []) (with_characters v [])) (append-nil w) (run_alone (line ∷ []) (w ++ []) (some_characters e no_characters) (omega arith))
+Spell-characters _ _ line w
+    (an_element {name = name} {attrs = attrs} {kids = kids} {nodes = nodes} {first = first} {tags = tags} {inside = inside} {rest = rest} last f n a d k l r)
+    e =
     nodes_are (beside_first w (Element name attrs kids) nodes (element_no_text name attrs kids))
     (lines_are (element_lines first last tags inside rest (line ∷ [])) (an_element last f n a d k l (Spell-characters rest nodes line w r e)))
 Spell-characters _ _ line w (an_instruction {target = target} {value = value} {nodes = nodes} {line = first} {rest = rest} f n r) e =
@@ -147,7 +162,8 @@ Spell-characters _ _ line w (no_text {value = v} {nodes = nodes} {line = first} 
 data Open : List Line → List OpenElement → Type 0 where
   none_open : Open [] []
   one_open : {o : OpenElement} {outer_ones : List OpenElement} {outer inside tags : List Line} (first : Line)
-      → Open outer outer_ones → Spell inside o.before → form first ≡ begins o.name → IsTrue (is_name o.name) → SpellAttributes tags o.attrs → IsTrue (are_attributes o.attrs)
+      → Open outer outer_ones → Spell inside o.before → form first ≡ begins o.name → IsTrue (is_name o.name) → SpellAttributes tags o.attrs
+      → IsTrue (are_attributes o.attrs)
       → Open (outer ++ (inside ++ first ∷ tags)) (o ∷ outer_ones)
 
 record SoFar (lines : List Line) (stack : List OpenElement) (here : List Node) (tag : Bool) : Type 0 where
@@ -160,7 +176,8 @@ record SoFar (lines : List Line) (stack : List OpenElement) (here : List Node) (
   pub within : tag ≡ true → 0 < length stack
 
 -- a start tag
-begins_so : (line : Line) (name : List ℕ) (lines : List Line) (stack : List OpenElement) (here : List Node) (tag : Bool) → form line ≡ begins name → IsTrue (is_name name) → SoFar lines stack here tag
+begins_so : (line : Line) (name : List ℕ) (lines : List Line) (stack : List OpenElement) (here : List Node) (tag : Bool) → form line ≡ begins name
+    → IsTrue (is_name name) → SoFar lines stack here tag
     → SoFar (lines ++ line ∷ []) (record { name = name; attrs = []; before = here } ∷ stack) [] true
 begins_so line name lines stack here tag e named s =
     record {
@@ -174,11 +191,14 @@ begins_so line name lines stack here tag e named s =
     }
 
 -- an end tag
-ends_lines : (outer before inside tags : List Line) (first last : Line) → ((outer ++ (before ++ first ∷ tags)) ++ inside) ++ last ∷ [] ≡ outer ++ (before ++ first ∷ (tags ++ (inside ++ last ∷ [])))
+ends_lines : (outer before inside tags : List Line) (first last : Line)
+    → ((outer ++ (before ++ first ∷ tags)) ++ inside) ++ last ∷ [] ≡ outer ++ (before ++ first ∷ (tags ++ (inside ++ last ∷ [])))
 ends_lines outer before inside tags first last =
-    append_assoc (outer ++ (before ++ first ∷ tags)) inside (last ∷ []) ∙ append_assoc outer (before ++ first ∷ tags) (inside ++ last ∷ []) ∙ ap (λ l. outer ++ l) (append_assoc before (first ∷ tags) (inside ++ last ∷ []))
+    append_assoc (outer ++ (before ++ first ∷ tags)) inside (last ∷ []) ∙ append_assoc outer (before ++ first ∷ tags) (inside ++ last ∷ [])
+    ∙ ap (λ l. outer ++ l) (append_assoc before (first ∷ tags) (inside ++ last ∷ []))
 
-ends_so : (line : Line) (name : List ℕ) (outer inside : List Line) (o : OpenElement) (stack : List OpenElement) (here : List Node) → form line ≡ ends name → bytes_eq o.name name ≡ true → Open outer (o ∷ stack) → Spell inside here
+ends_so : (line : Line) (name : List ℕ) (outer inside : List Line) (o : OpenElement) (stack : List OpenElement) (here : List Node) → form line ≡ ends name
+    → bytes_eq o.name name ≡ true → Open outer (o ∷ stack) → Spell inside here
     → SoFar ((outer ++ inside) ++ line ∷ []) stack (o.before ++ Element o.name o.attrs here ∷ []) false
 ends_so line name _ inside o stack here e same (one_open {outer = outer} {inside = before} {tags = tags} first opens b f n a d) k =
     let last : form line ≡ ends o.name = e ∙ ap ends (sym ((bytes_eq-Decides o.name name).0 same)) in
@@ -193,21 +213,25 @@ ends_so line name _ inside o stack here e same (one_open {outer = outer} {inside
     }
 
 -- an attribute
-attribute_so : (line : Line) (a : Attr) (outer : List Line) (o : OpenElement) (stack : List OpenElement) (here : List Node) → form line ≡ attribute a.name a.value → IsTrue (is_name a.name) → has_attribute a.name o.attrs ≡ false
+attribute_so : (line : Line) (a : Attr) (outer : List Line) (o : OpenElement) (stack : List OpenElement) (here : List Node)
+    → form line ≡ attribute a.name a.value → IsTrue (is_name a.name) → has_attribute a.name o.attrs ≡ false
     → Open outer (o ∷ stack) → Spell [] here → SoFar (outer ++ line ∷ []) (record o { attrs = o.attrs ++ a ∷ [] } ∷ stack) here true
 attribute_so line a _ o stack here e named new (one_open {outer = outer} {inside = before} {tags = tags} first opens b f n s d) k =
     record {
       outer = outer ++ (before ++ first ∷ (tags ++ line ∷ []));
       inside = [];
-      whole = append_assoc outer (before ++ first ∷ tags) (line ∷ []) ∙ ap (λ l. outer ++ l) (append_assoc before (first ∷ tags) (line ∷ [])) ∙ sym (append-nil (outer ++ (before ++ first ∷ (tags ++ line ∷ []))));
-      opens = one_open first opens b f n (attributes-push tags o.attrs line a s e) (attributes_hold (o.attrs ++ a ∷ []) (AreAttributes-push o.attrs a (attributes_of o.attrs d) named new));
+      whole = append_assoc outer (before ++ first ∷ tags) (line ∷ []) ∙ ap (λ l. outer ++ l) (append_assoc before (first ∷ tags) (line ∷ []))
+          ∙ sym (append-nil (outer ++ (before ++ first ∷ (tags ++ line ∷ []))));
+      opens = one_open first opens b f n (attributes-push tags o.attrs line a s e)
+          (attributes_hold (o.attrs ++ a ∷ []) (AreAttributes-push o.attrs a (attributes_of o.attrs d) named new));
       spelled = k;
       fresh = λ h. refl;
       within = λ h. omega arith;
     }
 
 -- more of the content
-content_so : (line : Line) (lines : List Line) (stack : List OpenElement) (here more : List Node) (tag : Bool) → (s : SoFar lines stack here tag) → Spell (s.inside ++ line ∷ []) more → SoFar (lines ++ line ∷ []) stack more false
+content_so : (line : Line) (lines : List Line) (stack : List OpenElement) (here more : List Node) (tag : Bool) → (s : SoFar lines stack here tag)
+    → Spell (s.inside ++ line ∷ []) more → SoFar (lines ++ line ∷ []) stack more false
 content_so line lines stack here more tag s k =
     record {
       outer = s.outer;
@@ -219,22 +243,27 @@ content_so line lines stack here more tag s k =
       within = λ h. absurd (true≢false (sym h));
     }
 
-ends_by : (line : Line) (name : List ℕ) (lines : List Line) (stack : List OpenElement) (r : Reading) → form line ≡ ends name → closes name stack ≡ true → SoFar lines stack r.here r.in_tag
+ends_by : (line : Line) (name : List ℕ) (lines : List Line) (stack : List OpenElement) (r : Reading) → form line ≡ ends name → closes name stack ≡ true
+    → SoFar lines stack r.here r.in_tag
     → SoFar (lines ++ line ∷ []) (closed stack r).stack (closed stack r).here (closed stack r).in_tag
 ends_by line name lines [] r e same s = absurd (true≢false (sym same))
 ends_by line name lines (o ∷ outer) r e same s =
-    subst (λ l. SoFar (l ++ line ∷ []) outer (o.before ++ Element o.name o.attrs r.here ∷ []) false) (sym s.whole) (ends_so line name s.outer s.inside o outer r.here e same s.opens s.spelled)
+    subst (λ l. SoFar (l ++ line ∷ []) outer (o.before ++ Element o.name o.attrs r.here ∷ []) false) (sym s.whole)
+    (ends_so line name s.outer s.inside o outer r.here e same s.opens s.spelled)
 
-attribute_by : (line : Line) (a : Attr) (lines : List Line) (stack : List OpenElement) (here : List Node) → form line ≡ attribute a.name a.value → IsTrue (is_name a.name) → has_already a.name stack ≡ false → SoFar lines stack here true
+attribute_by : (line : Line) (a : Attr) (lines : List Line) (stack : List OpenElement) (here : List Node) → form line ≡ attribute a.name a.value
+    → IsTrue (is_name a.name) → has_already a.name stack ≡ false → SoFar lines stack here true
     → SoFar (lines ++ line ∷ []) (with_attribute a stack) here true
 attribute_by line a lines [] here e named new s = absurd (let none : 0 < 0 = s.within refl in omega arith)
 attribute_by line a lines (o ∷ outer) here e named new s =
     let bare : s.inside ≡ [] = s.fresh refl in
-    subst (λ l. SoFar (l ++ line ∷ []) (record o { attrs = o.attrs ++ a ∷ [] } ∷ outer) here true) (sym (s.whole ∙ ap (λ l. s.outer ++ l) bare ∙ append-nil s.outer))
+    subst (λ l. SoFar (l ++ line ∷ []) (record o { attrs = o.attrs ++ a ∷ [] } ∷ outer) here true)
+    (sym (s.whole ∙ ap (λ l. s.outer ++ l) bare ∙ append-nil s.outer))
     (attribute_so line a s.outer o outer here e named new s.opens (subst (λ l. Spell l here) bare s.spelled))
 
 -- any line that is not refused
-kept : (line : Line) (f : Form) (lines : List Line) (r : Reading) → form line ≡ f → refusal f r ≡ None → SoFar lines r.stack r.here r.in_tag → SoFar (lines ++ line ∷ []) (taken f r).stack (taken f r).here (taken f r).in_tag
+kept : (line : Line) (f : Form) (lines : List Line) (r : Reading) → form line ≡ f → refusal f r ≡ None → SoFar lines r.stack r.here r.in_tag
+    → SoFar (lines ++ line ∷ []) (taken f r).stack (taken f r).here (taken f r).in_tag
 kept line no_form lines r is e s = cc
 kept line (begins name) lines r is e s = begins_so line name lines r.stack r.here r.in_tag is (not-false _ (passed _ _ _ e).0) s
 kept line (ends name) lines r is e s =
@@ -249,18 +278,22 @@ kept line (attribute name value) lines r is e s =
     let tag : r.in_tag ≡ true = not-false _ q.0 in
     subst (λ t. SoFar (lines ++ line ∷ []) (with_attribute a r.stack) r.here t) (sym tag)
     (attribute_by line a lines r.stack r.here is (not-false _ p.0) t.0 (subst (λ t. SoFar lines r.stack r.here t) tag s))
-kept line (characters value) lines r is e s = content_so line lines r.stack r.here (with_characters value r.here) r.in_tag s (Spell-characters s.inside r.here line value s.spelled is)
+kept line (characters value) lines r is e s =
+    content_so line lines r.stack r.here (with_characters value r.here) r.in_tag s (Spell-characters s.inside r.here line value s.spelled is)
 kept line (instruction target value) lines r is e s =
     content_so line lines r.stack r.here (r.here ++ Pi target value ∷ []) r.in_tag s
-    (Spell-append s.inside r.here (line ∷ []) (Pi target value ∷ []) s.spelled (an_instruction is (not-false _ (passed _ _ _ e).0) no_nodes) (ap is_characters is))
+    (Spell-append s.inside r.here (line ∷ []) (Pi target value ∷ []) s.spelled (an_instruction is (not-false _ (passed _ _ _ e).0) no_nodes)
+    (ap is_characters is))
 
-stepped_kept : (line : Line) (o : Option PyxRefusal) (lines : List Line) (r then : Reading) → refusal (form line) r ≡ o → stepped o (form line) r ≡ Ok then → SoFar lines r.stack r.here r.in_tag → SoFar (lines ++ line ∷ []) then.stack then.here then.in_tag
+stepped_kept : (line : Line) (o : Option PyxRefusal) (lines : List Line) (r then : Reading) → refusal (form line) r ≡ o → stepped o (form line) r ≡ Ok then
+    → SoFar lines r.stack r.here r.in_tag → SoFar (lines ++ line ∷ []) then.stack then.here then.in_tag
 stepped_kept line (Some why) lines r then e g s = cc
 stepped_kept line None lines r then e g s =
     let same : record (taken (form line) r) { lines = next_line r.lines } ≡ then = cc in
     subst (λ q. SoFar (lines ++ line ∷ []) q.stack q.here q.in_tag) same (kept line (form line) lines r refl e s)
 
-after_kept : (todo done : List Line) (r then : Reading) → after todo r ≡ Ok then → SoFar done r.stack r.here r.in_tag → SoFar (done ++ todo) then.stack then.here then.in_tag
+after_kept : (todo done : List Line) (r then : Reading) → after todo r ≡ Ok then → SoFar done r.stack r.here r.in_tag
+    → SoFar (done ++ todo) then.stack then.here then.in_tag
 after_kept [] done r then e s =
     let same : r ≡ then = cc in
     subst (λ q. SoFar (done ++ []) q.stack q.here q.in_tag) same (subst (λ l. SoFar l r.stack r.here r.in_tag) (sym (append-nil done)) s)
@@ -276,7 +309,8 @@ start_so = record { outer = []; inside = []; whole = refl; opens = none_open; sp
 all_inside : (outer inside lines : List Line) (here : List Node) → Open outer [] → lines ≡ outer ++ inside → Spell inside here → Spell lines here
 all_inside _ inside lines here none_open e k = subst (λ l. Spell l here) (sym e) k
 
-ended_spelled : (lines : List Line) (stack : List OpenElement) (r : Reading) (doc : Doc) → ended_at stack r ≡ Ok doc → SoFar lines stack r.here r.in_tag → Spell lines doc.kids
+ended_spelled : (lines : List Line) (stack : List OpenElement) (r : Reading) (doc : Doc) → ended_at stack r ≡ Ok doc → SoFar lines stack r.here r.in_tag
+    → Spell lines doc.kids
 ended_spelled lines [] r doc e s =
     let same : record { kids = r.here } ≡ doc = cc in
     subst (λ d. Spell lines d.kids) same (all_inside s.outer s.inside lines r.here s.opens s.whole s.spelled)
@@ -287,4 +321,10 @@ pub read_is_spelled : (lines : List Line) (doc : Doc) → read lines ≡ Ok doc 
 read_is_spelled lines doc e =
     let p = ok_parts (after lines start) ended doc e in
     let valid = read_is_valid lines doc e in
-    record { spelled = ended_spelled lines p.0.stack p.0 doc p.2 (after_kept lines [] start p.0 p.1 start_so); depth = valid.depth; nodes = valid.nodes; text = valid.text }
+    record {
+      spelled = ended_spelled lines p.0.stack p.0 doc p.2 (after_kept lines [] start p.0 p.1 start_so);
+      depth = valid.depth;
+      nodes = valid.nodes;
+      text =
+          valid.text;
+    }

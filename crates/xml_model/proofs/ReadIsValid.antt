@@ -51,12 +51,14 @@ passed false why o e = (refl, e)
 -- one attribute more, of a new name
 
 -- a name that none of the attributes has, nor the new one, is not among them all
-not_among-push : (name : List ℕ) (attrs : List Attr) (a : Attr) → has_attribute name attrs ≡ false → bytes_eq a.name name ≡ false → has_attribute name (attrs ++ a ∷ []) ≡ false
+not_among-push : (name : List ℕ) (attrs : List Attr) (a : Attr) → has_attribute name attrs ≡ false → bytes_eq a.name name ≡ false
+    → has_attribute name (attrs ++ a ∷ []) ≡ false
 not_among-push name [] a h e = or_from _ _ e refl
 not_among-push name (d ∷ attrs) a h e = let p = or_parts _ _ h in or_from _ _ p.0 (not_among-push name attrs a p.1 e)
 
 -- attributes stay attributes with one more of a new name
-pub AreAttributes-push : (attrs : List Attr) (a : Attr) → AreAttributes attrs → IsTrue (is_name a.name) → has_attribute a.name attrs ≡ false → AreAttributes (attrs ++ a ∷ [])
+pub AreAttributes-push : (attrs : List Attr) (a : Attr) → AreAttributes attrs → IsTrue (is_name a.name) → has_attribute a.name attrs ≡ false
+    → AreAttributes (attrs ++ a ∷ [])
 AreAttributes-push [] a are named new = (named, refl, tt)
 AreAttributes-push (d ∷ attrs) a are named new =
     let p = or_parts _ _ new in
@@ -89,7 +91,14 @@ characters_beside first c cs x other =
     let d = fold-Text ℕ depth_step (c ∷ cs) in
     let n = fold-Text ℕ count_step (c ∷ cs) in
     let b = fold-Text ℕ bytes_step (c ∷ cs) in
-    record { formed = λ h. (h.0, (omega arith, tt)); apart = λ h. (h.0, (and_left _ _ other, tt)); deep = omega arith; nodes = omega arith; bytes = omega arith }
+    record {
+      formed = λ h. (h.0, (omega arith, tt));
+      apart = λ h. (h.0, (and_left _ _ other, tt));
+      deep = omega arith;
+      nodes = omega arith;
+      bytes =
+          omega arith;
+    }
 
 -- they go into a text
 characters_joined : (first : Bool) (c : ℕ) (cs : List ℕ) (value : List ℕ) → Grows first (c ∷ cs) (Text value ∷ []) (Text (value ++ c ∷ cs) ∷ []) 0
@@ -104,17 +113,26 @@ characters_joined first c cs value =
     record { formed = λ h. (omega arith, tt); apart = λ h. h; deep = omega arith; nodes = omega arith; bytes = omega arith }
 
 -- they go by the last node
-characters_last : (first : Bool) (c : ℕ) (cs : List ℕ) (x : Node) → Grows first (c ∷ cs) (x ∷ []) (with_characters (c ∷ cs) (x ∷ [])) (texts_added (c ∷ cs) (x ∷ []))
+characters_last : (first : Bool) (c : ℕ) (cs : List ℕ) (x : Node)
+    → Grows first (c ∷ cs) (x ∷ []) (with_characters (c ∷ cs) (x ∷ [])) (texts_added (c ∷ cs) (x ∷ []))
 characters_last first c cs (Element' name attrs s row) = rw (outs-Element' name attrs s row) (characters_beside first c cs (Element' name attrs s row) refl)
 characters_last first c cs (Text value) = rw (outs-Text value) (characters_joined first c cs value)
 characters_last first c cs (Pi target value) = rw (outs-Pi target value) (characters_beside first c cs (Pi target value) refl)
 
 -- they change nothing before the last node
-characters_more : (first : Bool) (c : ℕ) (cs : List ℕ) (x : Node) (more : List Node) → Grows first (c ∷ cs) (x ∷ more) (with_characters (c ∷ cs) (x ∷ more)) (texts_added (c ∷ cs) (x ∷ more))
+characters_more : (first : Bool) (c : ℕ) (cs : List ℕ) (x : Node) (more : List Node)
+    → Grows first (c ∷ cs) (x ∷ more) (with_characters (c ∷ cs) (x ∷ more)) (texts_added (c ∷ cs) (x ∷ more))
 characters_more first c cs x [] = characters_last first c cs x
 characters_more first c cs x (y ∷ more) =
     let g = characters_more (is_text x) c cs y more in
-    record { formed = λ h. (h.0, g.formed h.1); apart = λ h. (h.0, g.apart h.1); deep = omega (arith, g.deep); nodes = omega (arith, g.nodes); bytes = omega (arith, g.bytes) }
+    record {
+      formed = λ h. (h.0, g.formed h.1);
+      apart = λ h. (h.0, g.apart h.1);
+      deep = omega (arith, g.deep);
+      nodes = omega (arith, g.nodes);
+      bytes =
+          omega (arith, g.bytes);
+    }
 
 -- so they do, whatever the nodes are
 characters_grow : (c : ℕ) (cs : List ℕ) (here : List Node) → Grows false (c ∷ cs) here (with_characters (c ∷ cs) here) (texts_added (c ∷ cs) here)
@@ -164,14 +182,25 @@ ends_kept name (o ∷ outer) r e s =
     }
 
 -- an attribute
-attribute_kept : (a : Attr) (stack : List OpenElement) (here : List Node) (n b : ℕ) → IsTrue (is_name a.name) → has_already a.name stack ≡ false → n + 1 ≤ NODES_MAX → b + length a.value ≤ TEXT_BYTES_MAX
+attribute_kept : (a : Attr) (stack : List OpenElement) (here : List Node) (n b : ℕ) → IsTrue (is_name a.name) → has_already a.name stack ≡ false
+    → n + 1 ≤ NODES_MAX → b + length a.value ≤ TEXT_BYTES_MAX
     → IsSound stack here true n b → IsSound (with_attribute a stack) here true (n + 1) (b + length a.value)
 attribute_kept a [] here n b named new few short s = absurd (omega (arith, s.inside refl))
 attribute_kept a (o ∷ outer) here n b named new few short s =
     let is = s.are_open.0 in
     record {
       inside = λ h. omega arith;
-      are_open = (record { named = is.named; attributes = AreAttributes-push o.attrs a is.attributes named new; formed = is.formed; apart = is.apart; deep = is.deep }, s.are_open.1);
+      are_open = (
+        record {
+          named = is.named;
+          attributes = AreAttributes-push o.attrs a is.attributes named new;
+          formed = is.formed;
+          apart = is.apart;
+          deep =
+              is.deep;
+        },
+        s.are_open.1,
+      );
       formed = s.formed;
       apart = s.apart;
       deep = s.deep;
@@ -182,10 +211,22 @@ attribute_kept a (o ∷ outer) here n b named new few short s =
     }
 
 -- characters
-characters_kept : (value : List ℕ) (stack : List OpenElement) (here : List Node) (tag : Bool) (n b : ℕ) → n + texts_added value here ≤ NODES_MAX → b + length value ≤ TEXT_BYTES_MAX
+characters_kept : (value : List ℕ) (stack : List OpenElement) (here : List Node) (tag : Bool) (n b : ℕ) → n + texts_added value here ≤ NODES_MAX
+    → b + length value ≤ TEXT_BYTES_MAX
     → IsSound stack here tag n b → IsSound stack (with_characters value here) false (n + texts_added value here) (b + length value)
 characters_kept [] stack here tag n b few short s =
-    record { inside = λ h. absurd (true≢false (sym h)); are_open = s.are_open; formed = s.formed; apart = s.apart; deep = s.deep; counted = omega (arith, s.counted); few = few; measured = omega (arith, s.measured); short = short }
+    record {
+      inside = λ h. absurd (true≢false (sym h));
+      are_open = s.are_open;
+      formed = s.formed;
+      apart = s.apart;
+      deep = s.deep;
+      counted =
+          omega (arith, s.counted);
+      few = few;
+      measured = omega (arith, s.measured);
+      short = short;
+    }
 characters_kept (c ∷ cs) stack here tag n b few short s =
     let g = characters_grow c cs here in
     record {
@@ -201,7 +242,8 @@ characters_kept (c ∷ cs) stack here tag n b few short s =
     }
 
 -- an instruction
-instruction_kept : (target value : List ℕ) (stack : List OpenElement) (here : List Node) (tag : Bool) (n b : ℕ) → IsTrue (is_name target) → n + 1 ≤ NODES_MAX → b + length value ≤ TEXT_BYTES_MAX
+instruction_kept : (target value : List ℕ) (stack : List OpenElement) (here : List Node) (tag : Bool) (n b : ℕ) → IsTrue (is_name target) → n + 1 ≤ NODES_MAX
+    → b + length value ≤ TEXT_BYTES_MAX
     → IsSound stack here tag n b → IsSound stack (here ++ Pi target value ∷ []) false (n + 1) (b + length value)
 instruction_kept target value stack here tag n b named few short s =
     let x = Pi target value in
@@ -218,7 +260,8 @@ instruction_kept target value stack here tag n b named few short s =
     }
 
 -- any line that is not refused
-kept : (f : Form) (r : Reading) → refusal f r ≡ None → IsSound r.stack r.here r.in_tag r.nodes r.bytes → IsSound (taken f r).stack (taken f r).here (taken f r).in_tag (taken f r).nodes (taken f r).bytes
+kept : (f : Form) (r : Reading) → refusal f r ≡ None → IsSound r.stack r.here r.in_tag r.nodes r.bytes
+    → IsSound (taken f r).stack (taken f r).here (taken f r).in_tag (taken f r).nodes (taken f r).bytes
 kept no_form r e s = cc
 kept (begins name) r e s = begins_kept name r e s
 kept (ends name) r e s =
@@ -254,14 +297,16 @@ ok_parts (Ok a) f b e = (a, refl, e)
 ok_parts (Err x) f b e = cc
 
 -- a line that was read keeps it
-stepped_kept : (o : Option PyxRefusal) (f : Form) (r then : Reading) → refusal f r ≡ o → stepped o f r ≡ Ok then → IsSound r.stack r.here r.in_tag r.nodes r.bytes → IsSound then.stack then.here then.in_tag then.nodes then.bytes
+stepped_kept : (o : Option PyxRefusal) (f : Form) (r then : Reading) → refusal f r ≡ o → stepped o f r ≡ Ok then
+    → IsSound r.stack r.here r.in_tag r.nodes r.bytes → IsSound then.stack then.here then.in_tag then.nodes then.bytes
 stepped_kept (Some why) f r then e g s = cc
 stepped_kept None f r then e g s =
     let same : record (taken f r) { lines = next_line r.lines } ≡ then = cc in
     subst (λ q. IsSound q.stack q.here q.in_tag q.nodes q.bytes) same (kept f r e s)
 
 -- all lines that were read keep it
-after_kept : (lines : List Line) (r then : Reading) → after lines r ≡ Ok then → IsSound r.stack r.here r.in_tag r.nodes r.bytes → IsSound then.stack then.here then.in_tag then.nodes then.bytes
+after_kept : (lines : List Line) (r then : Reading) → after lines r ≡ Ok then → IsSound r.stack r.here r.in_tag r.nodes r.bytes
+    → IsSound then.stack then.here then.in_tag then.nodes then.bytes
 after_kept [] r then e s = let same : r ≡ then = cc in subst (λ q. IsSound q.stack q.here q.in_tag q.nodes q.bytes) same s
 after_kept (line ∷ lines) r then e s =
     let p = ok_parts (step line r) (after lines) then e in
@@ -272,12 +317,30 @@ after_kept (line ∷ lines) r then e s =
 ended_valid : (stack : List OpenElement) (r : Reading) (doc : Doc) → ended_at stack r ≡ Ok doc → IsSound stack r.here r.in_tag r.nodes r.bytes → HasForm doc
 ended_valid [] r doc e s =
     let same : record { kids = r.here } ≡ doc = cc in
-    subst HasForm same (record { formed = s.formed; apart = s.apart; depth = omega (arith, s.deep); nodes = omega (arith, s.counted, s.few); text = omega (arith, s.measured, s.short) })
+    subst HasForm same (record {
+      formed = s.formed;
+      apart = s.apart;
+      depth = omega (arith, s.deep);
+      nodes = omega (arith, s.counted, s.few);
+      text =
+          omega (arith, s.measured, s.short);
+    })
 ended_valid (f ∷ outer) r doc e s = cc
 
 -- it holds at the start
 start_sound : IsSound [] [] false 0 0
-start_sound = record { inside = λ h. absurd (true≢false (sym h)); are_open = tt; formed = tt; apart = tt; deep = omega arith; counted = omega arith; few = omega arith; measured = omega arith; short = omega arith }
+start_sound = record {
+  inside = λ h. absurd (true≢false (sym h));
+  are_open = tt;
+  formed = tt;
+  apart = tt;
+  deep = omega arith;
+  counted = omega arith;
+  few =
+      omega arith;
+  measured = omega arith;
+  short = omega arith;
+}
 
 -- what lines are read as is a valid document
 pub read_is_valid : (lines : List Line) (doc : Doc) → read lines ≡ Ok doc → IsValid doc

@@ -29,7 +29,8 @@ unrepeated : {A : Type 0} (k : String A) (xs : List (String A)) → IsDistinct s
 unfolding IsDistinct
 unrepeated k [] distinct = refl
 unrepeated k (x ∷ xs) distinct =
-    ap (λ b. cond b (dedup_from string_eq k xs) (k ∷ dedup_from string_eq x xs)) (string_eq_equiv.symm x k ∙ distinct.0.0) ∙ ap (λ l. k ∷ l) (unrepeated x xs distinct.1)
+    ap (λ b. cond b (dedup_from string_eq k xs) (k ∷ dedup_from string_eq x xs)) (string_eq_equiv.symm x k ∙ distinct.0.0)
+    ∙ ap (λ l. k ∷ l) (unrepeated x xs distinct.1)
 
 same_dedup : {A : Type 0} (xs : List (String A)) → IsDistinct string_eq xs → dedup string_eq xs ≡ xs
 same_dedup [] distinct = refl
@@ -83,11 +84,13 @@ tied Less e = absurd (true≢false (sym e))
 tied Equal e = refl
 tied Greater e = absurd (true≢false (sym e))
 
-below_pairs : {A Z : Type 0} (k : String A) (es : List (String A × Option (Arc Doc Z))) → AllByRecursion (λ y. string_cmp k y ≡ Less) (keys_of es) → below_all (slice_cmp nat_cmp) (string_bytes k) (pairs_of es) ≡ true
+below_pairs : {A Z : Type 0} (k : String A) (es : List (String A × Option (Arc Doc Z))) → AllByRecursion (λ y. string_cmp k y ≡ Less) (keys_of es)
+    → below_all (slice_cmp nat_cmp) (string_bytes k) (pairs_of es) ≡ true
 below_pairs k [] below = refl
 below_pairs k (e ∷ es) below = ap (λ r. is_lt r && below_all (slice_cmp nat_cmp) (string_bytes k) (pairs_of es)) below.0 ∙ below_pairs k es below.1
 
-sorted_pairs : {A Z : Type 0} (es : List (String A × Option (Arc Doc Z))) → IsStrictlySortedBy string_cmp (keys_of es) → is_sorted (slice_cmp nat_cmp) (pairs_of es) ≡ true
+sorted_pairs : {A Z : Type 0} (es : List (String A × Option (Arc Doc Z))) → IsStrictlySortedBy string_cmp (keys_of es)
+    → is_sorted (slice_cmp nat_cmp) (pairs_of es) ≡ true
 unfolding IsStrictlySortedBy
 sorted_pairs [] rise = refl
 sorted_pairs (e ∷ es) rise = ap (λ b. b && is_sorted (slice_cmp nat_cmp) (pairs_of es)) (below_pairs e.0 es rise.0) ∙ sorted_pairs es rise.1
@@ -103,7 +106,8 @@ below-kept k (e ∷ es) below =
     let parts = both (is_lt (slice_cmp nat_cmp k e.0)) (below_all (slice_cmp nat_cmp) k es) below in
     below-with k e.0 e.1 (kept es) parts.0 (below-kept k es parts.1)
 
-sorted-with : (name : List ℕ) (o : Option Doc) (ds : List (List ℕ × Doc)) → below_all (slice_cmp nat_cmp) name ds ≡ true → is_sorted (slice_cmp nat_cmp) ds ≡ true
+sorted-with : (name : List ℕ) (o : Option Doc) (ds : List (List ℕ × Doc)) → below_all (slice_cmp nat_cmp) name ds ≡ true
+    → is_sorted (slice_cmp nat_cmp) ds ≡ true
     → is_sorted (slice_cmp nat_cmp) (with_kept name o ds) ≡ true
 sorted-with name None ds below rest = rest
 sorted-with name (Some doc) ds below rest = ap (λ b. b && is_sorted (slice_cmp nat_cmp) ds) below ∙ rest
@@ -123,26 +127,32 @@ missing q (e ∷ es) below =
 
 -- ---- what is found among them
 
-find-none : (b : Bool) (found : Option Doc) (rest : Option (Option Doc)) → (b ≡ true → rest ≡ None) → found ≡ seen_as rest None → found ≡ seen_as (cond b (Some None) rest) None
+find-none : (b : Bool) (found : Option Doc) (rest : Option (Option Doc)) → (b ≡ true → rest ≡ None) → found ≡ seen_as rest None
+    → found ≡ seen_as (cond b (Some None) rest) None
 find-none true found rest apart is = is ∙ ap (λ o. seen_as o None) (apart refl)
 find-none false found rest apart is = is
 
-find-with : (q name : List ℕ) (o : Option Doc) (ds : List (List ℕ × Doc)) (rest : Option (Option Doc)) → (eq_by_cmp (slice_cmp nat_cmp) q name ≡ true → rest ≡ None)
-    → find (slice_cmp nat_cmp) q ds ≡ seen_as rest None → find (slice_cmp nat_cmp) q (with_kept name o ds) ≡ seen_as (cond (eq_by_cmp (slice_cmp nat_cmp) q name) (Some o) rest) None
+find-with : (q name : List ℕ) (o : Option Doc) (ds : List (List ℕ × Doc)) (rest : Option (Option Doc))
+    → (eq_by_cmp (slice_cmp nat_cmp) q name ≡ true → rest ≡ None)
+    → find (slice_cmp nat_cmp) q ds ≡ seen_as rest None
+    → find (slice_cmp nat_cmp) q (with_kept name o ds) ≡ seen_as (cond (eq_by_cmp (slice_cmp nat_cmp) q name) (Some o) rest) None
 find-with q name None ds rest apart is = find-none (eq_by_cmp (slice_cmp nat_cmp) q name) (find (slice_cmp nat_cmp) q ds) rest apart is
 find-with q name (Some doc) ds rest apart is =
     ap (cond (eq_by_cmp (slice_cmp nat_cmp) q name) (Some doc)) is ∙ sym (seen-cond (eq_by_cmp (slice_cmp nat_cmp) q name) (Some (Some doc)) rest None)
 
-find-kept : (q : List ℕ) (es : List (List ℕ × Option Doc)) → is_sorted (slice_cmp nat_cmp) es ≡ true → find (slice_cmp nat_cmp) q (kept es) ≡ seen_as (find (slice_cmp nat_cmp) q es) None
+find-kept : (q : List ℕ) (es : List (List ℕ × Option Doc)) → is_sorted (slice_cmp nat_cmp) es ≡ true
+    → find (slice_cmp nat_cmp) q (kept es) ≡ seen_as (find (slice_cmp nat_cmp) q es) None
 find-kept q [] rise = refl
 find-kept q (e ∷ es) rise =
     let parts = both (below_all (slice_cmp nat_cmp) e.0 es) (is_sorted (slice_cmp nat_cmp) es) rise in
     find-with q e.0 e.1 (kept es) (find (slice_cmp nat_cmp) q es)
-    (λ same. subst (λ z. find (slice_cmp nat_cmp) z es ≡ None) (sym (slice_cmp-IsAntisymmetric nat_cmp-IsAntisymmetric q e.0 (tied (slice_cmp nat_cmp q e.0) same))) (missing e.0 es parts.0))
+    (λ same. subst (λ z. find (slice_cmp nat_cmp) z es ≡ None)
+    (sym (slice_cmp-IsAntisymmetric nat_cmp-IsAntisymmetric q e.0 (tied (slice_cmp nat_cmp q e.0) same))) (missing e.0 es parts.0))
     (find-kept q es parts.1)
 
 -- the entries of a table in some order, with distinct names that rise: those that have a document are the names of the forest
-pub names-sorted : {A Z : Type 0} (es fs : List (String A × Option (Arc Doc Z))) → IsPermutation es fs → IsDistinct string_eq (keys_of fs) → IsSorted string_cmp (keys_of fs)
+pub names-sorted : {A Z : Type 0} (es fs : List (String A × Option (Arc Doc Z))) → IsPermutation es fs → IsDistinct string_eq (keys_of fs)
+    → IsSorted string_cmp (keys_of fs)
     → names_in fs ≡ forests.keys (laid_over (changes_of_entries es) no_documents)
 names-sorted es fs moves distinct sorted =
     sym (names-kept fs) ∙ ap (list_map (λ p. p.0)) (sym (forests.entries-from_sorted (slice_cmp nat_cmp) (kept (pairs_of fs)) in_order)) ∙ ap forests.keys same
@@ -157,6 +167,7 @@ names-sorted es fs moves distinct sorted =
     same = same_forest _ _
         (λ q. forests.get-from_sorted (slice_cmp nat_cmp) (kept (pairs_of fs)) q in_order ∙ find-kept q (pairs_of fs) rise
         ∙ ap (λ o. seen_as o None) (find-texts q fs
-        ∙ ap entry_of (lookup_permutation string_eq_equiv es fs moves distinct (λ k. bytes_eq q (string_bytes k)) (λ x y. nat_list_eq_equiv.congr q (string_bytes x) (string_bytes y)))
+        ∙ ap entry_of (lookup_permutation string_eq_equiv es fs moves distinct (λ k. bytes_eq q (string_bytes k))
+        (λ x y. nat_list_eq_equiv.congr q (string_bytes x) (string_bytes y)))
         ∙ sym (get-entries es q))
         ∙ sym (get-laid-nothing (changes_of_entries es) q))

@@ -67,7 +67,8 @@ plain_value (b ∷ bs) = IsPlain-append (escaped_byte b) (escaped bs) (plain_byt
 -- the lines of attributes are plain
 plain_attributes : (attrs : List Attr) → AreAttributes attrs → ArePlain (map attribute_line attrs)
 plain_attributes [] are = tt
-plain_attributes (a ∷ attrs) are = ((refl, IsPlain-append a.name (32 ∷ escaped a.value) (plain_name a.name are.0) (refl, plain_value a.value)), plain_attributes attrs are.2)
+plain_attributes (a ∷ attrs) are =
+    ((refl, IsPlain-append a.name (32 ∷ escaped a.value) (plain_name a.name are.0) (refl, plain_value a.value)), plain_attributes attrs are.2)
 
 -- the line of an instruction is plain
 plain_instruction : (target value : List ℕ) → IsTrue (is_name target) → IsPlain (target ++ behind_target value)
@@ -79,8 +80,11 @@ mutual
   plain_node : (x : Node) → IsFormed x → ArePlain (pyx_node x)
   plain_node (Element' name attrs s row) formed =
       let named = plain_name name formed.0 in
-      rw (fold-Element' (List Line) pyx_step name attrs s row)
-      ((refl, named), ArePlain-append (map attribute_line attrs) _ (plain_attributes attrs formed.1) (ArePlain-append (pyx_of (items-the_row-Node _ row)) ((41 ∷ name) ∷ []) (plain_row _ row formed.3) ((refl, named), tt)))
+      rw (fold-Element' (List Line) pyx_step name attrs s row) (
+        (refl, named),
+        ArePlain-append (map attribute_line attrs) _ (plain_attributes attrs formed.1)
+            (ArePlain-append (pyx_of (items-the_row-Node _ row)) ((41 ∷ name) ∷ []) (plain_row _ row formed.3) ((refl, named), tt)),
+      )
   plain_node (Text value) formed = rw (fold-Text (List Line) pyx_step value) ((refl, plain_value value), tt)
   plain_node (Pi target value) formed = rw (fold-Pi (List Line) pyx_step target value) ((refl, plain_instruction target value formed), tt)
 

@@ -35,9 +35,11 @@ put_by : (changes : ChangeMap) (name : List ℕ) (after : Option Doc) (q : List 
 put_by changes name after q true same before named valid = (subst (λ z. IsTrue (is_document_name z)) (sym ((bytes_eq-Decides q name).0 same)) named, valid)
 put_by changes name after q false other before named valid = before
 
-pub put_is_valid : (changes : ChangeMap) (name : List ℕ) (after : Option Doc) → AreValidChanges changes → IsTrue (is_document_name name) → IfSome after IsValid → AreValidChanges (map.insert changes name after)
+pub put_is_valid : (changes : ChangeMap) (name : List ℕ) (after : Option Doc) → AreValidChanges changes → IsTrue (is_document_name name) → IfSome after IsValid
+    → AreValidChanges (map.insert changes name after)
 put_is_valid changes name after before named valid q =
-    subst (IsChangedAt q) (sym (map.get-insert nat_list_cmp_total changes name after q ∙ (λ i. cond (is_eq-slice_cmp q name i) (Some after) (map.get changes q))))
+    subst (IsChangedAt q) (sym (map.get-insert nat_list_cmp_total changes name after q
+    ∙ (λ i. cond (is_eq-slice_cmp q name i) (Some after) (map.get changes q))))
     (put_by changes name after q (bytes_eq q name) refl (before q) named valid)
 
 at_seen : (q : List ℕ) (o : Option (Option Doc)) (there : Option Doc) → IsChangedAt q o → IsAt q there → IsAt q (seen_as o there)

@@ -145,8 +145,10 @@ abbrev pub taken : Form → Reading → Reading
 taken no_form r = r
 taken (begins name) r = record r { stack = record { name = name; attrs = []; before = r.here } ∷ r.stack; here = []; in_tag = true; nodes = r.nodes + 1 }
 taken (ends name) r = closed r.stack r
-taken (attribute name value) r = record r { stack = with_attribute (record { name = name; value = value }) r.stack; nodes = r.nodes + 1; bytes = r.bytes + length value }
-taken (characters value) r = record r { here = with_characters value r.here; in_tag = false; nodes = r.nodes + texts_added value r.here; bytes = r.bytes + length value }
+taken (attribute name value) r =
+    record r { stack = with_attribute (record { name = name; value = value }) r.stack; nodes = r.nodes + 1; bytes = r.bytes + length value }
+taken (characters value) r =
+    record r { here = with_characters value r.here; in_tag = false; nodes = r.nodes + texts_added value r.here; bytes = r.bytes + length value }
 taken (instruction target value) r = record r { here = r.here ++ Pi target value ∷ []; in_tag = false; nodes = r.nodes + 1; bytes = r.bytes + length value }
 
 -- the number of the next line, from 1; it stands still at the last number of 64 bits

@@ -14,12 +14,14 @@ use Rattle.xml_model.specs.Pyx.{Line, Form, no_form, begins, ends, attribute, ch
 -- a line an attribute
 pub data SpellAttributes : List Line → List Attr → Type 0 where
   no_attributes : SpellAttributes [] []
-  an_attribute : {line : Line} {lines : List Line} {a : Attr} {attrs : List Attr} → form line ≡ attribute a.name a.value → SpellAttributes lines attrs → SpellAttributes (line ∷ lines) (a ∷ attrs)
+  an_attribute : {line : Line} {lines : List Line} {a : Attr} {attrs : List Attr} → form line ≡ attribute a.name a.value → SpellAttributes lines attrs
+      → SpellAttributes (line ∷ lines) (a ∷ attrs)
 
 -- lines of characters, whose values follow one another
 pub data SpellCharacters : List Line → List ℕ → Type 0 where
   no_characters : SpellCharacters [] []
-  some_characters : {line : Line} {lines : List Line} {value more : List ℕ} → form line ≡ characters value → SpellCharacters lines more → SpellCharacters (line ∷ lines) (value ++ more)
+  some_characters : {line : Line} {lines : List Line} {value more : List ℕ} → form line ≡ characters value → SpellCharacters lines more
+      → SpellCharacters (line ∷ lines) (value ++ more)
 
 abbrev pub is_characters : Form → Bool
 is_characters no_form = false
@@ -38,7 +40,8 @@ pub data Spell : List Line → List Node → Type 0 where
   no_nodes : Spell [] []
   -- a start tag, the attributes, of which no two have one name, the content and the end tag of the same name
   an_element : {name : List ℕ} {attrs : List Attr} {kids nodes : List Node} {first : Line} {tags inside rest : List Line} (last : Line)
-      → form first ≡ begins name → IsTrue (is_name name) → SpellAttributes tags attrs → IsTrue (are_attributes attrs) → Spell inside kids → form last ≡ ends name
+      → form first ≡ begins name → IsTrue (is_name name) → SpellAttributes tags attrs → IsTrue (are_attributes attrs) → Spell inside kids
+      → form last ≡ ends name
       → Spell rest nodes → Spell (first ∷ (tags ++ (inside ++ last ∷ rest))) (Element name attrs kids ∷ nodes)
   an_instruction : {target value : List ℕ} {nodes : List Node} {line : Line} {rest : List Line}
       → form line ≡ instruction target value → IsTrue (is_name target) → Spell rest nodes → Spell (line ∷ rest) (Pi target value ∷ nodes)

@@ -46,7 +46,8 @@ pub other_tail : (text word tail rest : List ℕ) → text ≡ word ++ 32 ∷ re
 other_tail text word tail rest t ne e = ne (same_tail text word tail rest t e)
 
 -- behind the word stands another name
-pub other_name : (text word rest name mine k n : List ℕ) → text ≡ word ++ 32 ∷ rest → rest ≡ name ++ 32 ∷ k → has_space name ≡ false → has_space mine ≡ false → mine ≢ name
+pub other_name : (text word rest name mine k n : List ℕ) → text ≡ word ++ 32 ∷ rest → rest ≡ name ++ 32 ∷ k → has_space name ≡ false → has_space mine ≡ false
+    → mine ≢ name
     → word ++ 32 ∷ (mine ++ 32 ∷ n) ≢ text
 other_name text word rest name mine k n t r p q ne e = ne (cut_once mine name n k q p (same_tail text word (mine ++ 32 ∷ n) rest t e ∙ r)).0
 
@@ -59,21 +60,25 @@ pub no_second : (rest first second : List ℕ) → has_space rest ≡ false → 
 no_second rest first second none e = let some : has_space rest ≡ true = ap has_space (sym e) ∙ space_inside first second in cc
 
 -- what is cut is cut there
-pub second_part : (rest before behind first second : List ℕ) → IsCut rest before behind → has_space first ≡ false → first ++ 32 ∷ second ≡ rest → (first ≡ before) × (second ≡ behind)
+pub second_part : (rest before behind first second : List ℕ) → IsCut rest before behind → has_space first ≡ false → first ++ 32 ∷ second ≡ rest
+    → (first ≡ before) × (second ≡ behind)
 second_part rest before behind first second cut plain e = cut_once first before second behind plain cut.first (e ∙ cut.whole)
 
 -- a text that is none of a word, a PYX refusal, a spent number or a damaged page is no code's
 pub no_code : (text : List ℕ) → ((c : Code) → IsWord c → code_text c ≢ text) → ((why : PyxRefusal) (line : ℕ) → line < 2 ^ 64 → code_text (Pyx why line) ≢ text)
     → ((kind : SpentKind) (number : ℕ) → number < 2 ^ 64 → code_text (Spent kind number) ≢ text)
-    → ((commit ordinal page : ℕ) → commit < 2 ^ 64 → ordinal < 2 ^ 64 → page < 2 ^ 64 → code_text (Damaged commit ordinal page) ≢ text) → (c : Code) → InRange c → code_text c ≢ text
+    → ((commit ordinal page : ℕ) → commit < 2 ^ 64 → ordinal < 2 ^ 64 → page < 2 ^ 64 → code_text (Damaged commit ordinal page) ≢ text) → (c : Code) → InRange c
+    → code_text c ≢ text
 no_code text w p s d (Pyx why line) small = p why line small
 no_code text w p s d (Spent kind number) small = s kind number small
 no_code text w p s d (Damaged commit ordinal page) small = d commit ordinal page small.0 small.1 small.2
 no_code text w p s d c small = w c tt
 
 -- the parts of a damaged page's text, where the text was cut behind its first word
-pub damaged_parts : (text rest before behind : List ℕ) → text ≡ codes "Damaged" ++ 32 ∷ rest → IsCut rest before behind → (commit ordinal page : ℕ) → commit < 2 ^ 64
+pub damaged_parts : (text rest before behind : List ℕ) → text ≡ codes "Damaged" ++ 32 ∷ rest → IsCut rest before behind → (commit ordinal page : ℕ)
+    → commit < 2 ^ 64
     → code_text (Damaged commit ordinal page) ≡ text → (decimal commit ≡ before) × (decimal ordinal ++ 32 ∷ decimal page ≡ behind)
 damaged_parts text rest before behind t cut commit ordinal page small e =
     let tail = decimal ordinal ++ 32 ∷ decimal page in
-    second_part rest before behind (decimal commit) tail cut (has_space-decimal commit small) (same_tail text (codes "Damaged") (decimal commit ++ 32 ∷ tail) rest t e)
+    second_part rest before behind (decimal commit) tail cut (has_space-decimal commit small)
+    (same_tail text (codes "Damaged") (decimal commit ++ 32 ∷ tail) rest t e)

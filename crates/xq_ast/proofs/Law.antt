@@ -129,10 +129,13 @@ same_spent w v k n small few e =
     let number : k ≡ n = decimal_injective k n small few parts.1 in
     cc
 
-same_damaged : (c o p c' o' p' : ℕ) → InRange (Damaged c o p) → InRange (Damaged c' o' p') → code_text (Damaged c o p) ≡ code_text (Damaged c' o' p') → Damaged c o p ≡ Damaged c' o' p'
+same_damaged : (c o p c' o' p' : ℕ) → InRange (Damaged c o p) → InRange (Damaged c' o' p') → code_text (Damaged c o p) ≡ code_text (Damaged c' o' p')
+    → Damaged c o p ≡ Damaged c' o' p'
 same_damaged c o p c' o' p' r s e =
-    let tails = append_cancel_left (codes "Damaged ") (decimal c ++ 32 ∷ (decimal o ++ 32 ∷ decimal p)) (decimal c' ++ 32 ∷ (decimal o' ++ 32 ∷ decimal p')) e in
-    let first = cut_once (decimal c) (decimal c') (decimal o ++ 32 ∷ decimal p) (decimal o' ++ 32 ∷ decimal p') (has_space-decimal c r.0) (has_space-decimal c' s.0) tails in
+    let tails = append_cancel_left (codes "Damaged ") (decimal c ++ 32 ∷ (decimal o ++ 32 ∷ decimal p))
+    (decimal c' ++ 32 ∷ (decimal o' ++ 32 ∷ decimal p')) e in
+    let first = cut_once (decimal c) (decimal c') (decimal o ++ 32 ∷ decimal p) (decimal o' ++ 32 ∷ decimal p') (has_space-decimal c r.0)
+    (has_space-decimal c' s.0) tails in
     let second = cut_once (decimal o) (decimal o') (decimal p) (decimal p') (has_space-decimal o r.1) (has_space-decimal o' s.1) first.1 in
     let commit : c ≡ c' = decimal_injective c c' r.0 s.0 first.0 in
     let ordinal : o ≡ o' = decimal_injective o o' r.1 s.1 second.0 in
@@ -140,7 +143,8 @@ same_damaged c o p c' o' p' r s e =
     cc
 
 by_form : {a b : Code} → Form a → Form b → InRange a → InRange b → code_text a ≡ code_text b → without_mark a ≡ without_mark b
-by_form (word a p) (word b q) r s e = let found : Some (without_mark a) ≡ Some (without_mark b) = sym (word_named a p) ∙ (ap (named code_text WORDS) e ∙ word_named b q) in cc
+by_form (word a p) (word b q) r s e = let found : Some (without_mark a) ≡ Some (without_mark b) = sym (word_named a p)
+    ∙ (ap (named code_text WORDS) e ∙ word_named b q) in cc
 by_form (word a p) (pyx v n) r s e = absurd (word_or_none a (Pyx v n) p refl e)
 by_form (word a p) (spent v n) r s e = absurd (word_or_none a (Spent v n) p refl e)
 by_form (word a p) (damaged c o n) r s e = absurd (word_or_none a (Damaged c o n) p refl e)

@@ -12,7 +12,8 @@ use Rattle.xq_ast.specs.Readings.{parsed}
 -- ---- tokens
 
 -- the longest symbol that fits
-longest_symbols : tokens (codes "//.../::<= :=$") ≡ Some (Symbol SlashSlash ∷ Symbol DotDot ∷ Symbol Dot ∷ Symbol Slash ∷ Symbol ColonColon ∷ Symbol LessOrEqual ∷ Symbol Assign ∷ Symbol Dollar ∷ [])
+longest_symbols : tokens (codes "//.../::<= :=$")
+    ≡ Some (Symbol SlashSlash ∷ Symbol DotDot ∷ Symbol Dot ∷ Symbol Slash ∷ Symbol ColonColon ∷ Symbol LessOrEqual ∷ Symbol Assign ∷ Symbol Dollar ∷ [])
 longest_symbols = refl
 
 -- a lone colon is no symbol
@@ -20,7 +21,9 @@ lone_colon : tokens (codes "a: b") ≡ None
 lone_colon = refl
 
 -- names of one part and of two
-names_of_parts : tokens (codes "a-1.b fn:count child::a a:=b") ≡ Some (Name (codes "a-1.b") ∷ Name (codes "fn:count") ∷ Name (codes "child") ∷ Symbol ColonColon ∷ Name (codes "a") ∷ Name (codes "a") ∷ Symbol Assign ∷ Name (codes "b") ∷ [])
+names_of_parts : tokens (codes "a-1.b fn:count child::a a:=b")
+    ≡ Some (Name (codes "a-1.b") ∷ Name (codes "fn:count") ∷ Name (codes "child") ∷ Symbol ColonColon ∷ Name (codes "a") ∷ Name
+    (codes "a") ∷ Symbol Assign ∷ Name (codes "b") ∷ [])
 names_of_parts = refl
 
 -- a name has two parts at most

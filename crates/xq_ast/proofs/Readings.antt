@@ -81,29 +81,35 @@ document_sound make c (token.Name word ∷ ts) e =
     (λ none. cc)
 
 -- a row that has its first word alone
-alone_row : (word the_word : List ℕ) (ts : List Token) (pyx : List (List ℕ)) (the_call c : Call) → IsCall (token.Name the_word ∷ []) pyx the_call → bytes_eq word the_word ≡ true → alone the_call ts ≡ Some c
+alone_row : (word the_word : List ℕ) (ts : List Token) (pyx : List (List ℕ)) (the_call c : Call) → IsCall (token.Name the_word ∷ []) pyx the_call
+    → bytes_eq word the_word ≡ true → alone the_call ts ≡ Some c
     → IsCall (token.Name word ∷ ts) pyx c
 alone_row word the_word ts pyx the_call c is same r =
     let both = alone_sound the_call c ts r in
-    let e : token.Name the_word ∷ [] ≡ token.Name word ∷ ts = ap (λ w. token.Name w ∷ []) (sym (same_bytes word the_word same)) ∙ ap (λ us. token.Name word ∷ us) (sym both.0) in
+    let e : token.Name the_word ∷ [] ≡ token.Name word ∷ ts = ap (λ w. token.Name w ∷ []) (sym (same_bytes word the_word same))
+    ∙ ap (λ us. token.Name word ∷ us) (sym both.0) in
     subst (λ us. IsCall us pyx c) e (subst (λ d. IsCall (token.Name the_word ∷ []) pyx d) both.1 is)
 
 -- a row that has its first word and a string
-named_row : (word the_word : List ℕ) (ts : List Token) (pyx : List (List ℕ)) (make : List ℕ → Call) (c : Call) → ((name : List ℕ) → IsCall (token.Name the_word ∷ token.Text name ∷ []) pyx (make name))
+named_row : (word the_word : List ℕ) (ts : List Token) (pyx : List (List ℕ)) (make : List ℕ → Call) (c : Call)
+    → ((name : List ℕ) → IsCall (token.Name the_word ∷ token.Text name ∷ []) pyx (make name))
     → bytes_eq word the_word ≡ true → named make ts ≡ Some c → IsCall (token.Name word ∷ ts) pyx c
 named_row word the_word ts pyx make c is same r =
     let n = named_sound make c ts r in
-    let e : token.Name the_word ∷ token.Text n.name ∷ [] ≡ token.Name word ∷ ts = ap (λ w. token.Name w ∷ token.Text n.name ∷ []) (sym (same_bytes word the_word same)) ∙ ap (λ us. token.Name word ∷ us) (sym n.whole) in
+    let e : token.Name the_word ∷ token.Text n.name ∷ [] ≡ token.Name word ∷ ts =
+    ap (λ w. token.Name w ∷ token.Text n.name ∷ []) (sym (same_bytes word the_word same)) ∙ ap (λ us. token.Name word ∷ us) (sym n.whole) in
     subst (λ us. IsCall us pyx c) e (subst (λ d. IsCall (token.Name the_word ∷ token.Text n.name ∷ []) pyx d) n.made (is n.name))
 
 -- a row that has its first word, the word DOCUMENT and a string
 document_row : (word the_word : List ℕ) (ts : List Token) (pyx : List (List ℕ)) (make : List ℕ → Call) (c : Call)
-    → ((name : List ℕ) → IsCall (token.Name the_word ∷ token.Name (codes "DOCUMENT") ∷ token.Text name ∷ []) pyx (make name)) → bytes_eq word the_word ≡ true → document make ts ≡ Some c
+    → ((name : List ℕ) → IsCall (token.Name the_word ∷ token.Name (codes "DOCUMENT") ∷ token.Text name ∷ []) pyx (make name)) → bytes_eq word the_word ≡ true
+    → document make ts ≡ Some c
     → IsCall (token.Name word ∷ ts) pyx c
 document_row word the_word ts pyx make c is same r =
     let n = document_sound make c ts r in
     let tail = token.Name (codes "DOCUMENT") ∷ token.Text n.name ∷ [] in
-    let e : token.Name the_word ∷ tail ≡ token.Name word ∷ ts = ap (λ w. token.Name w ∷ tail) (sym (same_bytes word the_word same)) ∙ ap (λ us. token.Name word ∷ us) (sym n.whole) in
+    let e : token.Name the_word ∷ tail ≡ token.Name word ∷ ts = ap (λ w. token.Name w ∷ tail) (sym (same_bytes word the_word same))
+    ∙ ap (λ us. token.Name word ∷ us) (sym n.whole) in
     subst (λ us. IsCall us pyx c) e (subst (λ d. IsCall (token.Name the_word ∷ tail) pyx d) n.made (is n.name))
 
 -- the rows of the word BEGIN
@@ -114,14 +120,16 @@ begin_sound (token.Name word ∷ []) pyx c e =
     (λ same r.
     let is : call.BeginRead ≡ c = cc in
     let w : codes "READ-ONLY" ≡ word = sym (same_bytes word (codes "READ-ONLY") same) in
-    subst (λ x. IsCall (token.Name (codes "BEGIN") ∷ token.Name x ∷ []) pyx c) w (subst (λ d. IsCall (token.Name (codes "BEGIN") ∷ token.Name (codes "READ-ONLY") ∷ []) pyx d) is grammar.IsCall.begin_read))
+    subst (λ x. IsCall (token.Name (codes "BEGIN") ∷ token.Name x ∷ []) pyx c) w
+    (subst (λ d. IsCall (token.Name (codes "BEGIN") ∷ token.Name (codes "READ-ONLY") ∷ []) pyx d) is grammar.IsCall.begin_read))
     (λ none. cc)
 begin_sound (token.Name word ∷ t ∷ ts) pyx c e = cc
 begin_sound (token.Text name ∷ ts) pyx c e = cc
 begin_sound (token.Int n ∷ ts) pyx c e = cc
 begin_sound (token.Symbol s ∷ ts) pyx c e = cc
 
-begin_row : (word : List ℕ) (ts : List Token) (pyx : List (List ℕ)) (c : Call) → bytes_eq word (codes "BEGIN") ≡ true → begin ts ≡ Some c → IsCall (token.Name word ∷ ts) pyx c
+begin_row : (word : List ℕ) (ts : List Token) (pyx : List (List ℕ)) (c : Call) → bytes_eq word (codes "BEGIN") ≡ true → begin ts ≡ Some c
+    → IsCall (token.Name word ∷ ts) pyx c
 begin_row word ts pyx c same r = subst (λ w. IsCall (token.Name w ∷ ts) pyx c) (sym (same_bytes word (codes "BEGIN") same)) (begin_sound ts pyx c r)
 
 row_sound : (word : List ℕ) (ts : List Token) (pyx : List (List ℕ)) (c : Call) → row word ts pyx ≡ Some c → IsCall (token.Name word ∷ ts) pyx c
@@ -191,7 +199,8 @@ named_holds ts pyx (Some c) well e = good_or_bad (has_good_names c) refl
     good_or_bad true good = answers.IsRead.a_call well (call_sound ts pyx c e) good
     good_or_bad false bad = answers.IsRead.bad_name well (call_sound ts pyx c e) bad
 
-read_holds : (ts : List Token) (pyx : List (List ℕ)) (b : Bool) → is_nested_well ts ≡ b → IsRead ts pyx (if b then named_well (call_of ts pyx) else Err NestedTooDeep)
+read_holds : (ts : List Token) (pyx : List (List ℕ)) (b : Bool) → is_nested_well ts ≡ b
+    → IsRead ts pyx (if b then named_well (call_of ts pyx) else Err NestedTooDeep)
 read_holds ts pyx true well = named_holds ts pyx (call_of ts pyx) well refl
 read_holds ts pyx false deep = answers.IsRead.nested_too_deep deep
 

@@ -7,7 +7,83 @@ use Rattle.xq_ast.specs.declared.code.Code.{Code}
 use Rattle.xq_ast.specs.declared.code.Code.TheVariants.{XPST0003, XPST0008, XPST0017, XPDY0002, XPTY0004, XPTY0019, XPTY0020, XQTY0024, XQDY0025, FOAR0001, FOAR0002, FODC0002, FORG0001, FORG0006, TooLong, NestedTooDeep, BadName, NoTransaction, InTransaction, ReadOnly, Updating, Exists, TooDeep, TooManyNodes, TooMuchText, TooManyItems, ReplyTooLong, NoMemory, Failed, InDoubt, Pyx, Spent, Damaged}
 
 pub words-AreWords : AreWords WORDS
-words-AreWords = (tt, tt, (tt, tt, (tt, tt, (tt, tt, (tt, tt, (tt, tt, (tt, tt, (tt, tt, (tt, tt, (tt, tt, (tt, tt, (tt, tt, (tt, tt, (tt, tt, (tt, tt, (tt, tt, (tt, tt, (tt, tt, (tt, tt, (tt, tt, (tt, tt, (tt, tt, (tt, tt, (tt, tt, (tt, tt, (tt, tt, (tt, tt, (tt, tt, (tt, refl, (tt, refl, tt))))))))))))))))))))))))))))))
+words-AreWords = (
+  tt,
+  tt,
+  (
+    tt,
+    tt,
+    (
+      tt,
+      tt,
+      (
+        tt,
+        tt,
+        (
+          tt,
+          tt,
+          (
+            tt,
+            tt,
+            (
+              tt,
+              tt,
+              (
+                tt,
+                tt,
+                (
+                  tt,
+                  tt,
+                  (
+                    tt,
+                    tt,
+                    (
+                      tt,
+                      tt,
+                      (
+                        tt,
+                        tt,
+                        (
+                          tt,
+                          tt,
+                          (
+                            tt,
+                            tt,
+                            (
+                              tt,
+                              tt,
+                              (
+                                tt,
+                                tt,
+                                (
+                                  tt,
+                                  tt,
+                                  (
+                                    tt,
+                                    tt,
+                                    (
+                                      tt,
+                                      tt,
+                                      (tt, tt, (tt, tt, (tt, tt, (tt, tt, (tt, tt, (tt, tt, (tt, tt, (tt, tt, (tt, tt, (tt, refl, (tt, refl, tt))))))))))),
+                                    ),
+                                  ),
+                                ),
+                              ),
+                            ),
+                          ),
+                        ),
+                      ),
+                    ),
+                  ),
+                ),
+              ),
+            ),
+          ),
+        ),
+      ),
+    ),
+  ),
+)
 
 -- a text that misses the table is no code's that is one word
 pub word_missed : (text : List ℕ) → Misses code_text text WORDS → (c : Code) → IsWord c → code_text c ≢ text

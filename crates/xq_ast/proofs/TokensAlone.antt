@@ -21,16 +21,20 @@ token_first : (p : Piece) (k : ℕ) (more : List Spelled) → with_token p (map 
 token_first None k more = refl
 token_first (Some t) k more = refl
 
-rest_same : (p : Piece) (k : ℕ) (o : Option (List Spelled)) → (option_map (map token_of) o >>= (λ more. let x : Option (List Token) = Some (with_token p more) in x)) ≡ option_map (map token_of) (o >>= (λ more. let x : Option (List Spelled) = Some (with_piece p k more) in x))
+rest_same : (p : Piece) (k : ℕ) (o : Option (List Spelled))
+    → (option_map (map token_of) o >>= (λ more. let x : Option (List Token) = Some (with_token p more) in x))
+    ≡ option_map (map token_of) (o >>= (λ more. let x : Option (List Spelled) = Some (with_piece p k more) in x))
 rest_same p k None = refl
 rest_same p k (Some more) = ap Some (token_first p k more)
 
 turn_same : (n b : ℕ) (bytes : List ℕ) (o : Option (Piece × List ℕ)) → ((rest : List ℕ) → bare n rest ≡ option_map (map token_of) (pieces n rest))
     → (o >>= (λ r. bare n r.1 >>= (λ more. let x : Option (List Token) = Some (with_token r.0 more) in x)))
-    ≡ option_map (map token_of) (o >>= (λ r. pieces n r.1 >>= (λ more. let x : Option (List Spelled) = Some (with_piece r.0 (length (b ∷ bytes) - length r.1) more) in x)))
+    ≡ option_map (map token_of)
+    (o >>= (λ r. pieces n r.1 >>= (λ more. let x : Option (List Spelled) = Some (with_piece r.0 (length (b ∷ bytes) - length r.1) more) in x)))
 turn_same n b bytes None same = refl
 turn_same n b bytes (Some r) same =
-    ap (λ o. o >>= (λ more. let x : Option (List Token) = Some (with_token r.0 more) in x)) (same r.1) ∙ rest_same r.0 (length (b ∷ bytes) - length r.1) (pieces n r.1)
+    ap (λ o. o >>= (λ more. let x : Option (List Token) = Some (with_token r.0 more) in x)) (same r.1)
+    ∙ rest_same r.0 (length (b ∷ bytes) - length r.1) (pieces n r.1)
 
 -- the lengths change nothing of the tokens
 pub bare_pieces : (n : ℕ) (bytes : List ℕ) → bare n bytes ≡ option_map (map token_of) (pieces n bytes)

@@ -54,4 +54,3 @@ pub use update::Update;
 
 /// A list of texts.
 pub type StrList = Sequence<Str>;
-

@@ -99,13 +99,15 @@ are_words (row ∷ rows) = is_word row.0 && are_words rows
 pub some_is : {A : Type 0} {x y : A} → Some x ≡ Some y → x ≡ y
 some_is e = cc
 
-pub first_row_behind : {A : Type 0} (rows : List (List ℕ × A)) (bytes : List ℕ) (r : A × List ℕ) → are_words rows ≡ true → first_row rows bytes ≡ Some r → IsBehind bytes r.1
+pub first_row_behind : {A : Type 0} (rows : List (List ℕ × A)) (bytes : List ℕ) (r : A × List ℕ) → are_words rows ≡ true → first_row rows bytes ≡ Some r
+    → IsBehind bytes r.1
 first_row_behind [] bytes r are e = cc
 first_row_behind (row ∷ rows) bytes r are e =
     let both = both_true (is_word row.0) (are_words rows) are in
     by_word (behind row.0 bytes) refl both.0 e (λ others. first_row_behind rows bytes r both.1 others)
   where
-    by_word : (o : Option (List ℕ)) → behind row.0 bytes ≡ o → is_word row.0 ≡ true → row_or o row.1 (first_row rows bytes) ≡ Some r → (first_row rows bytes ≡ Some r → IsBehind bytes r.1) → IsBehind bytes r.1
+    by_word : (o : Option (List ℕ)) → behind row.0 bytes ≡ o → is_word row.0 ≡ true → row_or o row.1 (first_row rows bytes) ≡ Some r
+        → (first_row rows bytes ≡ Some r → IsBehind bytes r.1) → IsBehind bytes r.1
     by_word (Some rest) found is e more = subst (λ x. IsBehind bytes x.1) (some_is e) (word_behind row.0 bytes rest is found)
     by_word None none is e more = more e
 
@@ -116,7 +118,8 @@ module _ (n : ℕ) (rest : List ℕ) (more : (k : ℕ) (after : List ℕ) → be
   closed_behind zero bytes after h e = subst (λ x. IsBehind bytes x) (some_is e) h
   closed_behind (suc k) bytes after h e = behind_both bytes after rest h (more k after e)
 
-  turn_behind : (opened : ℕ) (opens closes : Option (List ℕ)) (bytes : List ℕ) → behind (codes "(:") bytes ≡ opens → behind (codes ":)") bytes ≡ closes → comment_turn opens closes bytes opened (behind_comments n) ≡ Some rest → IsBehind bytes rest
+  turn_behind : (opened : ℕ) (opens closes : Option (List ℕ)) (bytes : List ℕ) → behind (codes "(:") bytes ≡ opens → behind (codes ":)") bytes ≡ closes
+      → comment_turn opens closes bytes opened (behind_comments n) ≡ Some rest → IsBehind bytes rest
   turn_behind opened (Some after) closes bytes o c e = behind_both bytes after rest (word_behind (codes "(:") bytes after refl o) (more (suc opened) after e)
   turn_behind opened None (Some after) bytes o c e = closed_behind opened bytes after (word_behind (codes ":)") bytes after refl c) e
   turn_behind opened None None [] o c e = cc
@@ -149,7 +152,8 @@ IsPartOf bytes (spec.StringPart.holds text rest) = StepsOver bytes text rest
 IsPartOf bytes (spec.StringPart.ends rest) = EndsString bytes rest
 IsPartOf bytes spec.StringPart.fault = Unit {0}
 
-quote_part : (quote b : ℕ) (bytes : List ℕ) (o : Option (List ℕ)) → quote < 128 → b < 128 → behind (quote ∷ []) bytes ≡ o → IsPartOf (b ∷ bytes) (behind_quote o quote bytes)
+quote_part : (quote b : ℕ) (bytes : List ℕ) (o : Option (List ℕ)) → quote < 128 → b < 128 → behind (quote ∷ []) bytes ≡ o
+    → IsPartOf (b ∷ bytes) (behind_quote o quote bytes)
 quote_part quote b bytes None small ascii e = record { behind = behind_ascii b bytes ascii; utf8 = λ xs u. utf8_before xs bytes b ascii u }
 quote_part quote b bytes (Some rest) small ascii e =
     let whole : bytes ≡ quote ∷ rest = behind-whole (quote ∷ []) bytes rest e in
@@ -170,12 +174,14 @@ abbrev are_ones : List (List ℕ × List ℕ) → Bool
 are_ones [] = true
 are_ones (row ∷ rows) = is_one row.1 && are_ones rows
 
-first_row_one : (rows : List (List ℕ × List ℕ)) (bytes : List ℕ) (r : List ℕ × List ℕ) → are_ones rows ≡ true → first_row rows bytes ≡ Some r → is_one r.0 ≡ true
+first_row_one : (rows : List (List ℕ × List ℕ)) (bytes : List ℕ) (r : List ℕ × List ℕ) → are_ones rows ≡ true → first_row rows bytes ≡ Some r
+    → is_one r.0 ≡ true
 first_row_one [] bytes r are e = cc
 first_row_one (row ∷ rows) bytes r are e =
     let both = both_true (is_one row.1) (are_ones rows) are in by_word (behind row.0 bytes) both.0 e (λ others. first_row_one rows bytes r both.1 others)
   where
-    by_word : (o : Option (List ℕ)) → is_one row.1 ≡ true → row_or o row.1 (first_row rows bytes) ≡ Some r → (first_row rows bytes ≡ Some r → is_one r.0 ≡ true) → is_one r.0 ≡ true
+    by_word : (o : Option (List ℕ)) → is_one row.1 ≡ true → row_or o row.1 (first_row rows bytes) ≡ Some r → (first_row rows bytes ≡ Some r → is_one r.0 ≡ true)
+        → is_one r.0 ≡ true
     by_word (Some rest) is e more = subst (λ x. is_one x.0 ≡ true) (some_is e) is
     by_word None is e more = more e
 
@@ -203,9 +209,12 @@ part_is quote [] small = tt
 part_is quote (b ∷ bytes) small = by_tests (nat_eq b quote) (nat_eq b 38) refl refl
   where
     by_tests : (q a : Bool) → nat_eq b quote ≡ q → nat_eq b 38 ≡ a
-        → IsPartOf (b ∷ bytes) (if q then behind_quote (behind (quote ∷ []) bytes) quote bytes else if a then behind_ampersand (first_row references bytes) else spec.StringPart.holds (b ∷ []) bytes)
-    by_tests true a is_quote_ is_other = quote_part quote b bytes (behind (quote ∷ []) bytes) small (let e : b ≡ quote = nat_eq-true b quote is_quote_ in omega arith) refl
-    by_tests false true other is_ampersand = ampersand_part b bytes (first_row references bytes) (let e : b ≡ 38 = nat_eq-true b 38 is_ampersand in omega arith) refl
+        → IsPartOf (b ∷ bytes) (if q then behind_quote (behind (quote ∷ []) bytes) quote bytes else if a then behind_ampersand
+        (first_row references bytes) else spec.StringPart.holds (b ∷ []) bytes)
+    by_tests true a is_quote_ is_other =
+        quote_part quote b bytes (behind (quote ∷ []) bytes) small (let e : b ≡ quote = nat_eq-true b quote is_quote_ in omega arith) refl
+    by_tests false true other is_ampersand =
+        ampersand_part b bytes (first_row references bytes) (let e : b ≡ 38 = nat_eq-true b 38 is_ampersand in omega arith) refl
     by_tests false false other plain = plain_part b bytes
 
 -- a string that was read
@@ -213,7 +222,8 @@ pub record IsString (bytes text rest : List ℕ) : Type 0 where
   pub behind : IsBehind bytes rest
   pub utf8 : (xs : List ℕ) → IsUtf8 (xs ++ bytes) → IsUtf8 (xs ++ text)
 
-string_from_is : (n quote : ℕ) (bytes : List ℕ) (r : List ℕ × List ℕ) (p : spec.StringPart) → IsPartOf bytes p → ((rest : List ℕ) (q : List ℕ × List ℕ) → string n quote rest ≡ Some q → IsString rest q.0 q.1)
+string_from_is : (n quote : ℕ) (bytes : List ℕ) (r : List ℕ × List ℕ) (p : spec.StringPart) → IsPartOf bytes p
+    → ((rest : List ℕ) (q : List ℕ × List ℕ) → string n quote rest ≡ Some q → IsString rest q.0 q.1)
     → string_from p (string n quote) ≡ Some r → IsString bytes r.0 r.1
 string_from_is n quote bytes r (spec.StringPart.holds text rest) is more e =
     let a = bind_some (string n quote rest) (λ x. Some (text ++ x.0, x.1)) r e in
@@ -228,7 +238,8 @@ string_from_is n quote bytes r spec.StringPart.fault is more e = cc
 
 pub string_is : (n quote : ℕ) (bytes : List ℕ) (r : List ℕ × List ℕ) → quote < 128 → string n quote bytes ≡ Some r → IsString bytes r.0 r.1
 string_is zero quote bytes r small e = cc
-string_is (suc n) quote bytes r small e = string_from_is n quote bytes r (string_part quote bytes) (part_is quote bytes small) (λ rest q h. string_is n quote rest q small h) e
+string_is (suc n) quote bytes r small e =
+    string_from_is n quote bytes r (string_part quote bytes) (part_is quote bytes small) (λ rest q h. string_is n quote rest q small h) e
 
 -- ---- names and integers
 
@@ -265,11 +276,13 @@ colon_part (c ∷ bytes) second e = by_test (nat_eq c 58) (begins begins_part by
     by_test true false is e = cc
     by_test false s is e = cc
 
-with_second_is : (bytes first rest : List ℕ) (o : Option (List ℕ)) → IsFront bytes first rest → second_part rest ≡ o → IsFront bytes (with_second first rest o).0 (with_second first rest o).1
+with_second_is : (bytes first rest : List ℕ) (o : Option (List ℕ)) → IsFront bytes first rest → second_part rest ≡ o
+    → IsFront bytes (with_second first rest o).0 (with_second first rest o).1
 with_second_is bytes first rest None f e = f
 with_second_is bytes first rest (Some second) f e =
     record {
-      whole = f.whole ∙ (ap (λ x. first ++ x) (colon_part rest second e ∙ ap (λ x. 58 ∷ x) (front_whole continues_part second)) ∙ sym (append_assoc first (58 ∷ take_while continues_part second) (behind_front continues_part second)));
+      whole = f.whole ∙ (ap (λ x. first ++ x) (colon_part rest second e ∙ ap (λ x. 58 ∷ x) (front_whole continues_part second))
+          ∙ sym (append_assoc first (58 ∷ take_while continues_part second) (behind_front continues_part second)));
       some = omega (arith, f.some, length-append first (58 ∷ take_while continues_part second));
       ends = front_ends continues_part second;
     }
@@ -291,7 +304,8 @@ name_is b bytes begins_ =
 integer_of_rest : (value : ℕ) (rest : List ℕ) (r : ℕ × List ℕ) → spec.integer_of value rest ≡ Some r → (begins continues_part rest ≡ false) × (r.1 ≡ rest)
 integer_of_rest value rest r e = by_tests (nat_le value INTEGER_MAX) (begins continues_part rest) refl e
   where
-    by_tests : (small goes_on : Bool) → begins continues_part rest ≡ goes_on → (if small && not goes_on then Some (value, rest) else None) ≡ Some r → (begins continues_part rest ≡ false) × (r.1 ≡ rest)
+    by_tests : (small goes_on : Bool) → begins continues_part rest ≡ goes_on → (if small && not goes_on then Some (value, rest) else None) ≡ Some r
+        → (begins continues_part rest ≡ false) × (r.1 ≡ rest)
     by_tests true false ends e = (ends, ap (λ x. x.1) (sym (some_is e)))
     by_tests true true ends e = cc
     by_tests false g ends e = cc
@@ -319,10 +333,12 @@ space_ascii b is = grind (arith, nat_tests)
 pub quote_ascii : (b : ℕ) → is_quote b ≡ true → b < 128
 quote_ascii b is = grind (arith, nat_tests)
 
-mark_behind : (bytes : List ℕ) (r : spec.Piece × List ℕ) (o : Option (List ℕ)) → behind (codes "(:") bytes ≡ o → comment_or_symbol o bytes ≡ Some r → IsBehind bytes r.1
+mark_behind : (bytes : List ℕ) (r : spec.Piece × List ℕ) (o : Option (List ℕ)) → behind (codes "(:") bytes ≡ o → comment_or_symbol o bytes ≡ Some r
+    → IsBehind bytes r.1
 mark_behind bytes r (Some inside) opens e =
     let a = bind_some (behind_comments (length inside) 1 inside) spec.parting r e in
-    subst (λ x. IsBehind bytes x.1) (some_is a.2) (behind_both bytes inside a.0 (word_behind (codes "(:") bytes inside refl opens) (comments_behind (length inside) 0 inside a.0 a.1))
+    subst (λ x. IsBehind bytes x.1) (some_is a.2)
+    (behind_both bytes inside a.0 (word_behind (codes "(:") bytes inside refl opens) (comments_behind (length inside) 0 inside a.0 a.1))
 mark_behind bytes r None opens e =
     let a = bind_some (first_row symbols bytes) (spec.a_token token.Symbol) r e in
     subst (λ x. IsBehind bytes x.1) (some_is a.2) (first_row_behind symbols bytes a.0 refl a.1)
@@ -333,11 +349,14 @@ piece_behind (b ∷ bytes) r e =
     choose (is_space b) _ _ r e (λ is x. subst (λ y. IsBehind (b ∷ bytes) y.1) (some_is x) (behind_ascii b bytes (space_ascii b is))) (λ no_space e.
     choose (is_quote b) _ _ r e (λ is x.
     let a = bind_some (string (length bytes) b bytes) (spec.a_token token.Text) r x in
-    subst (λ y. IsBehind (b ∷ bytes) y.1) (some_is a.2) (behind_any b bytes a.0.1 (string_is (length bytes) b bytes a.0 (quote_ascii b is) a.1).behind)) (λ no_quote e.
+    subst (λ y. IsBehind (b ∷ bytes) y.1) (some_is a.2) (behind_any b bytes a.0.1 (string_is (length bytes) b bytes a.0 (quote_ascii b is) a.1).behind))
+    (λ no_quote e.
     choose (is_digit b) _ _ r e (λ is x.
     let a = bind_some (integer (b ∷ bytes)) (spec.a_token (λ n. token.Int (pos n))) r x in
     subst (λ y. IsBehind (b ∷ bytes) y.1) (some_is a.2) (integer_behind b bytes a.0 is a.1)) (λ no_digit e.
-    choose (begins_part b) _ _ r e (λ is x. subst (λ y. IsBehind (b ∷ bytes) y.1) (some_is x) (front_behind (b ∷ bytes) (name (b ∷ bytes)).0 (name (b ∷ bytes)).1 (name_is b bytes is))) (λ no_name e.
+    choose (begins_part b) _ _ r e
+    (λ is x. subst (λ y. IsBehind (b ∷ bytes) y.1) (some_is x) (front_behind (b ∷ bytes) (name (b ∷ bytes)).0 (name (b ∷ bytes)).1 (name_is b bytes is)))
+    (λ no_name e.
     mark_behind (b ∷ bytes) r (behind (codes "(:") (b ∷ bytes)) refl e))))
 
 -- ---- texts

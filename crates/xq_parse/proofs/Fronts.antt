@@ -30,7 +30,8 @@ behind-whole [] bytes rest e = cc
 behind-whole (w ∷ word) [] rest e = cc
 behind-whole (w ∷ word) (b ∷ bytes) rest e = by_test (nat_eq w b) refl e (behind-whole word bytes rest)
   where
-    by_test : (t : Bool) → nat_eq w b ≡ t → (if t then behind word bytes else None) ≡ Some rest → (behind word bytes ≡ Some rest → bytes ≡ word ++ rest) → b ∷ bytes ≡ w ∷ (word ++ rest)
+    by_test : (t : Bool) → nat_eq w b ≡ t → (if t then behind word bytes else None) ≡ Some rest → (behind word bytes ≡ Some rest → bytes ≡ word ++ rest)
+        → b ∷ bytes ≡ w ∷ (word ++ rest)
     by_test true same e more = let first : w ≡ b = nat_eq-true w b same in let others : bytes ≡ word ++ rest = more e in cc
     by_test false other e more = cc
 

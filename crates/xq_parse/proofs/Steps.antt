@@ -32,10 +32,12 @@ grows value [] = omega arith
 grows value (d ∷ digits) = let more = grows (10 * value + (d - 48)) digits in omega arith
 
 -- a number that is past the limit stays so
-pub past_limit : (digits : List ℕ) (i value : ℕ) → i < length digits → fold digit_more value (drop i digits) ≡ fold digit_more 0 digits → INTEGER_MAX < 10 * value + (get_or digits i 0 - 48) → INTEGER_MAX < fold digit_more 0 digits
+pub past_limit : (digits : List ℕ) (i value : ℕ) → i < length digits → fold digit_more value (drop i digits) ≡ fold digit_more 0 digits
+    → INTEGER_MAX < 10 * value + (get_or digits i 0 - 48) → INTEGER_MAX < fold digit_more 0 digits
 past_limit digits i value less so_far past =
     let more = grows (10 * value + (get_or digits i 0 - 48)) (drop (suc i) digits) in
-    let e : fold digit_more value (drop i digits) ≡ fold digit_more (10 * value + (get_or digits i 0 - 48)) (drop (suc i) digits) = ap (fold digit_more value) (drop-cons digits i 0 less) in
+    let e : fold digit_more value (drop i digits) ≡ fold digit_more (10 * value + (get_or digits i 0 - 48)) (drop (suc i) digits) =
+    ap (fold digit_more value) (drop-cons digits i 0 less) in
     omega arith
 
 -- ---- names
@@ -75,16 +77,21 @@ pub take_rest : (n : ℕ) (xs : List ℕ) → take (length xs - n) (drop n xs) �
 take_rest n xs = take_whole (length xs - n) (drop n xs) (omega (arith, length-drop n xs))
 
 -- a name of one part and of a second one
-pub name_of_both : (bytes rest : List ℕ) (n m : ℕ) → n ≡ prefix_len continues_part bytes → rest ≡ drop n bytes → ((first : List ℕ) → with_second first rest (second_part rest) ≡ (first ++ take m rest, drop m rest))
+pub name_of_both : (bytes rest : List ℕ) (n m : ℕ) → n ≡ prefix_len continues_part bytes → rest ≡ drop n bytes
+    → ((first : List ℕ) → with_second first rest (second_part rest) ≡ (first ++ take m rest, drop m rest))
     → name bytes ≡ (take (n + m) bytes, drop (n + m) bytes)
 name_of_both bytes rest n m count is second =
     let all : List ℕ × List ℕ = (take n bytes ++ take m (drop n bytes), drop m (drop n bytes)) in
-    let named : name bytes ≡ all = subst (λ k. with_second (take k bytes) (drop k bytes) (second_part (drop k bytes)) ≡ all) count (subst (λ r. with_second (take n bytes) r (second_part r) ≡ (take n bytes ++ take m r, drop m r)) is (second (take n bytes))) in
-    named ∙ (ap (λ x. let y : List ℕ × List ℕ = (x, drop m (drop n bytes)) in y) (take_both n m bytes) ∙ ap (λ x. let y : List ℕ × List ℕ = (take (n + m) bytes, x) in y) (drop_both n m bytes))
+    let named : name bytes ≡ all =
+    subst (λ k. with_second (take k bytes) (drop k bytes) (second_part (drop k bytes)) ≡ all) count
+    (subst (λ r. with_second (take n bytes) r (second_part r) ≡ (take n bytes ++ take m r, drop m r)) is (second (take n bytes))) in
+    named ∙ (ap (λ x. let y : List ℕ × List ℕ = (x, drop m (drop n bytes)) in y) (take_both n m bytes)
+    ∙ ap (λ x. let y : List ℕ × List ℕ = (take (n + m) bytes, x) in y) (drop_both n m bytes))
 
 -- ---- brackets
 
-pub too_many : (tokens_ : List Token) (i opened most : ℕ) (t : Token) → i < length tokens_ → t ≡ get_or tokens_ i t → opened ≤ most → most < open_behind opened t
+pub too_many : (tokens_ : List Token) (i opened most : ℕ) (t : Token) → i < length tokens_ → t ≡ get_or tokens_ i t → opened ≤ most
+    → most < open_behind opened t
     → nat_le (most_open opened (drop i tokens_)) most ≡ nat_le (most_open 0 tokens_) most → false ≡ nat_le (most_open 0 tokens_) most
 too_many tokens_ i opened most t less is few many so_far =
     let e : drop i tokens_ ≡ t ∷ drop (suc i) tokens_ = drop-cons tokens_ i t less ∙ ap (λ x. x ∷ drop (suc i) tokens_) (sym is) in
@@ -102,25 +109,32 @@ too_many tokens_ i opened most t less is few many so_far =
 
 -- ---- strings
 
-pub string_goes_on : (quote byte : ℕ) (rest after text new : List ℕ) (whole : Option (List ℕ × List ℕ)) → quote < 128 → string_part quote rest ≡ spec.StringPart.holds (byte ∷ []) after → new ≡ text ++ byte ∷ []
-    → (string (length rest) quote rest >>= (λ r. Some (text ++ r.0, r.1))) ≡ whole → (string (length after) quote after >>= (λ r. Some (new ++ r.0, r.1))) ≡ whole
+pub string_goes_on : (quote byte : ℕ) (rest after text new : List ℕ) (whole : Option (List ℕ × List ℕ)) → quote < 128
+    → string_part quote rest ≡ spec.StringPart.holds (byte ∷ []) after → new ≡ text ++ byte ∷ []
+    → (string (length rest) quote rest >>= (λ r. Some (text ++ r.0, r.1))) ≡ whole
+    → (string (length after) quote after >>= (λ r. Some (new ++ r.0, r.1))) ≡ whole
 string_goes_on quote byte rest after text new whole small part pushed so_far =
     by_rest (string (length after) quote after) (string_step quote rest small ∙ ap (λ p. string_from p (λ us. string (length us) quote us)) part)
   where
-    by_rest : (o : Option (List ℕ × List ℕ)) → string (length rest) quote rest ≡ (o >>= (λ r. Some ((byte ∷ []) ++ r.0, r.1))) → (o >>= (λ r. Some (new ++ r.0, r.1))) ≡ whole
+    by_rest : (o : Option (List ℕ × List ℕ)) → string (length rest) quote rest ≡ (o >>= (λ r. Some ((byte ∷ []) ++ r.0, r.1)))
+        → (o >>= (λ r. Some (new ++ r.0, r.1))) ≡ whole
     by_rest None e = sym (ap (λ o. o >>= (λ r. let x : Option (List ℕ × List ℕ) = Some (text ++ r.0, r.1) in x)) e) ∙ so_far
     by_rest (Some r) e =
         ap (λ t. let x : Option (List ℕ × List ℕ) = Some (t ++ r.0, r.1) in x) pushed
-        ∙ (ap (λ t. let x : Option (List ℕ × List ℕ) = Some (t, r.1) in x) (append_assoc text (byte ∷ []) r.0) ∙ (sym (ap (λ o. o >>= (λ r. let x : Option (List ℕ × List ℕ) = Some (text ++ r.0, r.1) in x)) e) ∙ so_far))
+        ∙ (ap (λ t. let x : Option (List ℕ × List ℕ) = Some (t, r.1) in x) (append_assoc text (byte ∷ []) r.0)
+        ∙ (sym (ap (λ o. o >>= (λ r. let x : Option (List ℕ × List ℕ) = Some (text ++ r.0, r.1) in x)) e) ∙ so_far))
 
-pub string_gets_shorter : (quote byte : ℕ) (rest after : List ℕ) → quote < 128 → string_part quote rest ≡ spec.StringPart.holds (byte ∷ []) after → length after < length rest
+pub string_gets_shorter : (quote byte : ℕ) (rest after : List ℕ) → quote < 128 → string_part quote rest ≡ spec.StringPart.holds (byte ∷ []) after
+    → length after < length rest
 string_gets_shorter quote byte rest after small part = (subst (IsPartOf rest) part (part_is quote rest small)).less
 
 pub string_ends : (quote : ℕ) (rest after text : List ℕ) (whole : Option (List ℕ × List ℕ)) → quote < 128 → string_part quote rest ≡ spec.StringPart.ends after
     → (string (length rest) quote rest >>= (λ r. Some (text ++ r.0, r.1))) ≡ whole → whole ≡ Some (text, after)
 string_ends quote rest after text whole small part so_far =
-    let e : string (length rest) quote rest ≡ Some ([], after) = string_step quote rest small ∙ ap (λ p. string_from p (λ us. string (length us) quote us)) part in
-    sym so_far ∙ (ap (λ o. o >>= (λ r. let x : Option (List ℕ × List ℕ) = Some (text ++ r.0, r.1) in x)) e ∙ ap (λ t. let x : Option (List ℕ × List ℕ) = Some (t, after) in x) (append-nil text))
+    let e : string (length rest) quote rest ≡ Some ([], after) = string_step quote rest small
+    ∙ ap (λ p. string_from p (λ us. string (length us) quote us)) part in
+    sym so_far ∙ (ap (λ o. o >>= (λ r. let x : Option (List ℕ × List ℕ) = Some (text ++ r.0, r.1) in x)) e
+    ∙ ap (λ t. let x : Option (List ℕ × List ℕ) = Some (t, after) in x) (append-nil text))
 
 pub string_fails : (quote : ℕ) (rest text : List ℕ) (whole : Option (List ℕ × List ℕ)) → quote < 128 → string_part quote rest ≡ spec.StringPart.fault
     → (string (length rest) quote rest >>= (λ r. Some (text ++ r.0, r.1))) ≡ whole → whole ≡ None
@@ -134,7 +148,8 @@ string_utf8 quote bytes text rest small u e = (string_is (length bytes) quote by
 
 -- ---- tokens
 
-pub some_bytes : (rest : List ℕ) (p : spec.Piece × List ℕ) → piece rest ≡ Some p → pieces (length rest) rest ≡ piece_then rest (λ after. pieces (length after) after) p
+pub some_bytes : (rest : List ℕ) (p : spec.Piece × List ℕ) → piece rest ≡ Some p
+    → pieces (length rest) rest ≡ piece_then rest (λ after. pieces (length after) after) p
 some_bytes [] p e = cc
 some_bytes (b ∷ rest) p e = pieces_step b rest ∙ ap (λ o. o >>= piece_then (b ∷ rest) (λ after. pieces (length after) after)) e
 
@@ -163,15 +178,19 @@ module _ {A : Type 0} (part : Spelled → A) where
   by_rest p n all new whole None left added e so_far = sym (ap (Goes all) e) ∙ so_far
   by_rest p n all new whole (Some more) left added e so_far =
       ap (λ t. let x : Option (List A) = Some (t ++ map part more) in x) added
-      ∙ (ap (λ t. let x : Option (List A) = Some t in x) (append_assoc all (map part (with_piece p n [])) (map part more) ∙ ap (λ t. all ++ t) (with_piece-append p n more))
+      ∙ (ap (λ t. let x : Option (List A) = Some t in x) (append_assoc all (map part (with_piece p n [])) (map part more)
+      ∙ ap (λ t. all ++ t) (with_piece-append p n more))
       ∙ (sym (ap (Goes all) e) ∙ so_far))
 
-  pub pieces_go_on : (rest after : List ℕ) (p : spec.Piece) (all new : List A) (whole : Option (List A)) → piece rest ≡ Some (p, after) → new ≡ all ++ map part (with_piece p (length rest - length after) [])
+  pub pieces_go_on : (rest after : List ℕ) (p : spec.Piece) (all new : List A) (whole : Option (List A)) → piece rest ≡ Some (p, after)
+      → new ≡ all ++ map part (with_piece p (length rest - length after) [])
       → Goes all (pieces (length rest) rest) ≡ whole → Goes new (pieces (length after) after) ≡ whole
   pieces_go_on rest after p all new whole read added so_far =
-      by_rest p (length rest - length after) all new whole (pieces (length after) after) (pieces (length rest) rest) added (some_bytes rest (p, after) read) so_far
+      by_rest p (length rest - length after) all new whole (pieces (length after) after) (pieces (length rest) rest) added
+      (some_bytes rest (p, after) read) so_far
 
-  pub pieces_fail : (rest : List ℕ) (all : List A) (whole : Option (List A)) → rest ≢ [] → piece rest ≡ None → Goes all (pieces (length rest) rest) ≡ whole → whole ≡ None
+  pub pieces_fail : (rest : List ℕ) (all : List A) (whole : Option (List A)) → rest ≢ [] → piece rest ≡ None → Goes all (pieces (length rest) rest) ≡ whole
+      → whole ≡ None
   pieces_fail rest all whole some read so_far = sym so_far ∙ ap (Goes all) (no_bytes rest some read)
 
 pub piece_utf8 : (rest : List ℕ) (p : spec.Piece × List ℕ) → piece rest ≡ Some p → IsUtf8 rest → IsUtf8 p.1
@@ -181,6 +200,7 @@ pub piece_shrinks : (rest : List ℕ) (p : spec.Piece × List ℕ) → piece res
 piece_shrinks rest p e = (piece_behind rest p e).less
 
 -- behind a quote
-pub behind_quote_utf8 : (bytes : List ℕ) → 1 ≤ length bytes → spec.is_quote (get_or bytes 0 0) ≡ true → IsUtf8 bytes → IsUtf8 (take (length bytes - 1) (drop 1 bytes))
+pub behind_quote_utf8 : (bytes : List ℕ) → 1 ≤ length bytes → spec.is_quote (get_or bytes 0 0) ≡ true → IsUtf8 bytes
+    → IsUtf8 (take (length bytes - 1) (drop 1 bytes))
 behind_quote_utf8 [] some is u = absurd (omega arith)
 behind_quote_utf8 (b ∷ bytes) some is u = subst IsUtf8 (sym (take_rest 1 (b ∷ bytes))) (utf8_after [] bytes b (quote_ascii b is) u)

@@ -1,3 +1,4 @@
+// What is read of a log, and the first wrong field.
 ghost use Rattle.std.specs.Prelude.{◌≡◌, ◌≤◌, IfOk, IfSome, All, length};
 ghost use Rattle.page_device.specs.MemDevice.{contents_of, MayLeave};
 ghost use Rattle.redo_log.specs.Append.{IsAtRest};

@@ -4,4 +4,5 @@ use Rattle.byte_edge.proofs.pending.send_bytes.Given as goal
 
 abbrev pub invariant-loop-byte : goal.invariant-loop-byte
 invariant-loop-byte g l =
-    Sent (take l.byte-index l.bytes) (stage (g.W.Sink.written l.fn.to) (g.W.Sink.faults l.fn.to) l.fn.pending) (stage (g.W.Sink.written l.to) (g.W.Sink.faults l.to) l.pending)
+    Sent (take l.byte-index l.bytes) (stage (g.W.Sink.written l.fn.to) (g.W.Sink.faults l.fn.to) l.fn.pending)
+    (stage (g.W.Sink.written l.to) (g.W.Sink.faults l.to) l.pending)

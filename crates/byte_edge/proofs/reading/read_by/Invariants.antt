@@ -4,7 +4,8 @@ use Rattle.byte_edge.proofs.reading.read_by.Given as goal
 
 -- the bytes so far are within the limit, they are what was taken, and no fault came
 abbrev pub invariant-pieces : goal.invariant-pieces
-invariant-pieces g l = (vec_len l.bytes ≤ l.limit) × (g.R.Source.rest l.fn.from ≡ prepend_known l.bytes.items (g.R.Source.rest l.from)) × (g.R.Source.faults l.from ≡ g.R.Source.faults l.fn.from)
+invariant-pieces g l = (vec_len l.bytes ≤ l.limit) × (g.R.Source.rest l.fn.from ≡ prepend_known l.bytes.items (g.R.Source.rest l.from))
+    × (g.R.Source.faults l.from ≡ g.R.Source.faults l.fn.from)
 
 abbrev pub decreases-pieces : goal.decreases-pieces
 decreases-pieces g l = l.limit + 1 - vec_len l.bytes

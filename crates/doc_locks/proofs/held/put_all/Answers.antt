@@ -16,13 +16,16 @@ loop-need-init c = record {
 
 pub put-requires : goal.put-requires
 put-requires c = record {
-  room = let some : length c.loop-need.need-iterator.rest.items ≡ length (c.in-Some.need ∷ c.next.new.self.rest.items) = ap length c.in-Some.ensures.steps.0 in let room = c.loop-need.invariant.room in omega arith;
+  room = let some : length c.loop-need.need-iterator.rest.items ≡ length (c.in-Some.need ∷ c.next.new.self.rest.items) = ap length c.in-Some.ensures.steps.0 in
+      let room = c.loop-need.invariant.room in omega arith;
 }
 
 pub loop-need-preserved : goal.loop-need-preserved
 loop-need-preserved c = record {
-  put = ap (with_needs c.next.new.self.rest.items) c.put.ensures.put ∙ sym (ap (λ ns. with_needs ns (names_of_entries c.loop-need.modes.entries)) c.in-Some.ensures.steps.0) ∙ c.loop-need.invariant.put;
-  room = let some : length c.loop-need.need-iterator.rest.items ≡ length (c.in-Some.need ∷ c.next.new.self.rest.items) = ap length c.in-Some.ensures.steps.0 in let room = c.loop-need.invariant.room in omega arith;
+  put = ap (with_needs c.next.new.self.rest.items) c.put.ensures.put
+      ∙ sym (ap (λ ns. with_needs ns (names_of_entries c.loop-need.modes.entries)) c.in-Some.ensures.steps.0) ∙ c.loop-need.invariant.put;
+  room = let some : length c.loop-need.need-iterator.rest.items ≡ length (c.in-Some.need ∷ c.next.new.self.rest.items) = ap length c.in-Some.ensures.steps.0 in
+      let room = c.loop-need.invariant.room in omega arith;
 }
 
 pub returns : goal.returns

@@ -27,4 +27,5 @@ push_digits-requires t c = (omega arith, (omega arith, rw c.pow-power.ensures (r
 pub returns : goal.returns
 returns t c =
     IfOk-equal _ _ _ _ c.push_digits.ensures
-    (rw (c.in_ok-push.ensures.items, c.digit_byte.ensures, c.pow-power.ensures) (digits_pushed (digit_byte c.args.sign) c.args.out.now.items c.args.count c.args.number (omega arith)))
+    (rw (c.in_ok-push.ensures.items, c.digit_byte.ensures, c.pow-power.ensures)
+    (digits_pushed (digit_byte c.args.sign) c.args.out.now.items c.args.count c.args.number (omega arith)))

@@ -22,7 +22,8 @@ returns-then-byte-gt3-clause-near c =
 -- what the two bytes are pushed to
 lower_is : (c : goal.In_ok-push-2) → c.push-2.new.self.items ≡ take (length c.args.high.now - 1) c.args.high.now ++ 2 ∷ 255 ∷ []
 lower_is c =
-    c.in_ok-push-2.ensures.items ∙ ap (λ z. z ++ 255 ∷ []) (c.in_ok-push.ensures.items ∙ ap (λ z. z ++ 2 ∷ []) c.in_ok-lower.ensures.items) ∙ append_assoc _ (2 ∷ []) (255 ∷ [])
+    c.in_ok-push-2.ensures.items ∙ ap (λ z. z ++ 255 ∷ []) (c.in_ok-push.ensures.items ∙ ap (λ z. z ++ 2 ∷ []) c.in_ok-lower.ensures.items)
+    ∙ append_assoc _ (2 ∷ []) (255 ∷ [])
 
 pub returns-clause-fraction : goal.returns-clause-fraction
 returns-clause-fraction c =
@@ -32,7 +33,8 @@ pub returns-clause-below : goal.returns-clause-below
 returns-clause-below c =
     let high = c.args.high.now in
     subst (λ z. IsBelow z high) (sym (lower_is c))
-    (below_by_last high (length high - 1) 2 (255 ∷ []) (length_of_some high c.requires.some) (last_above_2 high (length high - 1) c.requires.fraction (length_of_some high c.requires.some)))
+    (below_by_last high (length high - 1) 2 (255 ∷ []) (length_of_some high c.requires.some)
+    (last_above_2 high (length high - 1) c.requires.fraction (length_of_some high c.requires.some)))
 
 pub returns-clause-near : goal.returns-clause-near
 returns-clause-near c low short below =

@@ -15,4 +15,5 @@ pub returns-clause-some : goal.returns-clause-some
 returns-clause-some c =
     let parent = c.args.parent.now in
     let label = c.args.label.now in
-    code_between parent label c.if-label-parent.false ((bytes_eq-Decides (take (length parent) label) parent).0 (not-false _ (sym c.if-ne.ensures))) c.if-label-end-ne-END_OF_KEY.false
+    code_between parent label c.if-label-parent.false
+    ((bytes_eq-Decides (take (length parent) label) parent).0 (not-false _ (sym c.if-ne.ensures))) c.if-label-end-ne-END_OF_KEY.false

@@ -5,7 +5,8 @@ use Rattle.order_labels.proofs.neighbours.inside_integer.Goals as goal
 
 pub between_fractions-requires-clause-in_order : goal.between_fractions-requires-clause-in_order
 between_fractions-requires-clause-in_order c =
-    rw (c.fraction.ensures.value, c.fraction-2.ensures.value) (fractions_in_order c.args.low.now c.args.high.now c.fraction.ensures.key c.fraction-2.ensures.key c.requires.same c.requires.in_order)
+    rw (c.fraction.ensures.value, c.fraction-2.ensures.value)
+    (fractions_in_order c.args.low.now c.args.high.now c.fraction.ensures.key c.fraction-2.ensures.key c.requires.same c.requires.in_order)
 
 pub returns-clause-above : goal.returns-clause-above
 returns-clause-above c =
@@ -20,4 +21,11 @@ returns-clause-below c =
 pub returns-clause-short : goal.returns-clause-short
 returns-clause-short c =
     short_beside c.from_parts.result c.args.low.now c.args.high.now (omega (arith, ints)) (omega (arith, ints))
-    (omega (arith, ap length c.from_parts.ensures.fraction, ap length c.fraction.ensures.value, ap length c.fraction-2.ensures.value, c.in_ok-fraction.ensures.short))
+    (omega (
+      arith,
+      ap length c.from_parts.ensures.fraction,
+      ap length c.fraction.ensures.value,
+      ap length
+          c.fraction-2.ensures.value,
+      c.in_ok-fraction.ensures.short,
+    ))

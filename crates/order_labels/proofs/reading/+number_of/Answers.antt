@@ -17,19 +17,35 @@ one_longer t c =
 pub overflow_mul-result : goal.overflow_mul-result
 overflow_mul-result t c =
     let n = length (tail_of c.args.digits.now) in
-    omega (arith, number_fits c.digit_of.result c.pow.result 0 n (length c.args.digits.now) c.digit_of.ensures.below c.pow.ensures (power_pos n) (one_longer t c) c.requires)
+    omega (
+      arith,
+      number_fits c.digit_of.result c.pow.result 0 n (length c.args.digits.now) c.digit_of.ensures.below c.pow.ensures (power_pos n)
+          (one_longer t c) c.requires,
+    )
 
 pub overflow_add-result : goal.overflow_add-result
 overflow_add-result t c =
     let some : length c.args.digits.now ≡ 0 → ⊥ = eqb-false (length c.args.digits.now) 0 (sym c.if-is_empty.ensures) in
-    omega (arith, number_fits c.digit_of.result c.pow.result c.number_of.result (length (tail_of c.args.digits.now)) (length c.args.digits.now) c.digit_of.ensures.below c.pow.ensures c.number_of.ensures.below (omega (arith, length-tail_of c.args.digits.now, some)) c.requires)
+    omega (
+      arith,
+      number_fits c.digit_of.result c.pow.result c.number_of.result (length (tail_of c.args.digits.now))
+          (length c.args.digits.now) c.digit_of.ensures.below c.pow.ensures c.number_of.ensures.below
+          (omega (arith, length-tail_of c.args.digits.now, some)) c.requires,
+    )
 
 pub returns-clause-below : goal.returns-clause-below
 returns-clause-below t c =
     let some : length c.args.digits.now ≡ 0 → ⊥ = eqb-false (length c.args.digits.now) 0 (sym c.if-is_empty.ensures) in
-    (number_fits c.digit_of.result c.pow.result c.number_of.result (length (tail_of c.args.digits.now)) (length c.args.digits.now) c.digit_of.ensures.below c.pow.ensures c.number_of.ensures.below (omega (arith, length-tail_of c.args.digits.now, some)) c.requires).0
+    (number_fits c.digit_of.result c.pow.result c.number_of.result (length (tail_of c.args.digits.now))
+    (length c.args.digits.now) c.digit_of.ensures.below c.pow.ensures c.number_of.ensures.below
+    (omega (arith, length-tail_of c.args.digits.now, some)) c.requires).0
 
 pub returns-clause-bound : goal.returns-clause-bound
 returns-clause-bound t c =
     let some : length c.args.digits.now ≡ 0 → ⊥ = eqb-false (length c.args.digits.now) 0 (sym c.if-is_empty.ensures) in
-    omega (arith, number_fits c.digit_of.result c.pow.result c.number_of.result (length (tail_of c.args.digits.now)) (length c.args.digits.now) c.digit_of.ensures.below c.pow.ensures c.number_of.ensures.below (omega (arith, length-tail_of c.args.digits.now, some)) c.requires)
+    omega (
+      arith,
+      number_fits c.digit_of.result c.pow.result c.number_of.result (length (tail_of c.args.digits.now))
+          (length c.args.digits.now) c.digit_of.ensures.below c.pow.ensures c.number_of.ensures.below
+          (omega (arith, length-tail_of c.args.digits.now, some)) c.requires,
+    )

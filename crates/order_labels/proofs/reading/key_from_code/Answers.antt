@@ -17,7 +17,8 @@ returns-then-is_empty-clause-none c k p e =
     let read = read_key-of c.args.bytes.now k p e in
     let integer = ap (λ (k : KeyValue). k.integer) read in
     let none = nil_from_length c.read_fraction-fraction.result.now (eqb-true (length c.read_fraction-fraction.result.now) 0 (sym c.if-is_empty.ensures)) in
-    p.room_below (omega (arith, ints, integer, c.read_integer-integer.ensures.value)) (sym (c.read_fraction-fraction.ensures ∙ ap (λ (k : KeyValue). k.fraction) read) ∙ none)
+    p.room_below (omega (arith, ints, integer, c.read_integer-integer.ensures.value))
+    (sym (c.read_fraction-fraction.ensures ∙ ap (λ (k : KeyValue). k.fraction) read) ∙ none)
 
 pub returns-else-branch-clause-none : goal.returns-else-branch-clause-none
 returns-else-branch-clause-none c k p e =

@@ -14,7 +14,8 @@ returns-in-Some-clause-notes c =
     let is : now ≡ Some draft = ap (λ o. now_of left.gone left.whole id o (Some page)) c.in-Some.is in
     let differs : Some page ≢ now = λ same.
     let equal : page ≡ draft = ap (λ o. unwrap_or o page) (same ∙ is) in
-    true≢false (sym (c.if-eq.ensures ∙ ap (pointwise nat_eq c.bytes.result.now) (c.bytes-in-Some.ensures ∙ equal ∙ sym c.bytes.ensures) ∙ nat_list_eq_equiv.refl c.bytes.result.now)) in
+    true≢false (sym (c.if-eq.ensures ∙ ap (pointwise nat_eq c.bytes.result.now) (c.bytes-in-Some.ensures ∙ equal ∙ sym c.bytes.ensures)
+    ∙ nat_list_eq_equiv.refl c.bytes.result.now)) in
     on_ok_weaker c.insert.result
     (λ put. subst (Notes c.args.changes.now id (Some page) now) (sym put)
     (Notes-inserted c.args.changes.now id (Some page) now (Some c.in_ok-page.page) (ap Some c.in_ok-page.ensures.bytes ∙ sym is) differs))

@@ -12,7 +12,8 @@ loop-id-preserved c =
     let put = c.in_ok-insert.ensures.ok ∙ ap (λ page. map.insert c.loop-id.changes id (Some page)) c.in_ok-page.ensures.bytes in (
       known.0,
       subst AreLong (sym c.in_ok-insert.ensures.ok) (AreLong-inserted c.loop-id.changes id (Some c.in_ok-page.page) c.in_ok-page.ensures.long known.1),
-      λ b d g w listed. subst (λ (t : PageMap × map.FinMap page_cmp (Option (List ℕ))). IsListed b d g w map.empty t.0 t.1) (λ j. (sym c.in-Some.ensures.removed j, sym put j))
+      λ b d g w listed. subst (λ (t : PageMap × map.FinMap page_cmp (Option (List ℕ))). IsListed b d g w map.empty t.0 t.1)
+          (λ j. (sym c.in-Some.ensures.removed j, sym put j))
           (IsListed-new b d g w at.drafts c.loop-id.changes id draft (known.2 b d g w listed) c.in-Some.ensures.value),
     )
 

@@ -9,7 +9,8 @@ loop-entry-preserved c =
     let count : end - i ≡ suc (end - (i + 1)) = omega arith in
     record {
       left = ap (λ at. entry_among space number (end - (i + 1)) at c.args.page.now c.args.wanted) c.in-Some.ensures.found.1
-          ∙ sym (entry_passed space number (end - i) (end - (i + 1)) c.loop-entry.at c.args.page.now c.args.wanted count c.in-Some.ensures.found.0 (λ is. c.if-read_u32-wanted.false (c.read_u32.ensures ∙ is)))
+          ∙ sym (entry_passed space number (end - i) (end - (i + 1)) c.loop-entry.at c.args.page.now c.args.wanted count c.in-Some.ensures.found.0
+          (λ is. c.if-read_u32-wanted.false (c.read_u32.ensures ∙ is)))
           ∙ c.loop-entry.invariant.left;
       inside = c.in-Some.ensures.found.2;
       counted = omega arith;

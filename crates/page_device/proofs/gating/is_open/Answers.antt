@@ -12,4 +12,5 @@ none_past bytes at past = (λ t. absurd (cc t), λ one. absurd (omega (arith, on
 pub returns-then-at-ge-LONGEST-clause-answer : goal.returns-then-at-ge-LONGEST-clause-answer
 returns-then-at-ge-LONGEST-clause-answer g c = let d = c.args.device.now in
     if_told (g.D.Device.contents d) _ (λ i is. none_past (bytes_of i c.args.file) c.args.at
-    (let bound = g.met.D.Device.bounded d (g.D.Device.moment d) i (g.met.D.Device.counts_now d (g.D.Device.moment d) i (omega arith) (g.met.D.Device.told_now d i is)) c.args.file in omega arith))
+    (let bound = g.met.D.Device.bounded d (g.D.Device.moment d) i
+    (g.met.D.Device.counts_now d (g.D.Device.moment d) i (omega arith) (g.met.D.Device.told_now d i is)) c.args.file in omega arith))

@@ -11,7 +11,8 @@ length-remove (x ∷ xs) (suc i) within = let rest = length-remove xs i (omega a
 
 pub loop-place-preserved-then-is_seen : goal.loop-place-preserved-then-is_seen
 loop-place-preserved-then-is_seen c = record {
-  cut = purge_keep c.args.snapshots.now.slots c.loop-place.versions.items c.loop-place.place c.index.result.now c.loop-place.above (omega arith) c.index.ensures (sym c.is_seen.ensures ∙ c.if-is_seen.true) ∙ c.loop-place.invariant.cut;
+  cut = purge_keep c.args.snapshots.now.slots c.loop-place.versions.items c.loop-place.place c.index.result.now c.loop-place.above (omega arith) c.index.ensures
+      (sym c.is_seen.ensures ∙ c.if-is_seen.true) ∙ c.loop-place.invariant.cut;
   within = omega arith;
 }
 
@@ -19,7 +20,8 @@ pub loop-place-preserved : goal.loop-place-preserved
 loop-place-preserved c =
     let xs = c.loop-place.versions.items in let place = c.loop-place.place in let less : place < length xs = omega arith in record {
       cut = ap (λ ys. take place ys ++ purge_below c.args.snapshots.now.slots c.loop-place.above (drop place ys)) c.take_out.ensures
-          ∙ purge_drop c.args.snapshots.now.slots xs place c.index.result.now c.loop-place.above less c.index.ensures (sym c.is_seen.ensures ∙ c.if-is_seen.false) ∙ c.loop-place.invariant.cut;
+          ∙ purge_drop c.args.snapshots.now.slots xs place c.index.result.now c.loop-place.above less c.index.ensures (sym c.is_seen.ensures
+          ∙ c.if-is_seen.false) ∙ c.loop-place.invariant.cut;
       within = let fewer = length-remove xs place less in let e = ap length c.take_out.ensures in omega arith;
     }
 
@@ -31,4 +33,5 @@ loop-place-smaller c =
 pub returns : goal.returns
 returns c =
     let xs = c.loop-place.versions.items in let place = c.loop-place.place in let past : length xs ≤ place = omega arith in
-    sym (append-nil xs) ∙ ap (λ ys. ys ++ []) (sym (take_all place xs past)) ∙ ap (λ ys. take place xs ++ purge_below c.args.snapshots.now.slots c.loop-place.above ys) (sym (drop_all place xs past)) ∙ c.loop-place.invariant.cut
+    sym (append-nil xs) ∙ ap (λ ys. ys ++ []) (sym (take_all place xs past))
+    ∙ ap (λ ys. take place xs ++ purge_below c.args.snapshots.now.slots c.loop-place.above ys) (sym (drop_all place xs past)) ∙ c.loop-place.invariant.cut

@@ -20,7 +20,8 @@ pub loop-id-preserved : goal.loop-id-preserved
 loop-id-preserved c =
     let f = purged c.args.staged c.args.snapshots.now.slots in let id = get_or c.args.pages.now c.loop-id.id-index no_page in record {
       filled = c.purge_one.ensures.filled;
-      done = subst (λ ps. Done f (chain_in c.args.table.now) ps (chain_in c.purge_one.new.table)) (sym (take_more c.args.pages.now c.loop-id.id-index no_page c.loop-id-test.true))
+      done = subst (λ ps. Done f (chain_in c.args.table.now) ps (chain_in c.purge_one.new.table))
+          (sym (take_more c.args.pages.now c.loop-id.id-index no_page c.loop-id-test.true))
           (done_more f (chain_in c.args.table.now) (chain_in c.loop-id.table) (chain_in c.purge_one.new.table) (take c.loop-id.id-index c.args.pages.now) id
           (λ q. purged-purged c.args.staged c.args.snapshots.now.slots (chain_in c.args.table.now q)) c.loop-id.invariant.done c.purge_one.ensures.purged);
     }
@@ -30,4 +31,5 @@ returns-clause-filled c = c.loop-id.invariant.filled
 
 pub returns-clause-purged : goal.returns-clause-purged
 returns-clause-purged c =
-    subst (λ ps. Done (purged c.args.staged c.args.snapshots.now.slots) (chain_in c.args.table.now) ps (chain_in c.loop-id.table)) (take_all c.loop-id.id-index c.args.pages.now c.loop-id-test.false) c.loop-id.invariant.done
+    subst (λ ps. Done (purged c.args.staged c.args.snapshots.now.slots) (chain_in c.args.table.now) ps (chain_in c.loop-id.table))
+    (take_all c.loop-id.id-index c.args.pages.now c.loop-id-test.false) c.loop-id.invariant.done

@@ -12,4 +12,5 @@ returns-then-has-clause-filled c =
 
 pub returns-then-has-clause-purged : goal.returns-then-has-clause-purged
 returns-then-has-clause-purged c =
-    changed-insert (purged c.args.staged c.args.snapshots.now.slots) c.args.table.now c.args.id c.lend.result.now c.purge.new.self c.lend.ensures.value c.purge.ensures
+    changed-insert (purged c.args.staged c.args.snapshots.now.slots) c.args.table.now c.args.id c.lend.result.now c.purge.new.self c.lend.ensures.value
+    c.purge.ensures

@@ -19,7 +19,8 @@ pub loop-id-preserved : goal.loop-id-preserved
 loop-id-preserved c =
     let f = unstaged c.args.commit in let id = get_or c.args.pages.now c.loop-id.id-index no_page in record {
       filled = c.unstage_one.ensures.filled;
-      done = subst (λ ps. Done f (chain_in c.args.table.now) ps (chain_in c.unstage_one.new.table)) (sym (take_more c.args.pages.now c.loop-id.id-index no_page c.loop-id-test.true))
+      done = subst (λ ps. Done f (chain_in c.args.table.now) ps (chain_in c.unstage_one.new.table))
+          (sym (take_more c.args.pages.now c.loop-id.id-index no_page c.loop-id-test.true))
           (done_more f (chain_in c.args.table.now) (chain_in c.loop-id.table) (chain_in c.unstage_one.new.table) (take c.loop-id.id-index c.args.pages.now) id
           (c.requires.once) c.loop-id.invariant.done c.unstage_one.ensures.unstaged);
     }
@@ -29,4 +30,5 @@ returns-clause-filled c = c.loop-id.invariant.filled
 
 pub returns-clause-unstaged : goal.returns-clause-unstaged
 returns-clause-unstaged c =
-    subst (λ ps. Done (unstaged c.args.commit) (chain_in c.args.table.now) ps (chain_in c.loop-id.table)) (take_all c.loop-id.id-index c.args.pages.now c.loop-id-test.false) c.loop-id.invariant.done
+    subst (λ ps. Done (unstaged c.args.commit) (chain_in c.args.table.now) ps (chain_in c.loop-id.table))
+    (take_all c.loop-id.id-index c.args.pages.now c.loop-id-test.false) c.loop-id.invariant.done

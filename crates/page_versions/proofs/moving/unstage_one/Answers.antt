@@ -18,20 +18,23 @@ under true a x = refl
 under false a x = refl
 
 -- another page keeps its chain
-pub others_filled : (m : ChainMap) (id : PageId) (c : List Version) → ((q : PageId) → IfSome (map.get m q) (λ chain. 0 < length chain)) → (q : PageId) → is_page q id ≡ false → IfSome (map.get (map.insert m id c) q) (λ chain. 0 < length chain)
+pub others_filled : (m : ChainMap) (id : PageId) (c : List Version) → ((q : PageId) → IfSome (map.get m q) (λ chain. 0 < length chain)) → (q : PageId)
+    → is_page q id ≡ false → IfSome (map.get (map.insert m id c) q) (λ chain. 0 < length chain)
 others_filled m id c filled q other =
     subst (λ o. IfSome o (λ chain. 0 < length chain)) (sym (map.get-insert page_cmp-total m id c q ∙ ap (λ b. cond b (Some c) (map.get m q)) other)) (filled q)
 
 pub returns-then-is_empty-clause-filled : goal.returns-then-is_empty-clause-filled
 returns-then-is_empty-clause-filled c =
     subst (λ m. (q : PageId) → IfSome (map.get m q) (λ chain. 0 < length chain)) (sym c.remove.ensures)
-    (filled-remove (map.insert c.args.table.now c.args.id c.unstage.new.self) c.args.id (others_filled c.args.table.now c.args.id c.unstage.new.self c.requires.filled))
+    (filled-remove (map.insert c.args.table.now c.args.id c.unstage.new.self) c.args.id
+    (others_filled c.args.table.now c.args.id c.unstage.new.self c.requires.filled))
 
 pub returns-then-is_empty-clause-unstaged : goal.returns-then-is_empty-clause-unstaged
 returns-then-is_empty-clause-unstaged c =
     let m = c.args.table.now in let id = c.args.id in let new = c.unstage.new.self in
     let is : chain_in m id ≡ c.lend-chain.result.now = ap (λ o. unwrap_or o []) c.lend-chain.ensures.value in
-    let none : [] ≡ unstaged c.args.commit (chain_in m id) = sym (c.is_empty.ensures.0 c.if-is_empty.true) ∙ c.unstage.ensures ∙ ap (unstaged c.args.commit) (sym is) in
+    let none : [] ≡ unstaged c.args.commit (chain_in m id) = sym (c.is_empty.ensures.0 c.if-is_empty.true) ∙ c.unstage.ensures
+    ∙ ap (unstaged c.args.commit) (sym is) in
     changed (unstaged c.args.commit) m c.remove.new.self id (λ q. ap (λ t. chain_in t q) c.remove.ensures ∙ chain_in-remove (map.insert m id new) id q
     ∙ ap (cond (is_page q id) []) (chain_in-insert m id new q) ∙ under (is_page q id) new (chain_in m q) ∙ ap (λ x. cond (is_page q id) x (chain_in m q)) none)
 

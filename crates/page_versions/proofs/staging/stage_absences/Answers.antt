@@ -19,13 +19,16 @@ stage_one-requires c = record { filled = c.loop-id.invariant.under.filled }
 
 pub returns-in_err-stage_one-clause-under : goal.returns-in_err-stage_one-clause-under
 returns-in_err-stage_one-clause-under c =
-    stages_more c.args.commit c.args.table.now c.loop-id.table c.stage_one.new.table c.args.touched.now.items c.loop-id.touched.items c.stage_one.new.touched.items c.loop-id.invariant.under c.stage_one.ensures.under
+    stages_more c.args.commit c.args.table.now c.loop-id.table c.stage_one.new.table c.args.touched.now.items c.loop-id.touched.items
+    c.stage_one.new.touched.items c.loop-id.invariant.under c.stage_one.ensures.under
 
 pub loop-id-preserved : goal.loop-id-preserved
 loop-id-preserved c =
     let f = staged_once c.args.commit Absent in let id = get_or c.args.pages.now c.loop-id.id-index no_page in record {
-      under = stages_more c.args.commit c.args.table.now c.loop-id.table c.stage_one.new.table c.args.touched.now.items c.loop-id.touched.items c.stage_one.new.touched.items c.loop-id.invariant.under c.stage_one.ensures.under;
-      done = subst (λ ps. Done f (chain_in c.args.table.now) ps (chain_in c.stage_one.new.table)) (sym (take_more c.args.pages.now c.loop-id.id-index no_page c.loop-id-test.true))
+      under = stages_more c.args.commit c.args.table.now c.loop-id.table c.stage_one.new.table c.args.touched.now.items c.loop-id.touched.items
+          c.stage_one.new.touched.items c.loop-id.invariant.under c.stage_one.ensures.under;
+      done = subst (λ ps. Done f (chain_in c.args.table.now) ps (chain_in c.stage_one.new.table))
+          (sym (take_more c.args.pages.now c.loop-id.id-index no_page c.loop-id-test.true))
           (done_more f (chain_in c.args.table.now) (chain_in c.loop-id.table) (chain_in c.stage_one.new.table) (take c.loop-id.id-index c.args.pages.now) id
           (λ q. once-once c.args.commit Absent (chain_in c.args.table.now q)) c.loop-id.invariant.done c.in_ok-stage_one.ensures.ok);
     }
@@ -35,4 +38,5 @@ returns-clause-under c = c.loop-id.invariant.under
 
 pub returns-clause-ok : goal.returns-clause-ok
 returns-clause-ok c =
-    subst (λ ps. Done (staged_once c.args.commit Absent) (chain_in c.args.table.now) ps (chain_in c.loop-id.table)) (take_all c.loop-id.id-index c.args.pages.now c.loop-id-test.false) c.loop-id.invariant.done
+    subst (λ ps. Done (staged_once c.args.commit Absent) (chain_in c.args.table.now) ps (chain_in c.loop-id.table))
+    (take_all c.loop-id.id-index c.args.pages.now c.loop-id-test.false) c.loop-id.invariant.done

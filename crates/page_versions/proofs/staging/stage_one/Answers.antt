@@ -22,12 +22,17 @@ returns-in_err-note-clause-under c =
 
 pub returns-clause-under : goal.returns-clause-under
 returns-clause-under c =
-    let n = c.args.commit in let m = c.args.table.now in let id = c.args.id in let ps = c.args.touched.now.items in let once = staged_once n c.args.image (chain_in m id) in
+    let n = c.args.commit in let m = c.args.table.now in let id = c.args.id in let ps = c.args.touched.now.items in let once =
+    staged_once n c.args.image (chain_in m id) in
     subst (λ qs. StagesUnder n m c.put_version.new.table ps qs) (sym c.in_ok-note.ensures.ok)
-    (either c.put_version.result (λ t. StagesUnder n m t ps (ps ++ id ∷ [])) m c.put_version.new.table (map.insert m id once) c.put_version.ensures.ok c.put_version.ensures.err
-    (stages_one n m ps id once c.requires.filled (some-once n c.args.image (chain_in m id)) (unstaged-once n c.args.image (chain_in m id))) (stages_listed n m ps id c.requires.filled))
+    (either c.put_version.result (λ t. StagesUnder n m t ps (ps ++ id ∷ [])) m c.put_version.new.table
+    (map.insert m id once) c.put_version.ensures.ok c.put_version.ensures.err
+    (stages_one n m ps id once c.requires.filled (some-once n c.args.image (chain_in m id)) (unstaged-once n c.args.image (chain_in m id)))
+    (stages_listed n m ps id c.requires.filled))
 
 pub returns-clause-ok : goal.returns-clause-ok
 returns-clause-ok c =
     let n = c.args.commit in let m = c.args.table.now in let id = c.args.id in let once = staged_once n c.args.image in
-    on_ok c.put_version.result (λ is. changed once m c.put_version.new.table id (λ q. ap (λ t. chain_in t q) is ∙ chain_in-insert m id (once (chain_in m id)) q)) c.put_version.ensures.ok
+    on_ok c.put_version.result
+    (λ is. changed once m c.put_version.new.table id (λ q. ap (λ t. chain_in t q) is ∙ chain_in-insert m id (once (chain_in m id)) q))
+    c.put_version.ensures.ok

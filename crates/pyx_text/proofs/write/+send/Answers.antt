@@ -6,7 +6,8 @@ use Rattle.pyx_text.proofs.write.+send.Goals as goal
 
 pub send_element-returns : goal.send_element-returns
 send_element-returns g k c =
-    sends_as c.send_tag-2.result _ _ _ _ (element_text (40 ∷ c.args.name.now) (map attribute_line c.args.attrs.now) (pyx_of c.args.kids.now) (41 ∷ c.args.name.now))
+    sends_as c.send_tag-2.result _ _ _ _
+    (element_text (40 ∷ c.args.name.now) (map attribute_line c.args.attrs.now) (pyx_of c.args.kids.now) (41 ∷ c.args.name.now))
     (sends_then c.send_tag-2.result _ _ c.in_ok-send_tag.ensures
     (sends_then c.send_tag-2.result _ _ c.in_ok-send_attributes.ensures (sends_then c.send_tag-2.result _ _ c.in_ok-send_nodes.ensures c.send_tag-2.ensures)))
 
@@ -26,17 +27,20 @@ pub send_element-returns-in_err-send_nodes : goal.send_element-returns-in_err-se
 send_element-returns-in_err-send_nodes g k c =
     failed c.from_residual-in_err-send_nodes.result c.from_residual-in_err-send_nodes.ensures.0
     (broke_as _ _ (element_text (40 ∷ c.args.name.now) (map attribute_line c.args.attrs.now) (pyx_of c.args.kids.now) (41 ∷ c.args.name.now))
-    (broke_then c.in_ok-send_tag.ensures (broke_then c.in_ok-send_attributes.ensures (broke_before (text_of ((41 ∷ c.args.name.now) ∷ [])) c.in_err-send_nodes.ensures))))
+    (broke_then c.in_ok-send_tag.ensures
+    (broke_then c.in_ok-send_attributes.ensures (broke_before (text_of ((41 ∷ c.args.name.now) ∷ [])) c.in_err-send_nodes.ensures))))
 
 pub send_nodes-loop-node-preserved : goal.send_nodes-loop-node-preserved
 send_nodes-loop-node-preserved g k c =
-    sent_next nodes_text (λ n. text_of (pyx_node n)) nodes_text-append nodes_text-one c.args.nodes.now c.loop-node.node-index c.node-item.result c.node-item.result (search rules) (search rules)
+    sent_next nodes_text (λ n. text_of (pyx_node n)) nodes_text-append nodes_text-one c.args.nodes.now c.loop-node.node-index c.node-item.result
+    c.node-item.result (search rules) (search rules)
     c.loop-node.invariant c.in_ok-send_node.ensures
 
 pub send_nodes-returns-in_err-send_node : goal.send_nodes-returns-in_err-send_node
 send_nodes-returns-in_err-send_node g k c =
     failed c.from_residual.result c.from_residual.ensures.0
-    (broke_next nodes_text (λ n. text_of (pyx_node n)) nodes_text-append nodes_text-one c.args.nodes.now c.loop-node.node-index c.node-item.result c.node-item.result (search rules) (search rules)
+    (broke_next nodes_text (λ n. text_of (pyx_node n)) nodes_text-append nodes_text-one c.args.nodes.now c.loop-node.node-index c.node-item.result
+    c.node-item.result (search rules) (search rules)
     c.loop-node.invariant c.in_err-send_node.ensures)
 
 pub send_nodes-loop-node-init : goal.send_nodes-loop-node-init

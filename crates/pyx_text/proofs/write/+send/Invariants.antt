@@ -5,4 +5,5 @@ use Rattle.pyx_text.proofs.write.+send.Given as goal
 
 abbrev pub invariant-send_nodes-loop-node : goal.invariant-send_nodes-loop-node
 invariant-send_nodes-loop-node g l =
-    Sent (nodes_text (take l.node-index l.fn.nodes)) (stage (g.W.Sink.written l.fn.to) (g.W.Sink.faults l.fn.to) l.fn.pending) (stage (g.W.Sink.written l.to) (g.W.Sink.faults l.to) l.pending)
+    Sent (nodes_text (take l.node-index l.fn.nodes)) (stage (g.W.Sink.written l.fn.to) (g.W.Sink.faults l.fn.to) l.fn.pending)
+    (stage (g.W.Sink.written l.to) (g.W.Sink.faults l.to) l.pending)

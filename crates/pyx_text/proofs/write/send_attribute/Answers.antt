@@ -7,7 +7,8 @@ use Rattle.pyx_text.proofs.write.send_attribute.Goals as goal
 pub returns-in_err-send_mark : goal.returns-in_err-send_mark
 returns-in_err-send_mark g c =
     failed c.from_residual.result c.from_residual.ensures.0
-    (broke_as _ _ (marked_line 65 c.args.attr.now.name (32 ∷ escaped c.args.attr.now.value)) (broke_before ((32 ∷ escaped c.args.attr.now.value) ++ 10 ∷ []) c.in_err-send_mark.ensures))
+    (broke_as _ _ (marked_line 65 c.args.attr.now.name (32 ∷ escaped c.args.attr.now.value))
+    (broke_before ((32 ∷ escaped c.args.attr.now.value) ++ 10 ∷ []) c.in_err-send_mark.ensures))
 
 pub returns : goal.returns
 returns g c =

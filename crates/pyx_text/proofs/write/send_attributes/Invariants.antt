@@ -5,4 +5,5 @@ use Rattle.pyx_text.proofs.write.send_attributes.Given as goal
 
 abbrev pub invariant-loop-attr : goal.invariant-loop-attr
 invariant-loop-attr g l =
-    Sent (attributes_text (take l.attr-index l.fn.attrs)) (stage (g.W.Sink.written l.fn.to) (g.W.Sink.faults l.fn.to) l.fn.pending) (stage (g.W.Sink.written l.to) (g.W.Sink.faults l.to) l.pending)
+    Sent (attributes_text (take l.attr-index l.fn.attrs)) (stage (g.W.Sink.written l.fn.to) (g.W.Sink.faults l.fn.to) l.fn.pending)
+    (stage (g.W.Sink.written l.to) (g.W.Sink.faults l.to) l.pending)

@@ -7,8 +7,10 @@ returns-in-None g c = sends_as c.send_byte.result _ _ _ _ (sym c.in-None.ensures
 
 pub returns-in_err-send_byte-in-Some : goal.returns-in_err-send_byte-in-Some
 returns-in_err-send_byte-in-Some g c =
-    failed c.from_residual.result c.from_residual.ensures.0 (broke_as _ _ (sym c.in-Some.ensures) (broke_before (c.in-Some.letter ∷ []) c.in_err-send_byte-in-Some.ensures))
+    failed c.from_residual.result c.from_residual.ensures.0
+    (broke_as _ _ (sym c.in-Some.ensures) (broke_before (c.in-Some.letter ∷ []) c.in_err-send_byte-in-Some.ensures))
 
 pub returns-in_ok-send_byte-in-Some : goal.returns-in_ok-send_byte-in-Some
 returns-in_ok-send_byte-in-Some g c =
-    sends_as c.send_byte-in-Some-2.result _ _ _ _ (sym c.in-Some.ensures) (sends_then c.send_byte-in-Some-2.result (c.in-Some.letter ∷ []) _ c.in_ok-send_byte-in-Some.ensures c.send_byte-in-Some-2.ensures)
+    sends_as c.send_byte-in-Some-2.result _ _ _ _ (sym c.in-Some.ensures)
+    (sends_then c.send_byte-in-Some-2.result (c.in-Some.letter ∷ []) _ c.in_ok-send_byte-in-Some.ensures c.send_byte-in-Some-2.ensures)

@@ -7,7 +7,8 @@ use Rattle.pyx_text.proofs.write.send_instruction.Goals as goal
 pub returns-in_err-send_mark : goal.returns-in_err-send_mark
 returns-in_err-send_mark g c =
     failed c.from_residual.result c.from_residual.ensures.0
-    (broke_as _ _ (marked_line 63 c.args.target.now (behind_target c.args.value.now)) (broke_before (behind_target c.args.value.now ++ 10 ∷ []) c.in_err-send_mark.ensures))
+    (broke_as _ _ (marked_line 63 c.args.target.now (behind_target c.args.value.now))
+    (broke_before (behind_target c.args.value.now ++ 10 ∷ []) c.in_err-send_mark.ensures))
 
 pub returns : goal.returns
 returns g c =

@@ -10,8 +10,10 @@ loop-byte-init g c = sent_none _
 pub returns-in_err-send_escaped : goal.returns-in_err-send_escaped
 returns-in_err-send_escaped g c =
     failed c.from_residual.result c.from_residual.ensures.0
-    (broke_next escaped (λ b. escaped (b ∷ [])) escaped-append (λ b. refl) c.args.value.now c.loop-byte.byte-index 0 _ c.loop-byte-test.true refl c.loop-byte.invariant c.in_err-send_escaped.ensures)
+    (broke_next escaped (λ b. escaped (b ∷ [])) escaped-append
+    (λ b. refl) c.args.value.now c.loop-byte.byte-index 0 _ c.loop-byte-test.true refl c.loop-byte.invariant c.in_err-send_escaped.ensures)
 
 pub loop-byte-preserved : goal.loop-byte-preserved
 loop-byte-preserved g c =
-    sent_next escaped (λ b. escaped (b ∷ [])) escaped-append (λ b. refl) c.args.value.now c.loop-byte.byte-index 0 _ c.loop-byte-test.true refl c.loop-byte.invariant c.in_ok-send_escaped.ensures
+    sent_next escaped (λ b. escaped (b ∷ [])) escaped-append
+    (λ b. refl) c.args.value.now c.loop-byte.byte-index 0 _ c.loop-byte-test.true refl c.loop-byte.invariant c.in_ok-send_escaped.ensures

@@ -5,4 +5,5 @@ use Rattle.pyx_text.proofs.write.send_value.Given as goal
 
 abbrev pub invariant-loop-byte : goal.invariant-loop-byte
 invariant-loop-byte g l =
-    Sent (escaped (take l.byte-index l.value)) (stage (g.W.Sink.written l.fn.to) (g.W.Sink.faults l.fn.to) l.fn.pending) (stage (g.W.Sink.written l.to) (g.W.Sink.faults l.to) l.pending)
+    Sent (escaped (take l.byte-index l.value)) (stage (g.W.Sink.written l.fn.to) (g.W.Sink.faults l.fn.to) l.fn.pending)
+    (stage (g.W.Sink.written l.to) (g.W.Sink.faults l.to) l.pending)

@@ -10,4 +10,5 @@ returns-in_err-send_nodes-clause-prefix g c =
 pub returns-clause-prefix : goal.returns-clause-prefix
 returns-clause-prefix g c =
     sends_prefix c.flush.result _ _ _ c.new-pending.ensures
-    (sends_as c.flush.result _ _ _ _ (append-nil (text_of (pyx c.args.doc.now))) (sends_then c.flush.result _ _ c.in_ok-send_nodes.ensures c.flush.ensures.sends))
+    (sends_as c.flush.result _ _ _ _ (append-nil (text_of (pyx c.args.doc.now)))
+    (sends_then c.flush.result _ _ c.in_ok-send_nodes.ensures c.flush.ensures.sends))

@@ -11,19 +11,28 @@ use Rattle.redo_log.proofs.names.names_at.Goals as goal
 pub returns-in_err-name-clause-gives : goal.returns-in_err-name-clause-gives
 returns-in_err-name-clause-gives c =
     let p = err_from_is_err_and c.from_residual.result c.from_residual.ensures.1 in
-    rw (p.1, p.2) (subst (Fails c.in_err-name.field-0.0) c.loop.invariant.so_far (name_fails c.args.commit c.args.count c.loop.counter c.loop.names.items c.loop.store c.loop.rest.now c.in_err-name.field-0.0 c.loop-test.true
-    (subst (λ (z : List LogName). Fails c.in_err-name.field-0.0 (name_at c.args.commit z c.loop.store c.loop.rest.now)) c.as_slice.ensures.value c.in_err-name.ensures.gives)))
+    rw (p.1, p.2) (subst (Fails c.in_err-name.field-0.0) c.loop.invariant.so_far
+    (name_fails c.args.commit c.args.count c.loop.counter c.loop.names.items c.loop.store c.loop.rest.now c.in_err-name.field-0.0 c.loop-test.true
+    (subst (λ (z : List LogName). Fails c.in_err-name.field-0.0 (name_at c.args.commit z c.loop.store c.loop.rest.now)) c.as_slice.ensures.value
+    c.in_err-name.ensures.gives)))
 
 pub loop-preserved : goal.loop-preserved
 loop-preserved c =
     let n = c.in_ok-name.name in let rest = c.in_ok-name.behind.now in
     let read : name_at c.args.commit c.loop.names.items c.loop.store c.loop.rest.now ≡ Ok (n, rest) =
-    subst (λ (z : List LogName). name_at c.args.commit z c.loop.store c.loop.rest.now ≡ Ok (n, rest)) c.as_slice.ensures.value c.in_ok-name.ensures.gives in record {
-      so_far = ap (λ (z : List LogName × Store). names_at c.args.commit (c.args.count - (c.loop.counter + 1)) z.0 z.1 rest) (λ k. (c.in_ok-push.ensures.items k, c.in_ok-take_name.ensures k))
-          ∙ (sym (name_more c.args.commit c.args.count c.loop.counter c.loop.names.items c.loop.store c.loop.rest.now n rest c.loop-test.true read) ∙ c.loop.invariant.so_far);
-      taken = c.in_ok-take_name.ensures ∙ (ap (after_name n) c.loop.invariant.taken ∙ (sym (after_names-more c.loop.names.items n c.args.store.now) ∙ ap (λ (l : List LogName). after_names l c.args.store.now) (sym c.in_ok-push.ensures.items)));
+    subst (λ (z : List LogName). name_at c.args.commit z c.loop.store c.loop.rest.now ≡ Ok (n, rest)) c.as_slice.ensures.value c.in_ok-name.ensures.gives in
+    record {
+      so_far = ap (λ (z : List LogName × Store). names_at c.args.commit (c.args.count - (c.loop.counter + 1)) z.0 z.1 rest)
+          (λ k. (c.in_ok-push.ensures.items k, c.in_ok-take_name.ensures k))
+          ∙ (sym (name_more c.args.commit c.args.count c.loop.counter c.loop.names.items c.loop.store c.loop.rest.now n rest c.loop-test.true read)
+          ∙ c.loop.invariant.so_far);
+      taken = c.in_ok-take_name.ensures
+          ∙ (ap (after_name n) c.loop.invariant.taken
+          ∙ (sym (after_names-more c.loop.names.items n c.args.store.now)
+          ∙ ap (λ (l : List LogName). after_names l c.args.store.now) (sym c.in_ok-push.ensures.items)));
       shorter = omega (arith, c.loop.invariant.shorter, c.in_ok-name.ensures.shorter);
     }
 
 pub returns-clause-gives : goal.returns-clause-gives
-returns-clause-gives c = sym c.loop.invariant.so_far ∙ names_end c.args.commit c.args.count c.loop.counter c.loop.names.items c.loop.store c.loop.rest.now c.loop-test.false
+returns-clause-gives c = sym c.loop.invariant.so_far
+    ∙ names_end c.args.commit c.args.count c.loop.counter c.loop.names.items c.loop.store c.loop.rest.now c.loop-test.false

@@ -7,4 +7,5 @@ use Rattle.redo_log.proofs.pages.id_at.Goals as goal
 
 pub returns-clause-gives : goal.returns-clause-gives
 returns-clause-gives c =
-    subst (λ (r : Result (PageId × List ℕ) ℕ). Gives (λ x. (x.0, x.1.now)) c.id_by_space.result r) (by_space_is (last_in c.args.done.now) c.args.spaces.now c.args.bytes.now) c.id_by_space.ensures.gives
+    subst (λ (r : Result (PageId × List ℕ) ℕ). Gives (λ x. (x.0, x.1.now)) c.id_by_space.result r)
+    (by_space_is (last_in c.args.done.now) c.args.spaces.now c.args.bytes.now) c.id_by_space.ensures.gives

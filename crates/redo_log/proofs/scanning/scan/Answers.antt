@@ -23,7 +23,10 @@ returns-in-Ok-records_at-clause-found g c =
     subst (λ (l : List ℕ). AreRecords c.in-Ok.store c.in-Ok-records_at.changes.items l rest) c.as_slice-3.ensures.value c.in-Ok-records_at.ensures.found in
     let spelled : items ≡ flat_map record_of c.in-Ok-records_at.changes.items ++ rest = sym c.as_slice-3.ensures.value ∙ c.in-Ok-records_at.ensures.spelled in
     if_told (g.D.Device.contents c.args.device.now) _ (λ i is.
-    scans c.args.file c.args.at base i s items rest (told (g.D.Device.contents c.args.device.now) (λ k. items ≡ drop c.args.at (bytes_of k c.args.file)) i is c.in_ok-bytes.ensures.bytes) end
-    (subst (λ (cs : List Change). AreRecords (store_before base) cs items rest) changes (subst (λ (z : Store). AreRecords z c.in-Ok-records_at.changes.items items rest) store found))
+    scans c.args.file c.args.at base i s items rest
+    (told (g.D.Device.contents c.args.device.now) (λ k. items ≡ drop c.args.at (bytes_of k c.args.file)) i is c.in_ok-bytes.ensures.bytes) end
+    (subst (λ (cs : List Change). AreRecords (store_before base) cs items rest) changes
+    (subst (λ (z : Store). AreRecords z c.in-Ok-records_at.changes.items items rest) store found))
     (spelled ∙ ap (λ (cs : List Change). flat_map record_of cs ++ rest) changes)
-    (subst (λ (cs : List Change). AreTaken (store_before base) cs) changes (subst (λ (z : Store). AreTaken z c.in-Ok-records_at.changes.items) store c.in-Ok-records_at.ensures.taken)))
+    (subst (λ (cs : List Change). AreTaken (store_before base) cs) changes
+    (subst (λ (z : Store). AreTaken z c.in-Ok-records_at.changes.items) store c.in-Ok-records_at.ensures.taken)))

@@ -8,4 +8,5 @@ use Rattle.text_pages.proofs.putting.put_piece.Goals as goal
 pub returns-clause-long_first : goal.returns-clause-long_first
 returns-clause-long_first c =
     on_any c.put_where_tried.result
-    (subst (λ (r : Result ℕ PageEnd). IfOk r (λ number. 0 < number → IsLong c.args.work.now.now (page_in c.args.space number))) c.in_ok-number.ensures.first c.in_ok-tried.ensures.long)
+    (subst (λ (r : Result ℕ PageEnd). IfOk r (λ number. 0 < number → IsLong c.args.work.now.now (page_in c.args.space number))) c.in_ok-number.ensures.first
+    c.in_ok-tried.ensures.long)

@@ -22,20 +22,26 @@ loop-left-init c = record {
 pub returns-in-Err-clause-answer : goal.returns-in-Err-clause-answer
 returns-in-Err-clause-answer c =
     let w = c.loop-left.work in let space = c.args.space in let bytes = c.args.bytes.now in let left = c.loop-left.left in
-    subst (λ s. Answers s (Err c.in-Err.end) c.put_piece.new.work) (sym (put_step left w space c.loop-left.next bytes (omega arith)) ∙ c.loop-left.invariant.put)
-    (refused (piece_put_in w space c.loop-left.next (piece_of (left - 1) bytes)) (λ (put : TextRef × Work). pieces_put_in (left - 1) put.1 space put.0 bytes) c.in-Err.end c.put_piece.new.work c.put_piece.new.work
+    subst (λ s. Answers s (Err c.in-Err.end) c.put_piece.new.work) (sym (put_step left w space c.loop-left.next bytes (omega arith))
+    ∙ c.loop-left.invariant.put)
+    (refused (piece_put_in w space c.loop-left.next (piece_of (left - 1) bytes))
+    (λ (put : TextRef × Work). pieces_put_in (left - 1) put.1 space put.0 bytes) c.in-Err.end c.put_piece.new.work c.put_piece.new.work
     (subst (λ p. Answers (piece_put_in w space c.loop-left.next p) (Err c.in-Err.end) c.put_piece.new.work) c.piece.ensures.bytes c.in-Err.ensures.answer))
 
 pub loop-left-preserved : goal.loop-left-preserved
 loop-left-preserved c =
     let w = c.loop-left.work in let space = c.args.space in let bytes = c.args.bytes.now in let left = c.loop-left.left in
     let text = piece_of (left - 1) bytes in let new = c.put_piece.new.work in let more = piece_count bytes - left in
-    let is = answered (piece_put_in w space c.loop-left.next text) c.in-Ok.put new (subst (λ p. Answers (piece_put_in w space c.loop-left.next p) (Ok c.in-Ok.put) new) c.piece.ensures.bytes c.in-Ok.ensures.answer) in
+    let is = answered (piece_put_in w space c.loop-left.next text) c.in-Ok.put new
+    (subst (λ p. Answers (piece_put_in w space c.loop-left.next p) (Ok c.in-Ok.put) new) c.piece.ensures.bytes c.in-Ok.ensures.answer) in
     record {
-      put = sym (put_step left w space c.loop-left.next bytes (omega arith) ∙ ap (λ r. and_then r (λ (put : TextRef × Work). pieces_put_in (left - 1) put.1 space put.0 bytes)) is) ∙ c.loop-left.invariant.put;
+      put = sym (put_step left w space c.loop-left.next bytes (omega arith)
+          ∙ ap (λ r. and_then r (λ (put : TextRef × Work). pieces_put_in (left - 1) put.1 space put.0 bytes)) is) ∙ c.loop-left.invariant.put;
       own = λ all.
-          let put = put_own all space w c.loop-left.next text (piece_short (left - 1) bytes) c.in-Ok.ensures.long_head c.in-Ok.put c.in-Ok.ensures.number new c.in-Ok.ensures.long_first is in
-          own_more texts_own all space _ new (more + 1) (piece_count bytes - (left - 1)) (omega arith) (own_twice texts_own all space _ w new more 1 (c.loop-left.invariant.own all) put.0 put.1);
+          let put = put_own all space w c.loop-left.next text
+          (piece_short (left - 1) bytes) c.in-Ok.ensures.long_head c.in-Ok.put c.in-Ok.ensures.number new c.in-Ok.ensures.long_first is in
+          own_more texts_own all space _ new (more + 1) (piece_count bytes - (left - 1)) (omega arith)
+          (own_twice texts_own all space _ w new more 1 (c.loop-left.invariant.own all) put.0 put.1);
       within = omega arith;
     }
 

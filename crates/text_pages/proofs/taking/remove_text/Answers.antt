@@ -14,12 +14,14 @@ loop-at-init c = record { taken = taken_start c.args.work.now c.args.space c.arg
 pub returns-in-Err-clause-answer : goal.returns-in-Err-clause-answer
 returns-in-Err-clause-answer c =
     let some : 0 < c.loop-at.at.page = omega arith in
-    taken_failed c.args.work.now c.args.space c.args.first c.loop-at.at c.loop-at.from c.loop-at.work c.in-Err.end c.take_piece.new.work c.loop-at.invariant.taken some c.in-Err.ensures.answer
+    taken_failed c.args.work.now c.args.space c.args.first c.loop-at.at c.loop-at.from c.loop-at.work c.in-Err.end c.take_piece.new.work
+    c.loop-at.invariant.taken some c.in-Err.ensures.answer
 
 pub loop-at-smaller : goal.loop-at-smaller
 loop-at-smaller c =
     let some : 0 < c.loop-at.at.page = omega arith in
-    taken_lighter c.loop-at.work c.args.space c.loop-at.from c.loop-at.at c.in-Ok.next c.take_piece.new.work some c.in-Ok.ensures.long_head c.in-Ok.ensures.long_page
+    taken_lighter c.loop-at.work c.args.space c.loop-at.from c.loop-at.at c.in-Ok.next c.take_piece.new.work some c.in-Ok.ensures.long_head
+    c.in-Ok.ensures.long_page
     (answered (piece_taken_in c.loop-at.work c.args.space c.loop-at.from c.loop-at.at) c.in-Ok.next c.take_piece.new.work c.in-Ok.ensures.answer)
 
 pub loop-at-preserved : goal.loop-at-preserved
@@ -28,7 +30,8 @@ loop-at-preserved c =
     let is = answered (piece_taken_in w space c.loop-at.from at) c.in-Ok.next new c.in-Ok.ensures.answer in
     record {
       taken = taken_next c.args.work.now space c.args.first at c.loop-at.from w c.in-Ok.next new c.loop-at.invariant.taken some is;
-      own = λ all. own_behind texts_own all space c.args.work.now w new 0 (c.loop-at.invariant.own all) (taken_own all space w at some c.in-Ok.ensures.long_head c.in-Ok.ensures.long_page c.loop-at.from c.in-Ok.next new is);
+      own = λ all. own_behind texts_own all space c.args.work.now w new 0 (c.loop-at.invariant.own all)
+          (taken_own all space w at some c.in-Ok.ensures.long_head c.in-Ok.ensures.long_page c.loop-at.from c.in-Ok.next new is);
     }
 
 pub returns-clause-answer : goal.returns-clause-answer

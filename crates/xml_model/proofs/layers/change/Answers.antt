@@ -16,4 +16,5 @@ returns-in-Nothing-None c = λ F below.
 
 pub returns-in_default : goal.returns-in_default
 returns-in_default c =
-    OnOk-map c.put.result _ _ (λ put F below. ap (λ changes. laid_over changes F) put ∙ laid-one (changes_of_entries c.args.all.now.entries) c.args.name.now (unshared c.args.after.now) F) c.put.ensures
+    OnOk-map c.put.result _ _ (λ put F below. ap (λ changes. laid_over changes F) put
+    ∙ laid-one (changes_of_entries c.args.all.now.entries) c.args.name.now (unshared c.args.after.now) F) c.put.ensures

@@ -5,7 +5,8 @@ use Rattle.xq_ast.proofs.code_reading.behind_word.Goals as goal
 
 pub returns-else-eq : goal.returns-else-eq
 returns-else-eq c = λ rest e.
-    let same : c.args.word.now ≡ c.in-Some.first.now = (second_part c.args.text.now c.in-Some.first.now c.in-Some.rest.now c.args.word.now rest c.in-Some.ensures c.requires (sym e)).0 in
+    let same : c.args.word.now ≡ c.in-Some.first.now =
+    (second_part c.args.text.now c.in-Some.first.now c.in-Some.rest.now c.args.word.now rest c.in-Some.ensures c.requires (sym e)).0 in
     let tested = (bytes_eq-Decides c.in-Some.first.now c.args.word.now).1 (sym same) in
     let other : true ≡ false = sym tested ∙ (sym c.eq.ensures ∙ c.if-eq.false) in
     cc

@@ -6,7 +6,8 @@ use Rattle.xq_ast.proofs.code_reading.cut.Goals as goal
 
 -- the same by cases, with the two facts as a record
 parts : (bs : List ℕ) (r : Option (Bor (List ℕ) × Bor (List ℕ)))
-    → MatchOption r ((i : ℕ) → i < length bs → get_or bs i 0 ≢ 32) (λ x. (bs ≡ x.0.now ++ (32 ∷ x.1.now)) × ((i : ℕ) → i < length x.0.now → get_or x.0.now i 0 ≢ 32))
+    → MatchOption r ((i : ℕ) → i < length bs → get_or bs i 0 ≢ 32)
+    (λ x. (bs ≡ x.0.now ++ (32 ∷ x.1.now)) × ((i : ℕ) → i < length x.0.now → get_or x.0.now i 0 ≢ 32))
     → MatchOption r (has_space bs ≡ false) (λ x. IsCut bs x.0.now x.1.now)
 parts bs None lacks = no_space_by_index bs lacks
 parts bs (Some x) both = record { whole = both.0; first = no_space_by_index x.0.now both.1 }

@@ -14,17 +14,21 @@ returns-in_err-commit-clause-none c = λ none commit ordinal page sc so sp e.
 
 pub returns-in_err-last-clause-none : goal.returns-in_err-last-clause-none
 returns-in_err-last-clause-none c = λ none commit ordinal page sc so sp e.
-    let parts = damaged_parts c.args.text.now c.in_ok-behind_word.field-0.now c.in_ok-commit.commit.now c.in_ok-commit.rest.now c.in_ok-behind_word.ensures c.in_ok-commit.ensures commit ordinal page sc e in
+    let parts = damaged_parts c.args.text.now c.in_ok-behind_word.field-0.now c.in_ok-commit.commit.now c.in_ok-commit.rest.now c.in_ok-behind_word.ensures
+    c.in_ok-commit.ensures commit ordinal page sc e in
     c.in_err-last.ensures.none refl (decimal ordinal) page (has_space-decimal ordinal so) sp parts.1
 
 pub returns-in_err-commit-2-clause-none : goal.returns-in_err-commit-2-clause-none
 returns-in_err-commit-2-clause-none c = λ none commit ordinal page sc so sp e.
-    let parts = damaged_parts c.args.text.now c.in_ok-behind_word.field-0.now c.in_ok-commit.commit.now c.in_ok-commit.rest.now c.in_ok-behind_word.ensures c.in_ok-commit.ensures commit ordinal page sc e in
+    let parts = damaged_parts c.args.text.now c.in_ok-behind_word.field-0.now c.in_ok-commit.commit.now c.in_ok-commit.rest.now c.in_ok-behind_word.ensures
+    c.in_ok-commit.ensures commit ordinal page sc e in
     c.in_err-commit-2.ensures.none refl commit sc parts.0
 
 pub returns-in_err-ordinal-clause-none : goal.returns-in_err-ordinal-clause-none
 returns-in_err-ordinal-clause-none c = λ none commit ordinal page sc so sp e.
-    let parts = damaged_parts c.args.text.now c.in_ok-behind_word.field-0.now c.in_ok-commit.commit.now c.in_ok-commit.rest.now c.in_ok-behind_word.ensures c.in_ok-commit.ensures commit ordinal page sc e in
+    let parts = damaged_parts c.args.text.now c.in_ok-behind_word.field-0.now c.in_ok-commit.commit.now c.in_ok-commit.rest.now c.in_ok-behind_word.ensures
+    c.in_ok-commit.ensures commit ordinal page sc e in
     let last = c.in_ok-last.last in
     c.in_err-ordinal.ensures.none refl ordinal so
-    (cut_once (decimal ordinal) last.name.now (decimal page) (decimal last.number) (has_space-decimal ordinal so) c.in_ok-last.ensures.apart (parts.1 ∙ c.in_ok-last.ensures.found)).0
+    (cut_once (decimal ordinal) last.name.now (decimal page) (decimal last.number) (has_space-decimal ordinal so) c.in_ok-last.ensures.apart (parts.1
+    ∙ c.in_ok-last.ensures.found)).0

@@ -8,4 +8,5 @@ returns-in_err-name-clause-none c = λ none name n plain small e. no_second c.ar
 
 pub returns-in_err-number-clause-none : goal.returns-in_err-number-clause-none
 returns-in_err-number-clause-none c = λ none name n plain small e.
-    c.in_err-number.ensures.none refl n small (second_part c.args.text.now c.in_ok-name.name.now c.in_ok-name.digits.now name (decimal n) c.in_ok-name.ensures plain e).1
+    c.in_err-number.ensures.none refl n small
+    (second_part c.args.text.now c.in_ok-name.name.now c.in_ok-name.digits.now name (decimal n) c.in_ok-name.ensures plain e).1

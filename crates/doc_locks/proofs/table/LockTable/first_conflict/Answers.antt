@@ -17,8 +17,10 @@ returns-in-Some-clause-first c =
 
 pub loop-place-preserved : goal.loop-place-preserved
 loop-place-preserved c =
-    All-more (IsFree c.args.self.now c.args.session) c.args.needs.now c.loop-place.place c.index-needs-place.result c.loop-place-test.true c.loop-place.invariant
+    All-more (IsFree c.args.self.now c.args.session) c.args.needs.now c.loop-place.place c.index-needs-place.result c.loop-place-test.true
+    c.loop-place.invariant
     (subst (IsFree c.args.self.now c.args.session) c.index-needs-place.is c.in_default.ensures.free)
 
 pub returns-clause-free : goal.returns-clause-free
-returns-clause-free c = subst (All (IsFree c.args.self.now c.args.session)) (take_all c.loop-place.place c.args.needs.now c.loop-place-test.false) c.loop-place.invariant
+returns-clause-free c = subst (All (IsFree c.args.self.now c.args.session))
+    (take_all c.loop-place.place c.args.needs.now c.loop-place-test.false) c.loop-place.invariant

@@ -18,11 +18,15 @@ lend-requires c =
 
 pub returns-then-contains_key-clause-err : goal.returns-then-contains_key-clause-err
 returns-then-contains_key-clause-err c =
-    on_err_weaker c.add.result (λ same. ap (map.insert c.args.self.now c.args.session) same ∙ insert-same c.args.self.now c.args.session c.lend.result.now c.lend.ensures.value) c.add.ensures.err
+    on_err_weaker c.add.result (λ same. ap (map.insert c.args.self.now c.args.session) same
+    ∙ insert-same c.args.self.now c.args.session c.lend.result.now c.lend.ensures.value) c.add.ensures.err
 
 pub returns-clause-ok : goal.returns-clause-ok
 returns-clause-ok c =
     let s = c.args.session in let old = c.args.self.now in
-    let none : map.get old s ≡ None = none_there (map.get old s) (ap is_some (sym (ap (λ m. map.get m s) c.self.view_is) ∙ get-map_of c.self.inside.sessions.entries s) ∙ sym c.contains_key.ensures ∙ c.if-contains_key.false) in
-    map_of-insert c.self.inside.sessions c.insert.new.self s c.add-2.new.self c.in_ok-insert.ensures.updates ∙ ap (λ m. map.insert m s c.add-2.new.self) c.self.view_is
+    let none : map.get old s ≡ None =
+    none_there (map.get old s) (ap is_some (sym (ap (λ m. map.get m s) c.self.view_is) ∙ get-map_of c.self.inside.sessions.entries s)
+    ∙ sym c.contains_key.ensures ∙ c.if-contains_key.false) in
+    map_of-insert c.self.inside.sessions c.insert.new.self s c.add-2.new.self c.in_ok-insert.ensures.updates
+    ∙ ap (λ m. map.insert m s c.add-2.new.self) c.self.view_is
     ∙ ap (map.insert old s) (c.in_ok-add.ensures.ok ∙ ap (with_needs c.args.needs.now) (c.new-own.ensures ∙ ap (λ o. unwrap_or o map.empty) (sym none)))

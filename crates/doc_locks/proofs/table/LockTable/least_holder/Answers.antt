@@ -23,13 +23,17 @@ loop-place-preserved c =
 pub returns-clause-free : goal.returns-clause-free
 returns-clause-free c =
     let es = c.self.inside.sessions.entries in let session = c.args.session in let need = c.args.need.now in
-    let none : drop c.loop-place.place es ≡ [] = drop_all c.loop-place.place es (subst (λ n. n ≤ c.loop-place.place) c.len-place-end.ensures.len c.loop-place-test.false) in
+    let none : drop c.loop-place.place es ≡ [] =
+    drop_all c.loop-place.place es (subst (λ n. n ≤ c.loop-place.place) c.len-place-end.ensures.len c.loop-place-test.false) in
     subst (λ t. IfNone c.loop-place.least (IsFree t session need)) c.self.view_is
-    (free_end es session need c.loop-place.least (sym (ap (λ xs. least_in (blocked es session need) (keys_of xs) c.loop-place.least) none) ∙ c.loop-place.invariant))
+    (free_end es session need c.loop-place.least (sym (ap (λ xs. least_in (blocked es session need) (keys_of xs) c.loop-place.least) none)
+    ∙ c.loop-place.invariant))
 
 pub returns-clause-least : goal.returns-clause-least
 returns-clause-least c =
     let es = c.self.inside.sessions.entries in let session = c.args.session in let need = c.args.need.now in
-    let none : drop c.loop-place.place es ≡ [] = drop_all c.loop-place.place es (subst (λ n. n ≤ c.loop-place.place) c.len-place-end.ensures.len c.loop-place-test.false) in
+    let none : drop c.loop-place.place es ≡ [] =
+    drop_all c.loop-place.place es (subst (λ n. n ≤ c.loop-place.place) c.len-place-end.ensures.len c.loop-place-test.false) in
     subst (λ t. IfSome c.loop-place.least (IsLeastHolder t session need)) c.self.view_is
-    (least_end es session need c.loop-place.least (sym (ap (λ xs. least_in (blocked es session need) (keys_of xs) c.loop-place.least) none) ∙ c.loop-place.invariant))
+    (least_end es session need c.loop-place.least (sym (ap (λ xs. least_in (blocked es session need) (keys_of xs) c.loop-place.least) none)
+    ∙ c.loop-place.invariant))

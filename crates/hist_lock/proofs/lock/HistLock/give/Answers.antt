@@ -30,7 +30,8 @@ swap-requires g c =
     let v = c.args.seat.now.me.0 in
     let me_is : c.exchange-empty.new.seat.me ≡ (v, (0, Some x) ∷ []) = c.in-None.ensures.3 ∙ ap (λ cs. (v, (0, Some x) ∷ rest cs)) c.requires.holding.2 in
     let ev = c.requires.events in
-    let told = c.fetch_add.ensures.2 x ev.0 (ap (λ m. m.1) me_is) (ev.1 ∙ ap (λ m. m.0.seen ++ ev.0) (sym me_is)) (subst (λ m. AllOf g.T.Storied.session m.0.id ev.0) (sym me_is) ev.2) in (
+    let told = c.fetch_add.ensures.2 x ev.0 (ap (λ m. m.1) me_is) (ev.1 ∙ ap (λ m. m.0.seen ++ ev.0) (sym me_is))
+    (subst (λ m. AllOf g.T.Storied.session m.0.id ev.0) (sym me_is) ev.2) in (
       search rules,
       search rules,
       frees_turn g.T.Storied.events g.T.Storied.session g.T.Storied.origin _ _ _ _ x
@@ -47,6 +48,7 @@ returns-clause-me g c new list =
     let v = c.args.seat.now.me.0 in
     let me_is : c.exchange-empty.new.seat.me ≡ (v, (0, Some x) ∷ []) = c.in-None.ensures.3 ∙ ap (λ cs. (v, (0, Some x) ∷ rest cs)) c.requires.holding.2 in
     let ev = c.requires.events in
-    let told = c.fetch_add.ensures.2 x ev.0 (ap (λ m. m.1) me_is) (ev.1 ∙ ap (λ m. m.0.seen ++ ev.0) (sym me_is)) (subst (λ m. AllOf g.T.Storied.session m.0.id ev.0) (sym me_is) ev.2) in
+    let told = c.fetch_add.ensures.2 x ev.0 (ap (λ m. m.1) me_is) (ev.1 ∙ ap (λ m. m.0.seen ++ ev.0) (sym me_is))
+    (subst (λ m. AllOf g.T.Storied.session m.0.id ev.0) (sym me_is) ev.2) in
     let end = left_as g.T.Storied.events g.T.Storied.session g.T.Storied.origin g.T.Storied.nowhere v x ev.0 _ _ _ me_is told c.swap.ensures.2 in
     end ∙ ap (λ (z : List _). (left (added v (g.T.Storied.events x) (v.mine ++ z)), [])) (same_rest v.seen ev.0 new (sym ev.1 ∙ list))

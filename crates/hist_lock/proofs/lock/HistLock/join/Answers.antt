@@ -10,5 +10,6 @@ join_seat-requires g c = let is = c.into_seat.ensures.known in (
   c.into_seat.ensures.holding ∙ ap hands (ap (λ k. k.inside) is ∙ c.requires.other),
   search rules,
   joins_pass g.T.Storied.events g.T.Storied.session g.T.Storied.origin _ _ _ _ c.into_seat.result.me.0 g.T.Storied.nowhere c.opener.invariant.live
-      c.into_seat.ensures.live (ap (λ k. k.id) c.opener.view_is ∙ c.requires.opener) (ap (λ k. k.inside) c.opener.view_is ∙ c.requires.outside) (ap (λ k. k.inside) is ∙ c.requires.other),
+      c.into_seat.ensures.live (ap (λ k. k.id) c.opener.view_is ∙ c.requires.opener) (ap (λ k. k.inside) c.opener.view_is ∙ c.requires.outside)
+      (ap (λ k. k.inside) is ∙ c.requires.other),
 )

@@ -12,7 +12,8 @@ overflow_sub-more g c =
     let seen_is : v.seen ≡ c.args.pass.now.seen = ap (λ k. k.seen) c.pass.view_is in
     let list : g.T.Storied.events c.args.held.value ≡ v.seen ++ ev.0 = ev.1 ∙ ap (λ s. s ++ ev.0) (sym seen_is) in
     let is_in : v.inside ≡ true = ap (λ k. k.inside) c.pass.view_is ∙ c.requires.inside in
-    let many = more_events (g.T.Storied.events c.args.held.value) v.seen ev.0 c.pass.inside.found c.count.result list (c.pass.invariant.counted is_in) c.count.ensures in
+    let many = more_events (g.T.Storied.events c.args.held.value) v.seen ev.0 c.pass.inside.found c.count.result list
+    (c.pass.invariant.counted is_in) c.count.ensures in
     many.0
 
 pub give-requires : goal.give-requires
@@ -22,7 +23,8 @@ give-requires g c =
     let seen_is : v.seen ≡ c.args.pass.now.seen = ap (λ k. k.seen) c.pass.view_is in
     let list : g.T.Storied.events c.args.held.value ≡ v.seen ++ ev.0 = ev.1 ∙ ap (λ s. s ++ ev.0) (sym seen_is) in
     let is_in : v.inside ≡ true = ap (λ k. k.inside) c.pass.view_is ∙ c.requires.inside in
-    let many = more_events (g.T.Storied.events c.args.held.value) v.seen ev.0 c.pass.inside.found c.count.result list (c.pass.invariant.counted is_in) c.count.ensures in
+    let many = more_events (g.T.Storied.events c.args.held.value) v.seen ev.0 c.pass.inside.found c.count.result list
+    (c.pass.invariant.counted is_in) c.count.ensures in
     record {
       lock = ap (λ k. k.lock) c.pass.view_is ∙ c.requires.lock;
       holding = (c.pass.invariant.live, is_in, c.pass.invariant.holding ∙ ap hands is_in);
@@ -52,7 +54,8 @@ returns-clause-pass g c =
     let seen_is : v.seen ≡ c.args.pass.now.seen = ap (λ k. k.seen) c.pass.view_is in
     let list : g.T.Storied.events c.args.held.value ≡ v.seen ++ ev.0 = ev.1 ∙ ap (λ s. s ++ ev.0) (sym seen_is) in
     let end = c.give.ensures.me ev.0 list in
-    left_known c.pass.inside.seat.table_id c.give.new.seat.table_id c.args.pass.now v c.give.new.seat.me.0 (g.T.Storied.events c.args.held.value) _ c.pass.view_is c.give.ensures.lock (ap (λ m. m.0) end)
+    left_known c.pass.inside.seat.table_id c.give.new.seat.table_id c.args.pass.now v c.give.new.seat.me.0
+    (g.T.Storied.events c.args.held.value) _ c.pass.view_is c.give.ensures.lock (ap (λ m. m.0) end)
 
 pub returns-clause-mine : goal.returns-clause-mine
 returns-clause-mine g c new more =

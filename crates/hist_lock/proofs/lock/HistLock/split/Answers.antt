@@ -13,6 +13,7 @@ pub split_seat-seat-requires : goal.split_seat-seat-requires
 split_seat-seat-requires g c = let same = c.load.ensures.2.0 in (
   search rules,
   search rules,
-  splits_pass g.T.Storied.events g.T.Storied.session g.T.Storied.origin _ _ _ (ap (λ m. m.0.live) same ∙ c.opener.invariant.live) (ap (λ m. m.0.id) same ∙ (ap (λ k. k.id) c.opener.view_is ∙ c.requires.opener))
+  splits_pass g.T.Storied.events g.T.Storied.session g.T.Storied.origin _ _ _ (ap (λ m. m.0.live) same ∙ c.opener.invariant.live) (ap (λ m. m.0.id) same
+      ∙ (ap (λ k. k.id) c.opener.view_is ∙ c.requires.opener))
       (ap (λ m. m.0.inside) same ∙ (ap (λ k. k.inside) c.opener.view_is ∙ c.requires.outside)),
 )

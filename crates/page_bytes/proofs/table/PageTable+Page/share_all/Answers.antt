@@ -16,7 +16,8 @@ loop-id-init c =
       tt,
       IsShared-start c.args.self.now more c.into_iter-id-iterator.result
           (λ q. seen q ∙ map.get-from_entries page_cmp-total tree.entries q ∙ ap (find page_cmp q) (sym gives.0))
-          (subst (AllFound more) (sym gives.0) (AllFound-from more tree.entries (λ k d within. seen _ ∙ get-map_of page_cmp-total tree _ ∙ gives.6 k d within))),
+          (subst (AllFound more) (sym gives.0)
+          (AllFound-from more tree.entries (λ k d within. seen _ ∙ get-map_of page_cmp-total tree _ ∙ gives.6 k d within))),
     )
 
 pub loop-id-preserved : goal.loop-id-preserved
@@ -24,10 +25,12 @@ loop-id-preserved c =
     let old = c.args.self.now in let more = c.args.more.now in let id = c.in-Some.id.now in let page = c.in-Some.page.now in (
       tt,
       tt,
-      IsShared-next old more c.loop-id.self c.insert.new.self id page c.next.new.self (subst (IsShared old more c.loop-id.self) c.in-Some.ensures.steps c.loop-id.invariant.2)
+      IsShared-next old more c.loop-id.self c.insert.new.self id page c.next.new.self
+          (subst (IsShared old more c.loop-id.self) c.in-Some.ensures.steps c.loop-id.invariant.2)
           (c.in_ok-insert.ensures.ok ∙ ap (map.insert c.loop-id.self id) c.in_ok-copy.ensures),
     )
 
 pub returns-clause-ok : goal.returns-clause-ok
 returns-clause-ok c =
-    IsShared-end c.args.self.now c.args.more.now c.loop-id.self (subst (IsShared c.args.self.now c.args.more.now c.loop-id.self) c.in-None.ensures.steps.0 c.loop-id.invariant.2)
+    IsShared-end c.args.self.now c.args.more.now c.loop-id.self
+    (subst (IsShared c.args.self.now c.args.more.now c.loop-id.self) c.in-None.ensures.steps.0 c.loop-id.invariant.2)

@@ -12,6 +12,7 @@ pub returns : goal.returns
 returns g c =
     let space = c.args.space in
     let kept : c.retain.new.self.entries ≡ filter (λ e. not (is_in space e.0)) c.self.inside.entries.entries =
-    filter_from_retain_pairs _ (λ f. f.0.now ≡ space) (λ e. not (is_in space e.0)) (λ f k v b w f' i t. let shows = t.shows in let leaves = t.leaves in let called = t.called in (search rules, search rules, search rules)) _ _ _ refl c.retain.ensures.filtered in
+    filter_from_retain_pairs _ (λ f. f.0.now ≡ space) (λ e. not (is_in space e.0)) (λ f k v b w f' i t. let shows = t.shows in let leaves = t.leaves in
+    let called = t.called in (search rules, search rules, search rules)) _ _ _ refl c.retain.ensures.filtered in
     map_of-filter page_cmp-total page_cmp-exact c.self.inside.entries c.retain.new.self (λ (id : PageId). not (is_in space id)) kept
     ∙ ap (λ m. map.retain_keys m (λ id. not (is_in space id))) c.self.view_is

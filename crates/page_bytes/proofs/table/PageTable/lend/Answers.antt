@@ -12,14 +12,20 @@ lent (Some r) some = refl
 
 pub unwrap-requires : goal.unwrap-requires
 unwrap-requires g c =
-    let is : option_copied_mut c.get_mut.result ≡ map.get c.args.self.now c.args.id = c.get_mut.ensures.value ∙ sym (get-map_of page_cmp-total c.self.inside.entries c.args.id) ∙ ap (λ m. map.get m c.args.id) c.self.view_is in
+    let is : option_copied_mut c.get_mut.result ≡ map.get c.args.self.now c.args.id = c.get_mut.ensures.value
+    ∙ sym (get-map_of page_cmp-total c.self.inside.entries c.args.id) ∙ ap (λ m. map.get m c.args.id) c.self.view_is in
     lent c.get_mut.result (subst IsSome (sym is) c.requires)
 
 pub returns : goal.returns
 returns g c =
     let id = c.args.id in let tree = c.self.inside.entries in
-    let is : option_copied_mut c.get_mut.result ≡ map.get c.args.self.now id = c.get_mut.ensures.value ∙ sym (get-map_of page_cmp-total tree id) ∙ ap (λ m. map.get m id) c.self.view_is in
+    let is : option_copied_mut c.get_mut.result ≡ map.get c.args.self.now id = c.get_mut.ensures.value ∙ sym (get-map_of page_cmp-total tree id)
+    ∙ ap (λ m. map.get m id) c.self.view_is in
     let some = subst IsSome (sym (sym (c.get_mut.ensures.value) ∙ is)) c.requires in (
-      (refl, λ w. map_of-insert page_cmp-total page_cmp-exact tree (c.get_mut.follows.lender w) id w ((c.get_mut.follows.holds w).3 some) ∙ ap (λ m. map.insert m id w) c.self.view_is),
+      (
+        refl,
+        λ w. map_of-insert page_cmp-total page_cmp-exact tree (c.get_mut.follows.lender w) id w ((c.get_mut.follows.holds w).3 some)
+            ∙ ap (λ m. map.insert m id w) c.self.view_is,
+      ),
       record { writes_back = tt; value = sym is ∙ ap option_copied_mut c.unwrap.ensures },
     )

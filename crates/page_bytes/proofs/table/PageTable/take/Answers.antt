@@ -8,5 +8,6 @@ pub returns : goal.returns
 returns g c =
     let tree = c.self.inside.entries in record {
       value = c.remove.ensures.value ∙ sym (get-map_of page_cmp-total tree c.args.id) ∙ ap (λ m. map.get m c.args.id) c.self.view_is;
-      removed = map_of-remove page_cmp-total page_cmp-exact tree c.remove.new.self c.args.id c.remove.ensures.updates ∙ ap (λ m. map.remove m c.args.id) c.self.view_is;
+      removed = map_of-remove page_cmp-total page_cmp-exact tree c.remove.new.self c.args.id c.remove.ensures.updates
+          ∙ ap (λ m. map.remove m c.args.id) c.self.view_is;
     }

@@ -20,7 +20,8 @@ same_left None p then = then p
 same_left (Some x) p then = tt
 
 -- where one was taken out there are fewer
-fewer_left : {X : Type 0} (m n : map.FinMap page_cmp X) (r : Option (PageId × X)) → IfSome r (λ e. map.get m e.0 ≡ Some e.1) → IfSome r (λ e. n ≡ map.remove m e.0) → OnSome r (map.len n < map.len m)
+fewer_left : {X : Type 0} (m n : map.FinMap page_cmp X) (r : Option (PageId × X)) → IfSome r (λ e. map.get m e.0 ≡ Some e.1)
+    → IfSome r (λ e. n ≡ map.remove m e.0) → OnSome r (map.len n < map.len m)
 fewer_left m n None there removed = tt
 fewer_left m n (Some e) there removed = subst (λ k. map.len k < map.len m) (sym removed) (len-removed m e.0 e.1 there)
 
@@ -29,9 +30,13 @@ returns g c =
     let tree = c.self.inside.entries in record {
       none = none_left c.pop_first.result tree.entries c.pop_first.ensures.variant (λ is. sym c.self.view_is ∙ ap map.from_entries is);
       still = same_left c.pop_first.result c.pop_first.ensures.unchanged (λ is. ap map.from_entries is ∙ c.self.view_is);
-      value = IfSome_then c.pop_first.result c.pop_first.ensures.value (λ e is. ap (λ m. map.get m e.0) (sym c.self.view_is) ∙ get-map_of page_cmp-total tree e.0 ∙ is);
-      removed = IfSome_then c.pop_first.result c.pop_first.ensures.updates (λ e is. map_of-remove page_cmp-total page_cmp-exact tree c.pop_first.new.self e.0 is ∙ ap (λ m. map.remove m e.0) c.self.view_is);
+      value = IfSome_then c.pop_first.result c.pop_first.ensures.value (λ e is. ap (λ m. map.get m e.0) (sym c.self.view_is)
+          ∙ get-map_of page_cmp-total tree e.0 ∙ is);
+      removed = IfSome_then c.pop_first.result c.pop_first.ensures.updates (λ e is. map_of-remove page_cmp-total page_cmp-exact tree c.pop_first.new.self e.0 is
+          ∙ ap (λ m. map.remove m e.0) c.self.view_is);
       fewer = fewer_left c.args.self.now (map_of c.pop_first.new.self) c.pop_first.result
-          (IfSome_then c.pop_first.result c.pop_first.ensures.value (λ e is. ap (λ m. map.get m e.0) (sym c.self.view_is) ∙ get-map_of page_cmp-total tree e.0 ∙ is))
-          (IfSome_then c.pop_first.result c.pop_first.ensures.updates (λ e is. map_of-remove page_cmp-total page_cmp-exact tree c.pop_first.new.self e.0 is ∙ ap (λ m. map.remove m e.0) c.self.view_is));
+          (IfSome_then c.pop_first.result c.pop_first.ensures.value (λ e is. ap (λ m. map.get m e.0) (sym c.self.view_is) ∙ get-map_of page_cmp-total tree e.0
+          ∙ is))
+          (IfSome_then c.pop_first.result c.pop_first.ensures.updates (λ e is. map_of-remove page_cmp-total page_cmp-exact tree c.pop_first.new.self e.0 is
+          ∙ ap (λ m. map.remove m e.0) c.self.view_is));
     }

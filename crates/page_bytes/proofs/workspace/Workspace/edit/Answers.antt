@@ -27,7 +27,8 @@ lend-requires-2 c =
 pub returns : goal.returns
 returns c =
     let i = c.self.inside in let id = c.args.id in let draft = c.in_ok-draft.draft in
-    let was : Some c.lend-2.result.now ≡ Some draft = sym c.lend-2.ensures.value ∙ ap (λ d. map.get d id) c.in_ok-insert.ensures.ok ∙ get-inserted i.drafts id draft in (
+    let was : Some c.lend-2.result.now ≡ Some draft = sym c.lend-2.ensures.value ∙ ap (λ d. map.get d id) c.in_ok-insert.ensures.ok
+    ∙ get-inserted i.drafts id draft in (
       (λ j. inl (
         c.lend-2.result.ghost_name,
         λ w. (ap (λ d. work_of i.below (map.insert d id w) i.gone i.whole) c.in_ok-insert.ensures.ok
@@ -36,7 +37,8 @@ returns c =
       )),
       record {
         writes_back = tt;
-        refused = RefusedBy-ok (edit_refusal c.args.self.now.now id) draft c.lend-2.result (subst (λ (w : Work). RefusedBy {X = List ℕ} (edit_refusal w.now id) (Ok draft)) c.self.view_is c.in_ok-draft.ensures.refused);
+        refused = RefusedBy-ok (edit_refusal c.args.self.now.now id) draft c.lend-2.result
+            (subst (λ (w : Work). RefusedBy {X = List ℕ} (edit_refusal w.now id) (Ok draft)) c.self.view_is c.in_ok-draft.ensures.refused);
         first = ap (λ o. unwrap_or o draft) was ∙ c.in_ok-draft.ensures.first ∙ ap (λ (w : Work). first_bytes w.now id) c.self.view_is;
       },
     )

@@ -11,6 +11,7 @@ invariant_of-self-2 c =
     let joined : c.push_reserved.new.self.items ≡ old.done.items ++ Synced file ∷ [] = search rules in
     let disk = disk_synced first old.done.items c.push_reserved.new.self.items file joined in
     record {
-      held = c.in_ok-sync_versions.ensures.ok ∙ (ap (λ (h : Held). held_after_sync h file) old.held ∙ (sym (held_by-after_sync (disk_after first old.done.items) file) ∙ ap held_by (sym disk)));
+      held = c.in_ok-sync_versions.ensures.ok
+          ∙ (ap (λ (h : Held). held_after_sync h file) old.held ∙ (sym (held_by-after_sync (disk_after first old.done.items) file) ∙ ap held_by (sym disk)));
       bounded = subst (λ (c : Image). IsBounded c) (sym (ap now_of disk ∙ now_synced (disk_after first old.done.items) file)) old.bounded;
     }

@@ -10,19 +10,26 @@ pub returns-clause-durable : goal.returns-clause-durable
 returns-clause-durable c = on_ok c.try_sync.result _ _ (synced_durable c.args.file _ _ _ _ (ap image_of c.try_sync.ensures.first)) c.try_sync.ensures.ok
 
 pub returns-clause-contents : goal.returns-clause-contents
-returns-clause-contents c = on_ok c.try_sync.result _ _ (λ joined. ap Some (synced_now c.args.file _ _ _ _ (ap image_of c.try_sync.ensures.first) joined)) c.try_sync.ensures.ok
+returns-clause-contents c =
+    on_ok c.try_sync.result _ _ (λ joined. ap Some (synced_now c.args.file _ _ _ _ (ap image_of c.try_sync.ensures.first) joined)) c.try_sync.ensures.ok
 
 pub returns-clause-failed : goal.returns-clause-failed
-returns-clause-failed c = on_err c.try_sync.result _ _ (λ same. same_file _ _ _ _ (ap image_of c.try_sync.ensures.first) same c.args.file) c.try_sync.ensures.err
+returns-clause-failed c =
+    on_err c.try_sync.result _ _ (λ same. same_file _ _ _ _ (ap image_of c.try_sync.ensures.first) same c.args.file) c.try_sync.ensures.err
 
 pub returns-clause-crash : goal.returns-clause-crash
-returns-clause-crash c = ⊎_elim (synced_crash c.args.file _ _ _ _ (ap image_of c.try_sync.ensures.first)) (λ same. (same_images _ _ _ _ (ap image_of c.try_sync.ensures.first) same).0)
+returns-clause-crash c =
+    ⊎_elim (synced_crash c.args.file _ _ _ _ (ap image_of c.try_sync.ensures.first))
+    (λ same. (same_images _ _ _ _ (ap image_of c.try_sync.ensures.first) same).0)
     (either c.try_sync.result _ _ c.try_sync.ensures.ok c.try_sync.ensures.err)
 
 pub returns-clause-others : goal.returns-clause-others
-returns-clause-others c = ⊎_elim (synced_others c.args.file _ _ _ _ (ap image_of c.try_sync.ensures.first)) (λ same. same_others _ _ _ _ (ap image_of c.try_sync.ensures.first) same c.args.file)
+returns-clause-others c =
+    ⊎_elim (synced_others c.args.file _ _ _ _ (ap image_of c.try_sync.ensures.first))
+    (λ same. same_others _ _ _ _ (ap image_of c.try_sync.ensures.first) same c.args.file)
     (either c.try_sync.result _ _ c.try_sync.ensures.ok c.try_sync.ensures.err)
 
 pub returns-clause-time : goal.returns-clause-time
-returns-clause-time c = ⊎_elim (synced_time c.args.file _ _ _ _ (ap image_of c.try_sync.ensures.first)) (same_time _ _ _ _ (ap image_of c.try_sync.ensures.first))
+returns-clause-time c = ⊎_elim (synced_time c.args.file _ _ _ _ (ap image_of c.try_sync.ensures.first))
+    (same_time _ _ _ _ (ap image_of c.try_sync.ensures.first))
     (either c.try_sync.result _ _ c.try_sync.ensures.ok c.try_sync.ensures.err)

@@ -6,5 +6,6 @@ open_snapshot-requires c = newest_upto c.self.inside.versions c.self.inside.newe
 
 pub invariant_of-self : goal.invariant_of-self
 invariant_of-self c =
-    upto_opened c.self.inside.versions c.open_snapshot.new.self c.self.inside.newest c.open_snapshot.result c.self.invariant c.open_snapshot.ensures.opened c.open_snapshot.ensures.others
+    upto_opened c.self.inside.versions c.open_snapshot.new.self c.self.inside.newest c.open_snapshot.result c.self.invariant c.open_snapshot.ensures.opened
+    c.open_snapshot.ensures.others
     c.open_snapshot.ensures.chains c.open_snapshot.ensures.staged c.open_snapshot.ensures.err

@@ -11,4 +11,5 @@ in_slot-requires c =
 
 pub invariant_of-self : goal.invariant_of-self
 invariant_of-self c =
-    subst (λ (k : Kept). IsUpTo k c.self.inside.newest) (sym c.in_slot.ensures) (upto_slot c.self.inside.versions c.self.inside.newest c.args.id c.args.slot c.self.invariant)
+    subst (λ (k : Kept). IsUpTo k c.self.inside.newest) (sym c.in_slot.ensures)
+    (upto_slot c.self.inside.versions c.self.inside.newest c.args.id c.args.slot c.self.invariant)

@@ -15,5 +15,6 @@ pub invariant_of-self-2 : goal.invariant_of-self-2
 invariant_of-self-2 c = record {
   tied = λ bytes. c.in_ok-remember.ensures.ok bytes ∙ (ap (λ b. b || bytes_eq c.args.attr.name bytes) (c.args.self.now.tied bytes)
       ∙ sym (ap (has_attribute bytes) (ap (drop 16) (c.push_in_room-2.ensures.items ∙ ap (λ l. l ++ c.args.attr ∷ []) c.in_ok-reserve.ensures.items))
-      ∙ many_more 16 bytes c.args.self.now.attrs.items c.args.attr (omega (arith, c.if-len-lt-FEW.false, c.len.ensures, ap length c.in_ok-reserve.ensures.items))));
+      ∙ many_more 16 bytes c.args.self.now.attrs.items c.args.attr
+      (omega (arith, c.if-len-lt-FEW.false, c.len.ensures, ap length c.in_ok-reserve.ensures.items))));
 }

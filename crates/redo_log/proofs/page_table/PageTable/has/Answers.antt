@@ -5,4 +5,5 @@ use Rattle.page_bytes.proofs.Tables.{get-map_of}
 use Rattle.redo_log.proofs.page_table.PageTable.has.Goals as goal
 
 pub returns : goal.returns
-returns c = c.contains_key.ensures ∙ ap is_some (sym (get-map_of page_cmp-total c.self.inside.pages c.args.id)) ∙ ap (λ m. map.contains_key m c.args.id) c.self.view_is
+returns c = c.contains_key.ensures ∙ ap is_some (sym (get-map_of page_cmp-total c.self.inside.pages c.args.id))
+    ∙ ap (λ m. map.contains_key m c.args.id) c.self.view_is

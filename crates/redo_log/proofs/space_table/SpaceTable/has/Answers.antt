@@ -5,4 +5,5 @@ use Rattle.page_bytes.proofs.Tables.{get-map_of}
 use Rattle.redo_log.proofs.space_table.SpaceTable.has.Goals as goal
 
 pub returns : goal.returns
-returns c = c.contains_key.ensures ∙ ap is_some (sym (get-map_of space_cmp-total c.self.inside.spaces c.args.space)) ∙ ap (λ m. map.contains_key m c.args.space) c.self.view_is
+returns c = c.contains_key.ensures ∙ ap is_some (sym (get-map_of space_cmp-total c.self.inside.spaces c.args.space))
+    ∙ ap (λ m. map.contains_key m c.args.space) c.self.view_is

@@ -14,5 +14,6 @@ pub returns : goal.returns
 returns c =
     let entries = c.self.inside.spaces.entries in
     c.any_of_commit.ensures.found
-    ∙ (ap (λ es. list_any (λ (s : Space). s.commit == c.args.commit) (keys_of es)) (sym (entries-from_entries space_cmp space_cmp-total entries c.any_of_commit.ensures.ordered))
+    ∙ (ap (λ es. list_any (λ (s : Space). s.commit == c.args.commit) (keys_of es))
+    (sym (entries-from_entries space_cmp space_cmp-total entries c.any_of_commit.ensures.ordered))
     ∙ ap (λ (m : Spaces). has_commit m c.args.commit) c.self.view_is)

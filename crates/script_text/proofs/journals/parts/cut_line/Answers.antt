@@ -6,7 +6,8 @@ use Rattle.script_text.proofs.journals.parts.cut_line.Goals as goal
 
 -- the same by cases, in this crate's words
 parts : (bs : List ℕ) (r : Option (Bor (List ℕ) × Bor (List ℕ)))
-    → MatchOption r ((i : ℕ) → i < length bs → get_or bs i 0 ≢ 10) (λ x. (bs ≡ x.0.now ++ (10 ∷ x.1.now)) × ((i : ℕ) → i < length x.0.now → get_or x.0.now i 0 ≢ 10))
+    → MatchOption r ((i : ℕ) → i < length bs → get_or bs i 0 ≢ 10)
+    (λ x. (bs ≡ x.0.now ++ (10 ∷ x.1.now)) × ((i : ℕ) → i < length x.0.now → get_or x.0.now i 0 ≢ 10))
     → MatchOption r (IsPlain bs) (λ x. IsCutLine bs x.0.now x.1.now)
 parts bs None lacks = plain_by_index bs lacks
 parts bs (Some x) both = record { whole = both.0; plain = plain_by_index x.0.now both.1 }

@@ -14,8 +14,10 @@ loop-before-preserved c =
     let rest : c.loop-before.rest.now ≡ c.in-Some.before.now ++ 39 ∷ (39 ∷ c.in-Some-behind.next.now) =
     c.in-Some.ensures.whole ∙ ap (λ r. c.in-Some.before.now ++ 39 ∷ r) c.in-Some-behind.ensures in
     let both : IsUtf8 ((c.loop-before.name ++ c.in-Some.before.now) ++ 39 ∷ []) =
-    IsUtf8-append (c.loop-before.name ++ c.in-Some.before.now) (39 ∷ []) (IsUtf8-append c.loop-before.name c.in-Some.before.now c.loop-before.invariant.1 before) quote_utf8 in
-    let on = name_goes_on c.loop-before.name c.loop-before.rest.now c.in-Some.before.now c.in-Some-behind.next.now c.args.text.now rest c.in-Some.ensures.first c.loop-before.invariant.2 in
+    IsUtf8-append (c.loop-before.name ++ c.in-Some.before.now) (39 ∷ [])
+    (IsUtf8-append c.loop-before.name c.in-Some.before.now c.loop-before.invariant.1 before) quote_utf8 in
+    let on = name_goes_on c.loop-before.name c.loop-before.rest.now c.in-Some.before.now c.in-Some-behind.next.now c.args.text.now rest c.in-Some.ensures.first
+    c.loop-before.invariant.2 in
     (search rules, subst IsUtf8 (sym name) both, ap (λ n. behind_name n (unquoted c.in-Some-behind.next.now)) name ∙ on)
 
 pub returns-in-None : goal.returns-in-None
@@ -23,7 +25,8 @@ returns-in-None c =
     let before : IsUtf8 c.in-Some.before.now = search rules in
     let name : c.push_str.new.self ≡ c.loop-before.name ++ c.in-Some.before.now = c.in_ok-push_str.ensures.ok in
     let both : IsUtf8 (c.loop-before.name ++ c.in-Some.before.now) = IsUtf8-append c.loop-before.name c.in-Some.before.now c.loop-before.invariant.1 before in
-    let ends = name_ends c.loop-before.name c.loop-before.rest.now c.in-Some.before.now c.in-Some.more.now c.args.text.now c.in-Some.ensures.whole c.in-Some.ensures.first
+    let ends = name_ends c.loop-before.name c.loop-before.rest.now c.in-Some.before.now c.in-Some.more.now c.args.text.now c.in-Some.ensures.whole
+    c.in-Some.ensures.first
     (no_quote_first c.in-Some.more.now c.in-None.ensures) c.loop-before.invariant.2 in
     (subst IsUtf8 (sym name) both, ends ∙ ap (λ n. Some (n, c.in-Some.more.now)) (sym name))
 

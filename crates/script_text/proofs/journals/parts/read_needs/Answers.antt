@@ -16,9 +16,11 @@ returns-in_default-2 c = λ needs some.
 
 pub loop-more-preserved : goal.loop-more-preserved
 loop-more-preserved c =
-    let read : ReadsNeed (Some c.in-Some-2.next) c.in-Some-behind.more.now = subst (λ o. ReadsNeed o c.in-Some-behind.more.now) c.in-Some-2.is c.in_ok-next.ensures in
+    let read : ReadsNeed (Some c.in-Some-2.next) c.in-Some-behind.more.now =
+    subst (λ o. ReadsNeed o c.in-Some-behind.more.now) c.in-Some-2.is c.in_ok-next.ensures in
     let so = c.loop-more.invariant in
-    let more = need_read c.loop-more.needs c.in-Some-2.next.need c.loop-more.rest.now c.in-Some-behind.more.now c.in-Some-2.next.rest.now c.args.text.now so.1 so.2 so.3 c.in-Some-behind.ensures read.0 read.1 in
+    let more = need_read c.loop-more.needs c.in-Some-2.next.need c.loop-more.rest.now c.in-Some-behind.more.now c.in-Some-2.next.rest.now c.args.text.now so.1
+    so.2 so.3 c.in-Some-behind.ensures read.0 read.1 in
     let all = subst (λ ns. NeedsSoFar ns c.in-Some-2.next.rest.now c.args.text.now) (sym c.in_ok-push-2.ensures.ok) more in
     (search rules, all.0, all.1, all.2)
 

@@ -5,4 +5,5 @@ use Rattle.script_text.proofs.journals.pieces.send_doubled.Given as goal
 
 abbrev pub invariant-loop-byte : goal.invariant-loop-byte
 invariant-loop-byte g l =
-    Sent (doubled (take l.byte-index l.bytes)) (stage (g.W.Sink.written l.fn.to) (g.W.Sink.faults l.fn.to) l.fn.pending) (stage (g.W.Sink.written l.to) (g.W.Sink.faults l.to) l.pending)
+    Sent (doubled (take l.byte-index l.bytes)) (stage (g.W.Sink.written l.fn.to) (g.W.Sink.faults l.fn.to) l.fn.pending)
+    (stage (g.W.Sink.written l.to) (g.W.Sink.faults l.to) l.pending)

@@ -13,5 +13,6 @@ returns-in_default c =
 pub loop-rest-preserved : goal.loop-rest-preserved
 loop-rest-preserved c =
     let read : ReadsEvent (Some c.in-Some.next) c.loop-rest.rest.now = subst (λ o. ReadsEvent o c.loop-rest.rest.now) c.in-Some.is c.in_ok-next.ensures in
-    let more = read_more c.loop-rest.journal c.in-Some.next.event c.loop-rest.rest.now c.in-Some.next.rest.now c.args.text.now c.loop-rest.invariant.1 read.0 read.1 read.2 in
+    let more = read_more c.loop-rest.journal c.in-Some.next.event c.loop-rest.rest.now c.in-Some.next.rest.now c.args.text.now c.loop-rest.invariant.1 read.0
+    read.1 read.2 in
     (search rules, subst (λ j. ReadSoFar j c.in-Some.next.rest.now c.args.text.now) (sym c.in_ok-push.ensures.ok) more)

@@ -4,7 +4,9 @@ use Rattle.script_text.proofs.TextTells.{again_answered, no_utf8_tells}
 use Rattle.script_text.proofs.journals.reading.read_journal.Goals as goal
 
 pub returns-in-Ok-clause-again : goal.returns-in-Ok-clause-again
-returns-in-Ok-clause-again c = again_answered c.read_events.result c.args.bytes.now (subst (λ text. IfOk c.read_events.result (λ read. Tells text read)) c.in-Ok.ensures.cases.0 c.read_events.ensures)
+returns-in-Ok-clause-again c =
+    again_answered c.read_events.result c.args.bytes.now
+    (subst (λ text. IfOk c.read_events.result (λ read. Tells text read)) c.in-Ok.ensures.cases.0 c.read_events.ensures)
 
 pub returns-in-Err-clause-none : goal.returns-in-Err-clause-none
 returns-in-Err-clause-none c = λ none. no_utf8_tells c.args.bytes.now c.in-Err.ensures.cases.0

@@ -11,4 +11,5 @@ returns-in_default-behind c =
 pub returns-in-None : goal.returns-in-None
 returns-in-None c =
     let read : ReadsQuoted (Some c.in-Some.found) c.args.rest.now = subst (λ o. ReadsQuoted o c.args.rest.now) c.in-Some.is c.in_ok-found.ensures in
-    no_holder c.args.session c.in-Some.found.name c.in-Some.found.rest.now c.in-Some-behind.digits.now c.args.rest.now read.1 read.2 c.in-Some-behind.ensures (c.in-None.ensures.none refl)
+    no_holder c.args.session c.in-Some.found.name c.in-Some.found.rest.now c.in-Some-behind.digits.now c.args.rest.now read.1 read.2 c.in-Some-behind.ensures
+    (c.in-None.ensures.none refl)

@@ -6,7 +6,8 @@ use Rattle.script_text.proofs.journals.writing.send_answer.Goals as goal
 pub returns-in_err-send_numbered : goal.returns-in_err-send_numbered
 returns-in_err-send_numbered g c =
     failed c.from_residual.result c.from_residual.ensures.0
-    (broke_as _ _ (answer_parts c.len.result c.args.session c.args.lines.now c.len.ensures) (broke_before (text_of c.args.lines.now) c.in_err-send_numbered.ensures))
+    (broke_as _ _ (answer_parts c.len.result c.args.session c.args.lines.now c.len.ensures)
+    (broke_before (text_of c.args.lines.now) c.in_err-send_numbered.ensures))
 
 pub returns : goal.returns
 returns g c =

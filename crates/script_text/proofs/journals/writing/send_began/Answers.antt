@@ -8,4 +8,5 @@ pub returns-in-Updating : goal.returns-in-Updating
 returns-in-Updating g c =
     let kind = c.in-Updating.is in
     let session = c.from.ensures in
-    sends_as c.send_pieces.result _ _ _ _ (rw kind (rw session (sym (append_assoc (decimal c.args.session) (codes " began update") (10 ∷ []))))) c.send_pieces.ensures
+    sends_as c.send_pieces.result _ _ _ _
+    (rw kind (rw session (sym (append_assoc (decimal c.args.session) (codes " began update") (10 ∷ []))))) c.send_pieces.ensures

@@ -5,4 +5,5 @@ use Rattle.script_text.proofs.journals.writing.send_events.Given as goal
 
 abbrev pub invariant-loop-event : goal.invariant-loop-event
 invariant-loop-event g l =
-    Sent (text (take l.event-index l.fn.journal)) (stage (g.W.Sink.written l.fn.to) (g.W.Sink.faults l.fn.to) l.fn.pending) (stage (g.W.Sink.written l.to) (g.W.Sink.faults l.to) l.pending)
+    Sent (text (take l.event-index l.fn.journal)) (stage (g.W.Sink.written l.fn.to) (g.W.Sink.faults l.fn.to) l.fn.pending)
+    (stage (g.W.Sink.written l.to) (g.W.Sink.faults l.to) l.pending)

@@ -13,9 +13,11 @@ loop-word-preserved c =
 pub returns-in-Err : goal.returns-in-Err
 returns-in-Err c =
     let words = split_words-cut c.loop-word.rest.now c.in-Some.word.now c.in-Some.behind.now c.in-Some.ensures in
-    lists_as {T = Unit {0}} (Err c.in-Err.stop) c.loop-word.order c.args.order.now c.push_number.new.order (numbers c.args.most (c.in-Some.word.now ∷ split_words c.in-Some.behind.now)) _
+    lists_as {T = Unit {0}} (Err c.in-Err.stop) c.loop-word.order c.args.order.now c.push_number.new.order
+    (numbers c.args.most (c.in-Some.word.now ∷ split_words c.in-Some.behind.now)) _
     (ap (λ ws. with_more c.loop-word.order (numbers c.args.most ws)) (sym words) ∙ c.loop-word.invariant.1)
-    (lists_stop (Unit {0}) c.in-Err.stop c.loop-word.order c.push_number.new.order c.args.most c.in-Some.word.now (split_words c.in-Some.behind.now) c.in-Err.ensures)
+    (lists_stop (Unit {0}) c.in-Err.stop c.loop-word.order c.push_number.new.order c.args.most c.in-Some.word.now
+    (split_words c.in-Some.behind.now) c.in-Err.ensures)
 
 pub returns : goal.returns
 returns c =

@@ -16,5 +16,6 @@ invariant_of-self-2 c =
     let room : length c.push_reserved.new.self.items + (f.opened + 1) ≤ vec_capacity c.push_reserved.new.self = search rules in
     core_began_read _ _ _ _ _ _ _ _ _ c.self.invariant c.args.session
     (subst (λ (k : Kept). state c.args.session (past k) ≡ states.Idle) (sym c.self.view_is) c.requires.idle)
-    (subst (λ (k : Kept). Follows (events.Began c.args.session (kinds.Reading (newest_number k.base.numbers (past k)))) (past k)) (sym c.self.view_is) c.requires.follows)
+    (subst (λ (k : Kept). Follows (events.Began c.args.session (kinds.Reading (newest_number k.base.numbers (past k)))) (past k))
+    (sym c.self.view_is) c.requires.follows)
     _ _ _ more c.in_ok-set.ensures.ok room

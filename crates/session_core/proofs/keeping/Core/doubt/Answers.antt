@@ -21,5 +21,6 @@ invariant_of-self-2 c =
     (subst (λ (k : Kept). HasCommitLeft k.base.numbers (past k)) (sym c.self.view_is) c.requires.left)
     (subst (λ (k : Kept). c.args.forest ≡ forest_behind k.base c.args.session (past k)) (sym c.self.view_is) c.requires.forest)
     (subst (λ (k : Kept). IsNextMark (past k) c.args.mark) (sym c.self.view_is) c.requires.mark)
-    (subst (λ (k : Kept). Follows (events.Doubt c.args.session (next_number k.base.numbers (past k)) c.args.mark) (past k)) (sym c.self.view_is) c.requires.follows)
+    (subst (λ (k : Kept). Follows (events.Doubt c.args.session (next_number k.base.numbers (past k)) c.args.mark) (past k))
+    (sym c.self.view_is) c.requires.follows)
     _ _ _ more c.in_ok-set.ensures.ok room

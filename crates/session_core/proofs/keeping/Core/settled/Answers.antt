@@ -20,8 +20,10 @@ taken B before d u is doubt = subst (λ o. DoubtIs B before (pair_of o)) (sym is
 taken_valid : (d : _) (u : Unsettled) → Some u ≡ d → DoubtIsForest (pair_of d) → IsForest u.forest
 taken_valid d u is valid = subst (λ o. DoubtIsForest (pair_of o)) (sym is) valid
 
-may : (B : Base) (before : List Event) (by : ℕ) (stands : _) (s : ℕ) (F : Forest) → IsDoubt B before s F → CanSettle by stands before → MaySettle by s (state by before) × Follows (events.Settled by s stands) before
-may B before by stands s F is can = subst (λ o. IsSomeAnd o (λ s. MaySettle by s (state by before) × Follows (events.Settled by s stands) before)) is.in_doubt_is can
+may : (B : Base) (before : List Event) (by : ℕ) (stands : _) (s : ℕ) (F : Forest) → IsDoubt B before s F → CanSettle by stands before
+    → MaySettle by s (state by before) × Follows (events.Settled by s stands) before
+may B before by stands s F is can =
+    subst (λ o. IsSomeAnd o (λ s. MaySettle by s (state by before) × Follows (events.Settled by s stands) before)) is.in_doubt_is can
 
 pub overflow_sub-self : goal.overflow_sub-self
 overflow_sub-self c = doubt_counted _ _ _ _ _ _ _ _ _ c.self.invariant c.in-Some.unsettled.session c.in-Some.unsettled.forest
@@ -36,7 +38,10 @@ pub invariant_of-self-2 : goal.invariant_of-self-2
 invariant_of-self-2 c =
     let f = c.self.inside in let u = c.in-Some.unsettled in
     let is = taken _ _ _ u c.in-Some.ensures.value c.self.invariant.ties.doubt_is in
-    let can = may _ _ c.args.by c.args.stands u.session u.forest is (subst (λ (k : Kept). CanSettle c.args.by c.args.stands (past k)) (sym c.self.view_is) c.requires.doubt) in
+    let can = may _ _ c.args.by c.args.stands u.session u.forest is
+    (subst (λ (k : Kept). CanSettle c.args.by c.args.stands (past k)) (sym c.self.view_is) c.requires.doubt) in
     let kept : c.keep_if-self-inside.new.forests.items ≡ (if c.args.stands then f.forests.items ++ u.forest ∷ [] else f.forests.items) = search rules in
-    core_settled _ _ _ _ _ _ _ _ _ c.self.invariant c.args.by u.session c.args.stands u.forest (taken_valid _ u c.in-Some.ensures.value c.self.invariant.doubt_valid) is can.0 can.1
-    _ _ _ _ _ _ _ c.push_reserved.ensures.items c.push_reserved.ensures.capacity c.remove.ensures c.release.ensures kept c.keep_if-self-inside.ensures.number (ap pair_of c.in-Some.ensures.after)
+    core_settled _ _ _ _ _ _ _ _ _ c.self.invariant c.args.by u.session c.args.stands u.forest
+    (taken_valid _ u c.in-Some.ensures.value c.self.invariant.doubt_valid) is can.0 can.1
+    _ _ _ _ _ _ _ c.push_reserved.ensures.items c.push_reserved.ensures.capacity c.remove.ensures c.release.ensures kept c.keep_if-self-inside.ensures.number
+    (ap pair_of c.in-Some.ensures.after)

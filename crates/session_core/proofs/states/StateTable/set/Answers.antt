@@ -9,7 +9,8 @@ on_err (Err e) p = p
 
 pub returns-in_err-insert-clause-absent : goal.returns-in_err-insert-clause-absent
 returns-in_err-insert-clause-absent c =
-    on_err c.from_residual.result (sym (ap (λ m. map.get m c.args.session) c.self.view_is) ∙ get-map_of c.self.inside.sessions.entries c.args.session ∙ c.in_err-insert.ensures.absent)
+    on_err c.from_residual.result (sym (ap (λ m. map.get m c.args.session) c.self.view_is) ∙ get-map_of c.self.inside.sessions.entries c.args.session
+    ∙ c.in_err-insert.ensures.absent)
 
 pub returns-clause-ok : goal.returns-clause-ok
 returns-clause-ok c =

@@ -13,4 +13,5 @@ returns-clause-ready g c =
     let was : length new ≡ length c.as_mut_slice.result.now = c.for_each_mut.auto.s in
     let each : (k : ℕ) (d : Worker) → k < length new → Ready seen_as c.args.lock.now k (slice_index_or new k d) =
     λ k d lt. let t = (c.for_each_mut.ensures k d (omega arith)).1 in subst (Ready seen_as c.args.lock.now k) t.left t.call in
-    subst (λ (ws : List Worker). AllReady seen_as c.args.lock.now ws) (sym (take_at new (drop (length new) c.args.workers.now.items) c.args.workers.now.len long)) each
+    subst (λ (ws : List Worker). AllReady seen_as c.args.lock.now ws)
+    (sym (take_at new (drop (length new) c.args.workers.now.items) c.args.workers.now.len long)) each

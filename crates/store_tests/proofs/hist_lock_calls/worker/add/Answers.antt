@@ -6,4 +6,5 @@ pub returns-clause-mine : goal.returns-clause-mine
 returns-clause-mine g c =
     let v = c.enter-held.ensures.pass in
     adds_one c.add-done.result c.value.result.now.entries.items c.add-done.new.self.entries.items c.args.pass.now.mine _ c.args.entry c.add-done.ensures.entries
-    (λ new is. c.leave.ensures.mine new (is ∙ (ap (λ x. x.entries.items ++ new) c.value.ensures.value ∙ ap (λ p. p.seen ++ new) (sym v))) ∙ ap (λ p. p.mine ++ new) v)
+    (λ new is. c.leave.ensures.mine new (is ∙ (ap (λ x. x.entries.items ++ new) c.value.ensures.value ∙ ap (λ p. p.seen ++ new) (sym v)))
+    ∙ ap (λ p. p.mine ++ new) v)

@@ -10,7 +10,8 @@ use Rattle.xml_model.proofs.changes.DocChanges.seen.Goals as goal
 pub returns-in-Some-clause-document : goal.returns-in-Some-clause-document
 returns-in-Some-clause-document c =
     c.shown.ensures
-    ∙ ap (λ o. seen_as o (map.get c.args.base.now c.args.name.now)) (ap entry_of c.in-Some.ensures.value ∙ sym (get-entries c.self.inside.entries.entries c.as_str.result.now))
+    ∙ ap (λ o. seen_as o (map.get c.args.base.now c.args.name.now)) (ap entry_of c.in-Some.ensures.value
+    ∙ sym (get-entries c.self.inside.entries.entries c.as_str.result.now))
     ∙ ap (λ q. seen_as (map.get (changes_of_entries c.self.inside.entries.entries) q) (map.get c.args.base.now c.args.name.now)) c.as_str.ensures
     ∙ ap (λ v. seen_as (map.get v.changes c.args.name.now) (map.get c.args.base.now c.args.name.now)) c.self.view_is
     ∙ sym (get-laid c.args.self.now.changes c.args.base.now c.args.name.now)
@@ -24,7 +25,8 @@ returns-in-Some-clause-valid c =
 pub returns-in-None-clause-document : goal.returns-in-None-clause-document
 returns-in-None-clause-document c =
     c.get-in-None.ensures.document
-    ∙ ap (λ o. seen_as o (map.get c.args.base.now c.args.name.now)) (ap entry_of c.in-None.ensures.value ∙ sym (get-entries c.self.inside.entries.entries c.as_str.result.now))
+    ∙ ap (λ o. seen_as o (map.get c.args.base.now c.args.name.now)) (ap entry_of c.in-None.ensures.value
+    ∙ sym (get-entries c.self.inside.entries.entries c.as_str.result.now))
     ∙ ap (λ q. seen_as (map.get (changes_of_entries c.self.inside.entries.entries) q) (map.get c.args.base.now c.args.name.now)) c.as_str.ensures
     ∙ ap (λ v. seen_as (map.get v.changes c.args.name.now) (map.get c.args.base.now c.args.name.now)) c.self.view_is
     ∙ sym (get-laid c.args.self.now.changes c.args.base.now c.args.name.now)

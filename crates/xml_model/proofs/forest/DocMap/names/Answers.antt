@@ -13,5 +13,6 @@ returns c =
     ∙ ap (λ left. c.loop-name.names ++ names_in left) (sym none)
     ∙ c.loop-name.invariant
     ∙ ap names_in c.into_iter-name-iterator.ensures.into_iter_gives.0
-    ∙ names-sorted c.in_ok-all.all.entries c.sort_keys.new.self.entries c.sort_keys.ensures.reordered.0 c.sort_keys.ensures.unique c.in_ok-sort_keys.ensures.sorted
+    ∙ names-sorted c.in_ok-all.all.entries c.sort_keys.new.self.entries c.sort_keys.ensures.reordered.0 c.sort_keys.ensures.unique
+    c.in_ok-sort_keys.ensures.sorted
     ∙ ap map.keys (c.in_ok-all.ensures ∙ ap forest_of_layers c.deref.ensures.value ∙ c.self.view_is)

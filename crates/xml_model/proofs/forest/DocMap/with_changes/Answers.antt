@@ -14,4 +14,5 @@ invariant_of-result c =
 pub returns : goal.returns
 returns c =
     c.in_ok-add_some.ensures
-    ∙ (λ i. laid_over (c.changes.view_is i).changes ((layers-copy c.self.inside.layers.items c.in_ok-layers.layers.items c.in_ok-layers.ensures.cases.0 ∙ c.self.view_is) i))
+    ∙ (λ i. laid_over (c.changes.view_is i).changes
+    ((layers-copy c.self.inside.layers.items c.in_ok-layers.layers.items c.in_ok-layers.ensures.cases.0 ∙ c.self.view_is) i))
