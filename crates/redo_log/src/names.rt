@@ -173,13 +173,7 @@ pub fn names_at<'a>(
     let mut names = Vec::new(alloc);
     let mut rest = bytes;
     for _ in 0..count {
-        let (name, behind) = name_at(
-            alloc,
-            commit,
-            names.as_slice(),
-            store,
-            rest,
-        )?;
+        let (name, behind) = name_at(alloc, commit, names.as_slice(), store, rest)?;
         store.take_name(&name)?;
         names.push(name)?;
         rest = behind;

@@ -83,10 +83,7 @@ fn id_by_space<'a>(
     )?;
     let (ordinal, rest) = number_at(rest)?;
     let space = Space { commit, ordinal };
-    check(
-        is_next_space(done, space) && spaces.has(space),
-        bytes.len(),
-    )?;
+    check(is_next_space(done, space) && spaces.has(space), bytes.len())?;
     let (number, rest) = number_at(rest)?;
     let id = PageId { space, number };
     check(is_next_page(done, id), bytes.len())?;
