@@ -1,6 +1,5 @@
 -- Each document has a space of its own, and no other space is in use: a record that is taken keeps this.
 use Rattle.std.proofs.Common.{◌≡◌, ⊎_elim, inl, inr, ◌⊎◌, Bool, true, false, cond, not, is_some, List, [], ◌∷◌, ◌++◌, ℕ, Option, Some, None, refl, sym, ap, ◌∙◌, subst, true≢false}
-use Rattle.std.specs.Prelude.{IsTrue, ◌==◌, ◌&&◌}
 use Rattle.std.specs.Ordering.{nat_cmp, eq_by_cmp, is_eq}
 use Rattle.std.specs.declared.cmp.Ordering.{Ordering}
 use Rattle.std.specs.declared.cmp.Ordering.TheVariants.{Less, Equal, Greater}
@@ -19,7 +18,7 @@ use Rattle.redo_log.specs.declared.change.LogName.{LogName}
 use Rattle.redo_log.specs.declared.change.Change.{Change}
 use Rattle.redo_log.specs.declared.store.Store.{Store}
 use Rattle.redo_log.specs.Store.{entry_of, has_space, same_space, names_after, spaces_after, after_name, after_names, after}
-use Rattle.redo_log.specs.Taken.{IsNameTaken, AreNamesTaken, IsTaken, IsEntryTaken, AreOwn}
+use Rattle.redo_log.specs.Taken.{AreNamesTaken, IsTaken, IsEntryTaken, AreOwn}
 use Rattle.redo_log.specs.Reading.{is_space_of}
 use Rattle.redo_log.proofs.Again.{first_true, second_true}
 
