@@ -1,6 +1,6 @@
 -- What an append and a settling make of the bytes round a gate.
-use Rattle.std.proofs.Common.{◌≡◌, ℕ, ◌+◌, List, [], ◌∷◌, ◌++◌, length, take, drop, Bool, true, false, sym, ap, ◌∙◌, subst, arith, append_assoc, length-append}
-use Rattle.std.specs.Prelude.{◌↔◌, IsTrue, if◌then◌else◌, slice_index}
+use Rattle.std.proofs.Common.{◌≡◌, ℕ, ◌+◌, List, ◌∷◌, ◌++◌, length, take, drop, Bool, true, false, sym, ap, ◌∙◌, subst, arith, append_assoc, length-append}
+use Rattle.std.specs.Prelude.{if◌then◌else◌}
 use Rattle.page_device.specs.declared.device.Which.{Which}
 use Rattle.page_device.specs.Image.{Image, bytes_of}
 use Rattle.page_device.specs.Device.{FileIs}

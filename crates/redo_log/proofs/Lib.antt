@@ -9,5 +9,7 @@ pub mod Takes
 pub mod Found
 pub mod Again
 pub mod Opened
+pub mod Alike
+pub mod Own
 pub mod SpaceKeys
 pub mod BySpace

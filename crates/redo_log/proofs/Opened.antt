@@ -1,5 +1,5 @@
 -- What was read can be carried on: a store takes the records that it reads, and reads no others.
-use Rattle.std.proofs.Common.{◌≡◌, ◌⊎◌, ⊎_elim, ℕ, zero, suc, ◌+◌, ◌-◌, ◌<◌, ◌≤◌, ◌^◌, Bool, true, false, ltb, List, [], ◌∷◌, ◌++◌, length, take, drop, get_or, Option, Some, None, Result, Ok, Err, refl, sym, ap, subst, ◌∙◌, append_assoc, arith}
+use Rattle.std.proofs.Common.{◌≡◌, ◌⊎◌, ⊎_elim, ℕ, zero, suc, ◌+◌, ◌-◌, ◌<◌, ◌≤◌, ◌^◌, Bool, true, false, ltb, List, [], ◌∷◌, ◌++◌, length, take, drop, get_or, Option, Some, None, Ok, Err, refl, sym, ap, subst, ◌∙◌, append_assoc, arith}
 use Rattle.std.specs.Prelude.{nat_lt, ◌==◌, ◌&&◌, ◌||◌, is_some, IsTrue, All}
 use Rattle.std.specs.FinMap as map
 use Rattle.std.specs.List.{list_all}
@@ -19,7 +19,7 @@ use Rattle.redo_log.specs.Reading.{IsBytes, last_in, check, is_name, is_next_nam
 use Rattle.redo_log.specs.Taken.{IsEntryTaken, IsNameTaken, AreNamesTaken, IsImageTaken, IsPageTaken, ArePagesTaken, IsTaken, AreTaken}
 use Rattle.redo_log.proofs.Scans.{byte_is}
 use Rattle.redo_log.proofs.Again.{first_true, second_true}
-use Rattle.redo_log.proofs.Takes.{IsBytes-drop, bind_ok, check_ok, guard_ok, ok_is, number_takes, byte_takes, bytes_take, space_in, entry_1, entry_2, entry_3, entry_4, entry_5, entry_takes, name_1, name_2, name_3, name_4, name_5, name_6, name_7, name_8, name_takes, names_take, id_in, id_1, id_2, id_3, id_4, id_5, is_own, id_takes, page_1, page_2, page_3, page_4, page_5, page_takes, pages_take, body_1, body_2, body_3, body_4, body_5, body_6, body_takes, record_1, record_2, record_3, record_4, record_takes}
+use Rattle.redo_log.proofs.Takes.{bind_ok, check_ok, guard_ok, ok_is, number_takes, byte_takes, bytes_take, space_in, entry_1, entry_2, entry_3, entry_4, entry_5, name_1, name_2, name_3, name_4, name_5, name_6, name_7, name_8, name_takes, id_in, id_1, id_2, id_3, id_4, id_5, is_own, id_takes, page_1, page_2, page_3, page_4, page_5, page_takes, body_1, body_2, body_3, body_4, body_5, body_6, body_takes, record_1, record_2, record_3, record_4, record_takes}
 
 -- ---- fields
 

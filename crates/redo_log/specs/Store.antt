@@ -1,10 +1,8 @@
 -- What the records of a log stand on: the commit before the next record, the catalogue with its documents' spaces, and
 -- the pages that are there. What a record does to pages is told for any map of pages, whatever it has at a page: the pages
 -- that are there are one map, with nothing at each page, and the pages' images are another.
-use Rattle.std.specs.Prelude.{ℕ, Bool, not, ◌==◌, ◌&&◌, List, [], ◌∷◌, Option, Some, None}
+use Rattle.std.specs.Prelude.{◌≡◌, ℕ, Bool, not, ◌==◌, ◌&&◌, List, [], ◌∷◌, Option, Some, None}
 use Rattle.std.specs.List.{list_any}
-use Rattle.std.specs.Ordering.{nat_cmp}
-use Rattle.std.specs.Cmp.Lexicographic.{slice_cmp}
 use Rattle.std.specs.FinMap as map
 use Rattle.page_bytes.specs.declared.ids.Space.{Space}
 use Rattle.page_bytes.specs.declared.ids.PageId.{PageId}
@@ -81,6 +79,14 @@ module _ {V : Type 0} where
   -- what a record makes of pages, where the catalogue before it has these names
   abbrev pub pages_after : (List ℕ → V) → Change → Names → map.FinMap page_cmp V → map.FinMap page_cmp V
   pages_after seen c names pages = without_gone c.pages (with_images seen c.pages (pages_after_names c.names names pages))
+
+-- the maps have the same pages
+abbrev pub HaveSameKeys : {V W : Type 0} → map.FinMap page_cmp V → map.FinMap page_cmp W → Type 0
+HaveSameKeys a b = (id : PageId) → map.contains_key a id ≡ map.contains_key b id
+
+-- all of an image is seen
+abbrev pub whole_image : List ℕ → List ℕ
+whole_image page = page
 
 -- nothing of an image is seen
 abbrev pub no_image : List ℕ → Unit {0}

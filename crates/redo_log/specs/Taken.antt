@@ -1,8 +1,11 @@
 -- Which changes make a record on a store: those that reading takes.
-use Rattle.std.specs.Prelude.{◌≡◌, ℕ, ◌+◌, ◌<◌, ◌≤◌, ◌^◌, IsTrue, List, [], ◌∷◌, ◌++◌, length, Option, Some, None, is_some}
+use Rattle.std.specs.Prelude.{◌≡◌, ℕ, ◌+◌, ◌<◌, ◌≤◌, ◌^◌, IsTrue, List, [], ◌∷◌, ◌++◌, length, Option, Some, None, is_some, true}
 use Rattle.std.specs.List.{list_all}
 use Rattle.std.specs.FinMap as map
+use Rattle.page_bytes.specs.declared.ids.Space.{Space}
 use Rattle.page_bytes.specs.declared.ids.DocEntry.{DocEntry}
+use Rattle.page_bytes.specs.Known.{Spaces}
+use Rattle.redo_log.specs.Names.{Names}
 use Rattle.page_bytes.specs.declared.ids.PageId.{PageId}
 use Rattle.page_bytes.specs.declared.lists.PageChange.{PageChange}
 use Rattle.redo_log.specs.declared.change.LogName.{LogName}
@@ -11,6 +14,12 @@ use Rattle.redo_log.specs.declared.store.Store.{Store}
 use Rattle.redo_log.specs.Record.{body_of}
 use Rattle.redo_log.specs.Store.{entry_of, has_space, has_commit, after_name, after_names, with_images, no_image, after}
 use Rattle.redo_log.specs.Reading.{last_in, is_name, is_next_name, is_commit_of, is_space_of, is_next_commit, is_next_space, is_next_page, has_home, is_no_head}
+
+-- each document has a space of its own, and no other space is in use
+pub record AreOwn (names : Names) (spaces : Spaces) : Type 0 where
+  pub used : (name : List ℕ) (e : DocEntry) → entry_of name names ≡ Some e → has_space spaces e.space ≡ true
+  pub own : (n m : List ℕ) (e f : DocEntry) → entry_of n names ≡ Some e → entry_of m names ≡ Some f → e.space ≡ f.space → n ≡ m
+  pub no_other : (x : Space) → has_space spaces x ≡ true → (name : List ℕ) × (e : DocEntry) × (entry_of name names ≡ Some e) × (e.space ≡ x)
 
 -- a name that is dropped is there; a new document has a new space of this commit, and one that is there keeps its space
 abbrev pub IsEntryTaken : ℕ → Store → List ℕ → Option DocEntry → Type 0

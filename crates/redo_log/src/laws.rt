@@ -1,11 +1,13 @@
 //! The laws between the bytes of a record and its reading, and those by which a store that was read is carried on.
 ghost use Rattle.std.specs.Prelude.{◌≡◌, ◌≤◌, ℕ, List, All, [], ◌++◌, ◌∷◌, Ok, drop, length};
 ghost use Rattle.std.specs.List.{flat_map};
+ghost use Rattle.page_bytes.specs.Known.{PageIds, PageMap};
 ghost use Rattle.redo_log.specs.declared.change.Change.{Change};
 ghost use Rattle.redo_log.specs.declared.store.Store.{Store};
 ghost use Rattle.redo_log.specs.Record.{record_of};
-ghost use Rattle.redo_log.specs.Store.{after_all};
-ghost use Rattle.redo_log.specs.Taken.{IsTaken, AreTaken};
+ghost use Rattle.redo_log.specs.Store.{after, after_all, pages_after, HaveSameKeys, no_image, whole_image};
+ghost use Rattle.redo_log.specs.Names.{Names};
+ghost use Rattle.redo_log.specs.Taken.{AreOwn, IsTaken, AreTaken};
 ghost use Rattle.redo_log.specs.Reading.{IsBytes, IsClosed, AreRecords, IsRefused, record_at};
 
 /// What is read is spelled so, each byte of it. What is spelled is read again, where the store takes it; so are the
@@ -25,4 +27,12 @@ pub fn scan_laws()
     ensures one { (cs ds : List Change) (s : Store) (bytes end fin : List ℕ) → AreRecords s cs bytes end → AreRecords s ds bytes fin → (cs ≡ ds) × (end ≡ fin) }
     ensures sure { (cs ds : List Change) (s : Store) (bytes end : List ℕ) (left : ℕ) → AreRecords s cs bytes end → IsRefused s ds bytes left → ⊥ }
     ensures short { (s : Store) (c : Change) → IsTaken s c → All (λ n. length n.name ≤ 255) c.names }
+{}
+
+/// The pages that are there, and the images of pages, are two maps of which a record makes the same: the pages that are
+/// there stay those of which there is an image. The spaces that are in use stay those of the documents, one each.
+pub fn page_laws()
+    ensures store { (c : Change) (s : Store) → (after c s).pages ≡ pages_after no_image c s.names s.pages }
+    ensures keys { (c : Change) (names : Names) (ids : PageIds) (images : PageMap) → HaveSameKeys ids images → HaveSameKeys (pages_after no_image c names ids) (pages_after whole_image c names images) }
+    ensures own { (s : Store) (c : Change) → AreOwn s.names s.spaces → IsTaken s c → AreOwn (after c s).names (after c s).spaces }
 {}

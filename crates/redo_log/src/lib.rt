@@ -35,6 +35,6 @@ pub use change::{Change, LogChangeList, LogName, LogNameList};
 pub use end::{AppendEnd, LogEnd};
 pub use fault::ReadEnd;
 pub use fields::{byte_at, bytes_at, check, number_at};
-pub use laws::{record_laws, scan_laws};
+pub use laws::{page_laws, record_laws, scan_laws};
 pub use names::{is_name, text_of};
 pub use scanning::{LogBase, ScanEnd, Scanned, scan};

@@ -1,4 +1,4 @@
-use Rattle.std.proofs.Common.{◌+◌, List, ℕ, length, ap, ◌∙◌, refl, subst, rules}
+use Rattle.std.proofs.Common.{◌+◌, List, ℕ, length, ap, refl, subst, rules}
 use Rattle.std.specs.Prelude.{IfSome}
 use Rattle.page_device.specs.Device.{FileIs}
 use Rattle.page_device.specs.Run.{Each, LeavesOnly}

@@ -1,6 +1,5 @@
-use Rattle.std.proofs.Common.{List, ℕ, sym, ap, ◌∙◌}
+use Rattle.std.proofs.Common.{sym, ap, ◌∙◌}
 use Rattle.redo_log.specs.Store.{entry_of}
-use Rattle.redo_log.specs.Names.{Names}
 use Rattle.std.specs.BTreeMap as tree
 use Rattle.redo_log.proofs.NameMaps.{get-names_of}
 use Rattle.redo_log.proofs.catalogue.Catalogue.get.Goals as goal
