@@ -83,16 +83,19 @@ module _ (names : Names) (spaces : Spaces) (own : AreOwn names spaces) (name : L
   module _ (e : DocEntry) (is : entry_of name names ≡ Some e) where
     -- none that is left has the space of what was dropped
     other : (q : List ℕ) (f : DocEntry) → entry_of q (map.remove names name) ≡ Some f → f.space ≡ e.space → ⊥
-    other q f h same = no_some f _ ((removes nat_list_cmp_total names name).here q (itself nat_list_cmp_total q name (own.own q name f e (left q f h) is same))) h
+    other q f h same = no_some f _
+        ((removes nat_list_cmp_total names name).here q (itself nat_list_cmp_total q name (own.own q name f e (left q f h) is same))) h
 
     gone : (w : List ℕ) (f : DocEntry) → entry_of w names ≡ Some f → (f.space ≡ e.space → ⊥) → entry_of w (map.remove names name) ≡ Some f
     gone w f h apart = ⊎_elim
         (λ (u : eq_by_cmp (slice_cmp nat_cmp) w name ≡ true).
-        absurd (apart (ap (λ (z : DocEntry). z.space) (one_of (entry_of name names) f e (ap (λ (z : List ℕ). entry_of z names) (sym (ties exact_names w name u)) ∙ h) is))))
+        absurd (apart (ap (λ (z : DocEntry). z.space)
+        (one_of (entry_of name names) f e (ap (λ (z : List ℕ). entry_of z names) (sym (ties exact_names w name u)) ∙ h) is))))
         (λ (u : eq_by_cmp (slice_cmp nat_cmp) w name ≡ false). (removes nat_list_cmp_total names name).away w u ∙ h)
         (sure (eq_by_cmp (slice_cmp nat_cmp) w name))
 
-    found_less : (x : Space) → has_space (map.remove spaces e.space) x ≡ true → (m : List ℕ) × (f : DocEntry) × (entry_of m (map.remove names name) ≡ Some f) × (f.space ≡ x)
+    found_less : (x : Space) → has_space (map.remove spaces e.space) x ≡ true
+        → (m : List ℕ) × (f : DocEntry) × (entry_of m (map.remove names name) ≡ Some f) × (f.space ≡ x)
     found_less x there = ⊎_elim
         (λ (t : eq_by_cmp space_cmp x e.space ≡ true). absurd (true≢false (sym there ∙ ap is_some ((removes space_cmp-total spaces e.space).here x t))))
         (λ (t : eq_by_cmp space_cmp x e.space ≡ false).
@@ -105,7 +108,8 @@ module _ (names : Names) (spaces : Spaces) (own : AreOwn names spaces) (name : L
     drops = record {
       used = λ q f h. ⊎_elim
           (λ (t : eq_by_cmp space_cmp f.space e.space ≡ true). absurd (other q f h (ties space_cmp-exact f.space e.space t)))
-          (λ (t : eq_by_cmp space_cmp f.space e.space ≡ false). ap is_some ((removes space_cmp-total spaces e.space).away f.space t) ∙ own.used q f (left q f h))
+          (λ (t : eq_by_cmp space_cmp f.space e.space ≡ false). ap is_some ((removes space_cmp-total spaces e.space).away f.space t)
+          ∙ own.used q f (left q f h))
           (sure (eq_by_cmp space_cmp f.space e.space));
       own = λ q r f g h k same. own.own q r f g (left q f h) (left r g k) same;
       no_other = found_less;
@@ -115,44 +119,56 @@ module _ (names : Names) (spaces : Spaces) (own : AreOwn names spaces) (name : L
     -- what is there after a set is what was set, or was there
     at : (q : List ℕ) (f : DocEntry) → entry_of q (map.insert names name e) ≡ Some f → ((q ≡ name) × (f ≡ e)) ⊎ (entry_of q names ≡ Some f)
     at q f h = ⊎_elim
-        (λ (t : eq_by_cmp (slice_cmp nat_cmp) q name ≡ true). inl (ties exact_names q name t, one_of _ f e h ((inserts nat_list_cmp_total names name e).here q t)))
+        (λ (t : eq_by_cmp (slice_cmp nat_cmp) q name ≡ true). inl
+        (ties exact_names q name t, one_of _ f e h ((inserts nat_list_cmp_total names name e).here q t)))
         (λ (t : eq_by_cmp (slice_cmp nat_cmp) q name ≡ false). inr (sym ((inserts nat_list_cmp_total names name e).away q t) ∙ h))
         (sure (eq_by_cmp (slice_cmp nat_cmp) q name))
 
-    module _ (alone : (q : List ℕ) (f : DocEntry) → entry_of q names ≡ Some f → f.space ≡ e.space → q ≡ name) (keeps : (f : DocEntry) → entry_of name names ≡ Some f → f.space ≡ e.space) where
+    module _ (alone : (q : List ℕ) (f : DocEntry) → entry_of q names ≡ Some f → f.space ≡ e.space → q ≡ name) (keeps : (f : DocEntry)
+        → entry_of name names ≡ Some f → f.space ≡ e.space) where
       is_used : (q : List ℕ) (f : DocEntry) → ((q ≡ name) × (f ≡ e)) ⊎ (entry_of q names ≡ Some f) → has_space (map.insert spaces e.space tt) f.space ≡ true
-      is_used q f (inl z) = ap is_some ((inserts space_cmp-total spaces e.space tt).here f.space (itself space_cmp-total f.space e.space (ap (λ (y : DocEntry). y.space) z.1)))
+      is_used q f (inl z) = ap is_some
+          ((inserts space_cmp-total spaces e.space tt).here f.space (itself space_cmp-total f.space e.space (ap (λ (y : DocEntry). y.space) z.1)))
       is_used q f (inr z) = ⊎_elim
           (λ (t : eq_by_cmp space_cmp f.space e.space ≡ true). ap is_some ((inserts space_cmp-total spaces e.space tt).here f.space t))
           (λ (t : eq_by_cmp space_cmp f.space e.space ≡ false). ap is_some ((inserts space_cmp-total spaces e.space tt).away f.space t) ∙ own.used q f z)
           (sure (eq_by_cmp space_cmp f.space e.space))
 
-      is_own : (q r : List ℕ) (f g : DocEntry) → ((q ≡ name) × (f ≡ e)) ⊎ (entry_of q names ≡ Some f) → ((r ≡ name) × (g ≡ e)) ⊎ (entry_of r names ≡ Some g) → f.space ≡ g.space → q ≡ r
+      is_own : (q r : List ℕ) (f g : DocEntry) → ((q ≡ name) × (f ≡ e)) ⊎ (entry_of q names ≡ Some f) → ((r ≡ name) × (g ≡ e)) ⊎ (entry_of r names ≡ Some g)
+          → f.space ≡ g.space → q ≡ r
       is_own q r f g (inl z) (inl y) same = z.0 ∙ sym y.0
       is_own q r f g (inl z) (inr y) same = z.0 ∙ sym (alone r g y (sym same ∙ ap (λ (x : DocEntry). x.space) z.1))
       is_own q r f g (inr z) (inl y) same = alone q f z (same ∙ ap (λ (x : DocEntry). x.space) y.1) ∙ sym y.0
       is_own q r f g (inr z) (inr y) same = own.own q r f g z y same
 
-      still : (x : Space) (w : List ℕ) (f : DocEntry) → entry_of w names ≡ Some f → f.space ≡ x → eq_by_cmp space_cmp x e.space ≡ false → entry_of w (map.insert names name e) ≡ Some f
+      still : (x : Space) (w : List ℕ) (f : DocEntry) → entry_of w names ≡ Some f → f.space ≡ x → eq_by_cmp space_cmp x e.space ≡ false
+          → entry_of w (map.insert names name e) ≡ Some f
       still x w f h at_x t = ⊎_elim
           (λ (u : eq_by_cmp (slice_cmp nat_cmp) w name ≡ true).
-          absurd (true≢false (sym (itself space_cmp-total x e.space (sym at_x ∙ keeps f (ap (λ (z : List ℕ). entry_of z names) (sym (ties exact_names w name u)) ∙ h))) ∙ t)))
+          absurd (true≢false (sym (itself space_cmp-total x e.space (sym at_x
+          ∙ keeps f (ap (λ (z : List ℕ). entry_of z names) (sym (ties exact_names w name u)) ∙ h))) ∙ t)))
           (λ (u : eq_by_cmp (slice_cmp nat_cmp) w name ≡ false). (inserts nat_list_cmp_total names name e).away w u ∙ h)
           (sure (eq_by_cmp (slice_cmp nat_cmp) w name))
 
-      found_more : (x : Space) → has_space (map.insert spaces e.space tt) x ≡ true → (m : List ℕ) × (f : DocEntry) × (entry_of m (map.insert names name e) ≡ Some f) × (f.space ≡ x)
+      found_more : (x : Space) → has_space (map.insert spaces e.space tt) x ≡ true
+          → (m : List ℕ) × (f : DocEntry) × (entry_of m (map.insert names name e) ≡ Some f) × (f.space ≡ x)
       found_more x there = ⊎_elim
-          (λ (t : eq_by_cmp space_cmp x e.space ≡ true). (name, e, (inserts nat_list_cmp_total names name e).here name (itself nat_list_cmp_total name name refl), sym (ties space_cmp-exact x e.space t)))
+          (λ (t : eq_by_cmp space_cmp x e.space ≡ true).
+          (name, e, (inserts nat_list_cmp_total names name e).here name (itself nat_list_cmp_total name name refl), sym (ties space_cmp-exact x e.space t)))
           (λ (t : eq_by_cmp space_cmp x e.space ≡ false).
-          let w = own.no_other x (sym (ap is_some ((inserts space_cmp-total spaces e.space tt).away x t)) ∙ there) in (w.0, w.1, still x w.0 w.1 w.2 w.3 t, w.3))
+          let w = own.no_other x (sym (ap is_some ((inserts space_cmp-total spaces e.space tt).away x t)) ∙ there) in
+          (w.0, w.1, still x w.0 w.1 w.2 w.3 t, w.3))
           (sure (eq_by_cmp space_cmp x e.space))
 
       -- a set brings a new space with a new name, and else the name's own
       sets : AreOwn (map.insert names name e) (map.insert spaces e.space tt)
       sets = record { used = λ q f h. is_used q f (at q f h); own = λ q r f g h k same. is_own q r f g (at q f h) (at r g k) same; no_other = found_more }
 
-  set_by : (was : Option DocEntry) (e : DocEntry) → entry_of name names ≡ was → is_space_of was spaces e.space ≡ true → AreOwn (map.insert names name e) (map.insert spaces e.space tt)
-  set_by None e is fresh = sets e (λ q f h same. absurd (untrue (has_space spaces e.space) fresh (ap (has_space spaces) (sym same) ∙ own.used q f h))) (λ f h. absurd (no_some f _ is h))
+  set_by : (was : Option DocEntry) (e : DocEntry) → entry_of name names ≡ was → is_space_of was spaces e.space ≡ true
+      → AreOwn (map.insert names name e) (map.insert spaces e.space tt)
+  set_by None e is fresh =
+      sets e (λ q f h same. absurd (untrue (has_space spaces e.space) fresh (ap (has_space spaces) (sym same) ∙ own.used q f h)))
+      (λ f h. absurd (no_some f _ is h))
   set_by (Some d) e is same = let here = same_space_is d.space e.space same in
       sets e (λ q f h k. own.own q name f d h is (k ∙ sym here)) (λ f h. ap (λ (z : DocEntry). z.space) (one_of _ f d h is) ∙ here)
 
@@ -160,11 +176,13 @@ module _ (names : Names) (spaces : Spaces) (own : AreOwn names spaces) (name : L
   drop_by None is there = absurd (true≢false (sym there))
   drop_by (Some e) is there = drops e is
 
-name_keeps : (commit : ℕ) (s : Store) (name : List ℕ) (entry : Option DocEntry) → AreOwn s.names s.spaces → IsEntryTaken commit s name entry → AreOwn (names_after name entry s.names) (spaces_after (entry_of name s.names) entry s.spaces)
+name_keeps : (commit : ℕ) (s : Store) (name : List ℕ) (entry : Option DocEntry) → AreOwn s.names s.spaces → IsEntryTaken commit s name entry
+    → AreOwn (names_after name entry s.names) (spaces_after (entry_of name s.names) entry s.spaces)
 name_keeps commit s name None own t = drop_by s.names s.spaces own name (entry_of name s.names) refl t
 name_keeps commit s name (Some e) own t = set_by s.names s.spaces own name (entry_of name s.names) e refl t.3
 
-names_keep : (commit : ℕ) (done : List LogName) (s : Store) (ns : List LogName) → AreOwn s.names s.spaces → AreNamesTaken commit done s ns → AreOwn (after_names ns s).names (after_names ns s).spaces
+names_keep : (commit : ℕ) (done : List LogName) (s : Store) (ns : List LogName) → AreOwn s.names s.spaces → AreNamesTaken commit done s ns
+    → AreOwn (after_names ns s).names (after_names ns s).spaces
 names_keep commit done s [] own t = own
 names_keep commit done s (n ∷ ns) own t = names_keep commit (done ++ n ∷ []) (after_name n s) ns (name_keeps commit s n.name n.entry own t.0.entry) t.1
 

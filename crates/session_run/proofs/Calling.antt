@@ -80,7 +80,8 @@ statement_open (Reading n) call certain statement passes = refl
 statement_open InDoubt call certain statement passes = absurd (certain refl)
 
 -- a call that begins and ends nothing and makes no checkpoint is a statement
-pub statement_of : (call : Call) → (call ≡ Begin → ⊥) → (call ≡ BeginRead → ⊥) → (call ≡ Commit → ⊥) → (call ≡ Rollback → ⊥) → (call ≡ Checkpoint → ⊥) → IsTrue (is_statement call)
+pub statement_of : (call : Call) → (call ≡ Begin → ⊥) → (call ≡ BeginRead → ⊥) → (call ≡ Commit → ⊥) → (call ≡ Rollback → ⊥) → (call ≡ Checkpoint → ⊥)
+    → IsTrue (is_statement call)
 statement_of Begin a b c d e = absurd (a refl)
 statement_of BeginRead a b c d e = absurd (b refl)
 statement_of Commit a b c d e = absurd (c refl)
@@ -127,7 +128,8 @@ none_left B before n is full = omega arith
 
 -- ---- a reader
 
-not_updating_by : (doubt : Bool) (t : Transaction) (kind : BeginKind) → IsTrue (is_reading (if doubt then InDoubt else state_in kind)) → where_updating t kind ≡ []
+not_updating_by : (doubt : Bool) (t : Transaction) (kind : BeginKind) → IsTrue (is_reading (if doubt then InDoubt else state_in kind))
+    → where_updating t kind ≡ []
 not_updating_by true t kind is = absurd (true≢false (sym is))
 not_updating_by false t kinds.Updating is = absurd (true≢false (sym is))
 not_updating_by false t (kinds.Reading n) is = refl
@@ -141,11 +143,20 @@ module _ (B : Base) (s : ℕ) (before : List Event) (changes : ChangeMap) (tied 
   none_reading reading = subst (AreChangesOf B before changes) (not_updating (open_of s before) reading) tied
 
   -- what a reader is answered
-  pub read_right : (call : Call) (effect : Effect) (F : Forest) → F ≡ forest_in B before (state s before) → IsTrue (is_reading (state s before)) → IsTrue (is_statement call)
+  pub read_right : (call : Call) (effect : Effect) (F : Forest) → F ≡ forest_in B before (state s before) → IsTrue (is_reading (state s before))
+      → IsTrue (is_statement call)
       → refused_in (state s before) (work_of call) ≡ None → IsEffect call changes F effect → IsAnswerInMemory B s before (Some call) effect.says
   read_right call effect F is reading statement passes so = let at = reading_at (state s before) reading in
       ran_right B s before (Reading at.number) call effect.says at.is statement
-      (λ told. answers.AnswersInOrder.runs_reading (record { statement = statement; number = at.number; reading = at.is; passes = subst (λ x. refused_in x (work_of call) ≡ None) at.is passes; told = told }))
+      (λ told. answers.AnswersInOrder.runs_reading
+      (record {
+        statement = statement;
+        number = at.number;
+        reading = at.is;
+        passes = subst (λ x. refused_in x (work_of call) ≡ None) at.is passes;
+        told =
+            told;
+      }))
       (so.says ∙ ap (λ G. says_of (stmt G call).says) (ap (λ c. laid_over c F) (none_reading reading) ∙ laid-none F ∙ is ∙ ap (forest_in B before) at.is))
 
   -- ---- an updating transaction
@@ -159,7 +170,8 @@ module _ (B : Base) (s : ℕ) (before : List Event) (changes : ChangeMap) (tied 
       let are : updating (open_of s before) ≡ o.transaction ∷ [] = updating_is (open_of s before) o.transaction o.is o.kind_is in
       ap (serial (newest B before)) are ∙ updating_tied o.transaction are (newest B before) (agree_itself o.transaction.locks (newest B before))
 
-  module _ (call : Call) (effect : Effect) (is : state s before ≡ Updating) (granted : AreGranted s (needs call) before) (statement : IsTrue (is_statement call))
+  module _ (call : Call) (effect : Effect) (is : state s before ≡ Updating) (granted : AreGranted s (needs call) before)
+      (statement : IsTrue (is_statement call))
       (so : IsEffect call changes (newest B before) effect) where
     -- what a statement is answered there
     pub update_right : refused_in Updating (work_of call) ≡ None → IsAnswerInMemory B s before (Some call) effect.says
@@ -168,12 +180,14 @@ module _ (B : Base) (s : ℕ) (before : List Event) (changes : ChangeMap) (tied 
         (so.says ∙ ap (λ G. says_of (stmt G call).says) (sym (behind_changes is)))
 
     runs : says_run effect.says ≡ true
-    runs = ap says_run so.says ∙ told_runs (says_of (stmt (laid_over changes (newest B before)) call).says) (stmt_told (laid_over changes (newest B before)) call)
+    runs = ap says_run so.says
+        ∙ told_runs (says_of (stmt (laid_over changes (newest B before)) call).says) (stmt_told (laid_over changes (newest B before)) call)
 
     ran_alone : ran_by (Some call) effect.says ≡ record { call = call; says = effect.says } ∷ []
     ran_alone = one_ran call effect.says statement runs
 
-    agree_call : (t : Transaction) → open_of s before ≡ Some t → t.kind ≡ kinds.Updating → (G : Forest) → AgreeAt t.locks (newest B before) G → AgreeAt (needs call) (newest B before) G
+    agree_call : (t : Transaction) → open_of s before ≡ Some t → t.kind ≡ kinds.Updating → (G : Forest) → AgreeAt t.locks (newest B before) G
+        → AgreeAt (needs call) (newest B before) G
     agree_call t open_is kind_is G agree = agree_needs (needs call) t.locks (newest B before) G
         (subst (AreHeld (needs call)) (ap locks_in open_is ∙ ap (locks_by t) kind_is) (held_where_granted before s (needs call) is granted))
         (agree_of t.locks (newest B before) G agree)
@@ -199,7 +213,8 @@ module _ (s : ℕ) (changes : ChangeMap) (call : Call) (old : Kept) (ready : IsR
   granted_at = let e = Granted s (needs call) in let more = past-more old.journal e in record {
     tied = subst (IsTied old.base s changes) (sym more) (tied_granted old.base s (past old) changes (needs call) ready.tied);
     settled = ap in_doubt more ∙ ready.settled;
-    updating_is = ap (state s) more ∙ ap state_with (here s (open_of s (past old)) (with_locks (needs call) (open_of s (past old)))) ∙ state-with_locks (needs call) (open_of s (past old)) ∙ is;
+    updating_is = ap (state s) more ∙ ap state_with (here s (open_of s (past old)) (with_locks (needs call) (open_of s (past old))))
+        ∙ state-with_locks (needs call) (open_of s (past old)) ∙ is;
     granted = granted_as s (needs call) (past (behind_grant s call old)) last;
     follows = λ answer. follows_grant s call answer (past (behind_grant s call old)) last;
   }
@@ -223,17 +238,24 @@ module _ (s : ℕ) (changes : ChangeMap) (call : Call) (old : Kept) (ready : IsR
 -- ---- how a call is closed
 
 -- at once
-pub closed_at_once : {T E : Type 0} (r : Result T E) (s : ℕ) (call : Call) (old new : Kept) → OnOk r (AddsClosing s call old new) → OnOk r (ClosesRead s call old new)
+pub closed_at_once : {T E : Type 0} (r : Result T E) (s : ℕ) (call : Call) (old new : Kept) → OnOk r (AddsClosing s call old new)
+    → OnOk r (ClosesRead s call old new)
 closed_at_once r s call old new closed = on_ok r inl closed
 
 -- or behind the grant of its locks
-pub closed_granted : {T E : Type 0} (r : Result T E) (s : ℕ) (call : Call) (old mid new : Kept) (asked : List Need) → asked ≡ needs call → 0 < length asked → mid ≡ with_event (Granted s asked) old
+pub closed_granted : {T E : Type 0} (r : Result T E) (s : ℕ) (call : Call) (old mid new : Kept) (asked : List Need) → asked ≡ needs call → 0 < length asked
+    → mid ≡ with_event (Granted s asked) old
     → OnOk r (AddsClosing s call mid new) → OnOk r (ClosesRead s call old new)
 closed_granted r s call old mid new asked same some grown closed =
-    on_ok r (λ a. inr (record { some = subst (λ l. 0 < length l) same some; closes = subst (λ (k : Kept). AddsClosing s call k new) (grown ∙ ap (λ l. with_event (Granted s l) old) same) a })) closed
+    on_ok r (λ a. inr (record {
+      some = subst (λ l. 0 < length l) same some;
+      closes =
+          subst (λ (k : Kept). AddsClosing s call k new) (grown ∙ ap (λ l. with_event (Granted s l) old) same) a;
+    })) closed
 
 -- or not, and then the grant stays
-pub left_granted : {T E : Type 0} (r : Result T E) (s : ℕ) (call : Call) (old mid new : Kept) (asked : List Need) → asked ≡ needs call → 0 < length asked → mid ≡ with_event (Granted s asked) old
+pub left_granted : {T E : Type 0} (r : Result T E) (s : ℕ) (call : Call) (old mid new : Kept) (asked : List Need) → asked ≡ needs call → 0 < length asked
+    → mid ≡ with_event (Granted s asked) old
     → OnErr r (new ≡ mid) → OnErr r (LeavesRead s call old new)
 left_granted r s call old mid new asked same some grown left =
     on_err r (λ is. inr (subst (λ l. 0 < length l) same some, is ∙ grown ∙ ap (λ l. with_event (Granted s l) old) same)) left

@@ -59,7 +59,8 @@ pub follows_between : (e : Event) (before : List Event) → IsBetweenCalls (sess
 follows_between e before ends = (ends_before_grant (last_of (session_of e) before) e ends, ends_before_settled (last_of (session_of e) before) e before ends)
 
 -- behind its grant a call may be answered
-pub follows_grant : (s : ℕ) (call : Call) (says : Says) (before : List Event) → last_of s before ≡ Some (Granted s (needs call)) → Follows (answered s (Some call) says) before
+pub follows_grant : (s : ℕ) (call : Call) (says : Says) (before : List Event) → last_of s before ≡ Some (Granted s (needs call))
+    → Follows (answered s (Some call) says) before
 follows_grant s call says before is = (
   subst (λ last. IsBehindGrant last (answered s (Some call) says)) (sym is) refl,
   subst (λ last. IsBehindSettled last (answered s (Some call) says) before) (sym is) tt,
@@ -79,19 +80,25 @@ ready_at s changes old e own ends settled tied = record {
 }
 
 -- behind an event of its own that closes a call, and leaves nothing in doubt
-pub ready_behind : (s : ℕ) (changes : ChangeMap) (old new : Kept) (e : Event) → new ≡ with_event e old → session_of e ≡ s → EndsCall (Some e) → doubt_behind e (in_doubt (past old)) ≡ None
+pub ready_behind : (s : ℕ) (changes : ChangeMap) (old new : Kept) (e : Event) → new ≡ with_event e old → session_of e ≡ s → EndsCall (Some e)
+    → doubt_behind e (in_doubt (past old)) ≡ None
     → IsTied old.base s changes (e ∷ past old) → IsReady s changes new
 ready_behind s changes old new e grown own ends settled tied = subst (IsReady s changes) (sym grown) (ready_at s changes old e own ends settled tied)
 
 -- behind an answer to a call that did not run
-pub ready_unrun : (s : ℕ) (call : Option Call) (says : Says) (old new : Kept) → new ≡ with_event (answered s call says) old → ran_by call says ≡ [] → in_doubt (past old) ≡ None
+pub ready_unrun : (s : ℕ) (call : Option Call) (says : Says) (old new : Kept) → new ≡ with_event (answered s call says) old → ran_by call says ≡ []
+    → in_doubt (past old) ≡ None
     → (changes : ChangeMap) → IsTied old.base s changes (past old) → IsReady s changes new
 ready_unrun s call says old new grown none settled changes tied =
-    ready_behind s changes old new (answered s call says) grown refl tt settled (tied_unrun old.base s (past old) (record { call = call; says = says }) changes none tied)
+    ready_behind s changes old new (answered s call says) grown refl tt settled
+    (tied_unrun old.base s (past old) (record { call = call; says = says }) changes none tied)
 
-pub answer_closes : (s : ℕ) (call : Call) (says : Says) (old new : Kept) → IsAnswerInMemory old.base s (past old) (Some call) says → new ≡ with_event (answered s (Some call) says) old → AddsClosing s call old new
-answer_closes s call says old new right grown = record { event = answered s (Some call) says; of_session = refl; closing = refl; closes = inl refl; right = right; grown = grown }
+pub answer_closes : (s : ℕ) (call : Call) (says : Says) (old new : Kept) → IsAnswerInMemory old.base s (past old) (Some call) says
+    → new ≡ with_event (answered s (Some call) says) old → AddsClosing s call old new
+answer_closes s call says old new right grown =
+    record { event = answered s (Some call) says; of_session = refl; closing = refl; closes = inl refl; right = right; grown = grown }
 
 -- what leaves a session ready with any tied changes does so with its own
-pub stays : {T E : Type 0} (r : Result T E) (s : ℕ) (changes : ChangeMap) (mid old new : Kept) → mid ≡ old → IsTied old.base s changes (past old) → OnOk r (StaysReady s mid new) → OnOk r (IsReady s changes new)
+pub stays : {T E : Type 0} (r : Result T E) (s : ℕ) (changes : ChangeMap) (mid old new : Kept) → mid ≡ old → IsTied old.base s changes (past old)
+    → OnOk r (StaysReady s mid new) → OnOk r (IsReady s changes new)
 stays r s changes mid old new same tied kept = on_ok r (λ f. f changes (subst (λ (k : Kept). IsTied k.base s changes (past k)) (sym same) tied)) kept

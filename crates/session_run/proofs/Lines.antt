@@ -35,14 +35,16 @@ pub within_limit : (limit n : ℕ) → n ≤ limit → nat_lt limit n ≡ false
 within_limit limit n within = grind (arith, nat_tests)
 
 -- a line that is refused refuses them all
-pub refused_at : (fault : PyxFault) (old new : Result Reading RefusedLine) (line : Line) (rest lines : List Line) → TakesLine {T = Unit {0}} (Err fault) line old new
+pub refused_at : (fault : PyxFault) (old new : Result Reading RefusedLine) (line : Line) (rest lines : List Line)
+    → TakesLine {T = Unit {0}} (Err fault) line old new
     → (old >>= after (line ∷ rest)) ≡ after lines start → Spells (Err fault) (read lines)
 refused_at (Refused e) old new line rest lines taken so_far =
     ap (λ r. r >>= ended) (sym so_far ∙ one_read old line rest ∙ ap (λ r. r >>= after rest) (sym taken.0 ∙ taken.1))
 refused_at NoMemory old new line rest lines taken so_far = tt
 
 -- what the reader has at the end
-pub spelled : (result : Result Doc PyxFault) (r : Result Reading RefusedLine) (lines : List Line) → r ≡ after lines start → Ends result (end_of r) → Spells result (read lines)
+pub spelled : (result : Result Doc PyxFault) (r : Result Reading RefusedLine) (lines : List Line) → r ≡ after lines start → Ends result (end_of r)
+    → Spells result (read lines)
 spelled (Ok doc) r lines is ends = ap (λ x. x >>= ended) (sym is) ∙ ends
 spelled (Err (Refused e)) r lines is ends = ap (λ x. x >>= ended) (sym is) ∙ ends
 spelled (Err NoMemory) r lines is ends = tt

@@ -42,16 +42,19 @@ module _ (B : Base) (s : ℕ) (before : List Event) where
   pub lacking : (call : Option Call) → IsAnswerInMemory B s before call (says.Error codes.NoMemory)
   lacking call = (right_lacking B s before call, refl)
 
-  pub unrun_here : (call : Option Call) (answer : Says) → AnswersInOrder B.numbers s before call answer → ran_by call answer ≡ [] → is_of_device answer ≡ false → IsAnswerInMemory B s before call answer
+  pub unrun_here : (call : Option Call) (answer : Says) → AnswersInOrder B.numbers s before call answer → ran_by call answer ≡ [] → is_of_device answer ≡ false
+      → IsAnswerInMemory B s before call answer
   unrun_here call answer order none here = (right_unrun B s before call answer order none, here)
 
-  pub refused_right : (call : Call) (code : Code) → refused_in (state s before) (work_of call) ≡ Some code → IsAnswerInMemory B s before (Some call) (says.Error code)
+  pub refused_right : (call : Call) (code : Code) → refused_in (state s before) (work_of call) ≡ Some code
+      → IsAnswerInMemory B s before (Some call) (says.Error code)
   refused_right call code is = let by_state = refused_code (state s before) (work_of call) code is in
       unrun_here (Some call) (says.Error code) (answers.AnswersInOrder.refuses_call (record { code = code; refused = is; says_so = refl }))
       (none_ran (Some call) (says.Error code) (ap not (state_unrun code by_state))) (refused_here code by_state)
 
   -- a statement that ran, on the documents of its session's state
-  pub ran_right : (x : State) (call : Call) (answer : Says) → state s before ≡ x → IsTrue (is_statement call) → (is_told answer ≡ true → AnswersInOrder B.numbers s before (Some call) answer)
+  pub ran_right : (x : State) (call : Call) (answer : Says) → state s before ≡ x → IsTrue (is_statement call)
+      → (is_told answer ≡ true → AnswersInOrder B.numbers s before (Some call) answer)
       → answer ≡ says_of (stmt (forest_for B s before x) call).says → IsAnswerInMemory B s before (Some call) answer
   ran_right x call answer is statement order so =
       (right_ran B s before x call answer is statement order so, told_here answer (ap is_told so ∙ stmt_told (forest_for B s before x) call))

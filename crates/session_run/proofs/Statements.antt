@@ -44,24 +44,30 @@ module _ (call : Call) (name : List ℕ) (made : Result Doc RefusedLine) (is : (
   seen_there : (o : Option Doc) → map.get (laid_over changes F) name ≡ o → (G : Forest) → AgreeAt (needs call) F G → map.get (laid_over changes G) name ≡ o
   seen_there o there G agree = sym (laid-agree changes F G name (needed F G agree)) ∙ there
 
-  pub name_taken : (doc : Doc) → map.get (laid_over changes F) name ≡ Some doc → effect.says ≡ says.Error Exists → effect.change ≡ None → IsEffect call changes F effect
+  pub name_taken : (doc : Doc) → map.get (laid_over changes F) name ≡ Some doc → effect.says ≡ says.Error Exists → effect.change ≡ None
+      → IsEffect call changes F effect
   name_taken doc there said none = unchanged call changes F effect none
       (said ∙ sym (ap (λ r. says_of r.says) (is (laid_over changes F)) ∙ ap (λ o. says_of (added_where_free o name made (laid_over changes F)).says) there))
-      (λ G agree. ap (λ r. r.forest) (is (laid_over changes G)) ∙ ap (λ o. (added_where_free o name made (laid_over changes G)).forest) (seen_there (Some doc) there G agree))
+      (λ G agree. ap (λ r. r.forest) (is (laid_over changes G))
+      ∙ ap (λ o. (added_where_free o name made (laid_over changes G)).forest) (seen_there (Some doc) there G agree))
 
-  pub not_made : (refused : RefusedLine) → made ≡ Err refused → map.get (laid_over changes F) name ≡ None → effect.says ≡ says.Error (Pyx refused.why refused.line) → effect.change ≡ None → IsEffect call changes F effect
+  pub not_made : (refused : RefusedLine) → made ≡ Err refused → map.get (laid_over changes F) name ≡ None
+      → effect.says ≡ says.Error (Pyx refused.why refused.line) → effect.change ≡ None → IsEffect call changes F effect
   not_made refused made_is free said none = unchanged call changes F effect none
       (said ∙ sym (ap (λ r. says_of r.says) (is (laid_over changes F)) ∙ ap (λ o. says_of (added_where_free o name made (laid_over changes F)).says) free
       ∙ ap (λ m. says_of (added_where_free None name m (laid_over changes F)).says) made_is))
-      (λ G agree. ap (λ r. r.forest) (is (laid_over changes G)) ∙ ap (λ o. (added_where_free o name made (laid_over changes G)).forest) (seen_there None free G agree)
+      (λ G agree. ap (λ r. r.forest) (is (laid_over changes G))
+      ∙ ap (λ o. (added_where_free o name made (laid_over changes G)).forest) (seen_there None free G agree)
       ∙ ap (λ m. (added_where_free None name m (laid_over changes G)).forest) made_is)
 
   pub put_where_free : (doc : Doc) → made ≡ Ok doc → map.get (laid_over changes F) name ≡ None → IsPut name doc effect → IsEffect call changes F effect
   put_where_free doc made_is free put = record {
-    says = put.says ∙ sym (ap (λ r. says_of r.says) (is (laid_over changes F)) ∙ ap (λ o. says_of (added_where_free o name made (laid_over changes F)).says) free
+    says = put.says ∙ sym (ap (λ r. says_of r.says) (is (laid_over changes F))
+        ∙ ap (λ o. says_of (added_where_free o name made (laid_over changes F)).says) free
         ∙ ap (λ m. says_of (added_where_free None name m (laid_over changes F)).says) made_is);
     leaves = λ G agree. ap (λ c. laid_over c G) (put.leaves changes) ∙ laid-one changes name (Some doc) G
-        ∙ sym (ap (λ r. r.forest) (is (laid_over changes G)) ∙ ap (λ o. (added_where_free o name made (laid_over changes G)).forest) (seen_there None free G agree)
+        ∙ sym (ap (λ r. r.forest) (is (laid_over changes G))
+        ∙ ap (λ o. (added_where_free o name made (laid_over changes G)).forest) (seen_there None free G agree)
         ∙ ap (λ m. (added_where_free None name m (laid_over changes G)).forest) made_is);
   }
 
@@ -71,19 +77,24 @@ pub create_taken : (name : List ℕ) (changes : ChangeMap) (F : Forest) (effect 
     → effect.says ≡ says.Error Exists → effect.change ≡ None → IsEffect (Create name) changes F effect
 create_taken name = name_taken (Create name) name (Ok (record { kids = [] })) (λ F. refl) (λ F G agree. agree.0)
 
-pub create_free : (name : List ℕ) (changes : ChangeMap) (F : Forest) (effect : Effect) (doc : Doc) → record { kids = [] } ≡ doc → map.get (laid_over changes F) name ≡ None
+pub create_free : (name : List ℕ) (changes : ChangeMap) (F : Forest) (effect : Effect) (doc : Doc) → record { kids = [] } ≡ doc
+    → map.get (laid_over changes F) name ≡ None
     → IsPut name doc effect → IsEffect (Create name) changes F effect
-create_free name changes F effect doc empty = put_where_free (Create name) name (Ok (record { kids = [] })) (λ F. refl) (λ F G agree. agree.0) changes F effect doc (ap (λ d. Ok d) empty)
+create_free name changes F effect doc empty =
+    put_where_free (Create name) name (Ok (record { kids = [] })) (λ F. refl) (λ F G agree. agree.0) changes F effect doc (ap (λ d. Ok d) empty)
 
-pub load_taken : (name : List ℕ) (lines : List Line) (changes : ChangeMap) (F : Forest) (effect : Effect) (doc : Doc) → map.get (laid_over changes F) name ≡ Some doc
+pub load_taken : (name : List ℕ) (lines : List Line) (changes : ChangeMap) (F : Forest) (effect : Effect) (doc : Doc)
+    → map.get (laid_over changes F) name ≡ Some doc
     → effect.says ≡ says.Error Exists → effect.change ≡ None → IsEffect (Load name lines) changes F effect
 load_taken name lines = name_taken (Load name lines) name (read lines) (λ F. refl) (λ F G agree. agree.0)
 
-pub load_refused : (name : List ℕ) (lines : List Line) (changes : ChangeMap) (F : Forest) (effect : Effect) (refused : RefusedLine) → read lines ≡ Err refused → map.get (laid_over changes F) name ≡ None
+pub load_refused : (name : List ℕ) (lines : List Line) (changes : ChangeMap) (F : Forest) (effect : Effect) (refused : RefusedLine) → read lines ≡ Err refused
+    → map.get (laid_over changes F) name ≡ None
     → effect.says ≡ says.Error (Pyx refused.why refused.line) → effect.change ≡ None → IsEffect (Load name lines) changes F effect
 load_refused name lines = not_made (Load name lines) name (read lines) (λ F. refl) (λ F G agree. agree.0)
 
-pub load_free : (name : List ℕ) (lines : List Line) (changes : ChangeMap) (F : Forest) (effect : Effect) (doc : Doc) → read lines ≡ Ok doc → map.get (laid_over changes F) name ≡ None
+pub load_free : (name : List ℕ) (lines : List Line) (changes : ChangeMap) (F : Forest) (effect : Effect) (doc : Doc) → read lines ≡ Ok doc
+    → map.get (laid_over changes F) name ≡ None
     → IsPut name doc effect → IsEffect (Load name lines) changes F effect
 load_free name lines = put_where_free (Load name lines) name (read lines) (λ F. refl) (λ F G agree. agree.0)
 
@@ -107,8 +118,10 @@ drop_there name changes F effect doc there said change = record {
 
 pub export_missing : (name : List ℕ) (changes : ChangeMap) (F : Forest) (effect : Effect) → map.get (laid_over changes F) name ≡ None
     → effect.says ≡ says.Error FODC0002 → effect.change ≡ None → IsEffect (Export name) changes F effect
-export_missing name changes F effect missing said none = unchanged (Export name) changes F effect none (said ∙ sym (ap (λ o. says_of (exported o)) missing)) (λ G agree. refl)
+export_missing name changes F effect missing said none =
+    unchanged (Export name) changes F effect none (said ∙ sym (ap (λ o. says_of (exported o)) missing)) (λ G agree. refl)
 
 pub export_there : (name : List ℕ) (changes : ChangeMap) (F : Forest) (effect : Effect) (doc : Doc) → map.get (laid_over changes F) name ≡ Some doc
     → effect.says ≡ says_of (answer_of (pyx doc)) → effect.change ≡ None → IsEffect (Export name) changes F effect
-export_there name changes F effect doc there said none = unchanged (Export name) changes F effect none (said ∙ sym (ap (λ o. says_of (exported o)) there)) (λ G agree. refl)
+export_there name changes F effect doc there said none =
+    unchanged (Export name) changes F effect none (said ∙ sym (ap (λ o. says_of (exported o)) there)) (λ G agree. refl)

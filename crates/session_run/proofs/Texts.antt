@@ -61,32 +61,64 @@ module _ (s : ℕ) (text : CallText) (call : Call) (is : Parsed text (Ok call)) 
   called_read old new (inr a) = record {
     events = Granted s (needs call) ∷ a.closes.event ∷ [];
     grown = a.closes.grown ∙ (λ i. record { base = old.base; journal = append_assoc old.journal (Granted s (needs call) ∷ []) (a.closes.event ∷ []) i });
-    of_call = calls.AreOfCall.behind_grant a.some (record { call = call; parsed = is; needs_are = refl }) (closes_read (behind_grant s call old) new a.closes (Granted s (needs call) ∷ past old) (past-more old.journal (Granted s (needs call))));
+    of_call = calls.AreOfCall.behind_grant a.some (record { call = call; parsed = is; needs_are = refl })
+        (closes_read (behind_grant s call old) new a.closes (Granted s (needs call) ∷ past old) (past-more old.journal (Granted s (needs call))));
   }
 
   pub left_read : (old new : Kept) → LeavesRead s call old new → IsUnclosed s text old new
   left_read old new (inl same) = inl same
-  left_read old new (inr left) = inr (record { asked = needs call; some = left.0; needed = record { call = call; parsed = is; needs_are = refl }; grown = left.1 })
+  left_read old new (inr left) =
+      inr (record { asked = needs call; some = left.0; needed = record { call = call; parsed = is; needs_are = refl }; grown = left.1 })
 
 -- ---- a text that is none, or for which memory was wanting
 
 module _ (s : ℕ) (text : CallText) (old new : Kept) where
-  called_refused : (code : Code) → Parsed text (Err code) → IsAnswerInMemory old.base s (past old) None (says.Error code) → new ≡ with_event (answered s None (says.Error code)) old → IsCalled s text old new
+  called_refused : (code : Code) → Parsed text (Err code) → IsAnswerInMemory old.base s (past old) None (says.Error code)
+      → new ≡ with_event (answered s None (says.Error code)) old → IsCalled s text old new
   called_refused code is right grown = record {
     events = answered s None (says.Error code) ∷ [];
     grown = grown;
-    of_call = calls.AreOfCall.at_once (record { of_session = refl; closing = refl; closes = record { what = Err code; parsed = is; closes = refl }; answers = record { what = Err code; parsed = is; answers = inl refl }; right = right });
+    of_call = calls.AreOfCall.at_once
+        (record {
+          of_session = refl;
+          closing = refl;
+          closes = record { what = Err code; parsed = is; closes = refl };
+          answers =
+              record { what = Err code; parsed = is; answers = inl refl };
+          right = right;
+        });
   }
 
   lost_by : (what : Result Call Code) → Parsed text what → ClosesText old.base s text (answered s None (says.Error codes.NoMemory)) (past old)
-  lost_by (Ok call) is = record { of_session = refl; closing = refl; closes = record { what = Ok call; parsed = is; closes = inr (refl, refl) }; answers = record { what = Ok call; parsed = is; answers = tt }; right = lacking old.base s (past old) _ }
-  lost_by (Err code) is = record { of_session = refl; closing = refl; closes = record { what = Err code; parsed = is; closes = refl }; answers = record { what = Err code; parsed = is; answers = inr (inl refl) }; right = lacking old.base s (past old) _ }
+  lost_by (Ok call) is = record {
+    of_session = refl;
+    closing = refl;
+    closes = record { what = Ok call; parsed = is; closes = inr (refl, refl) };
+    answers =
+        record { what = Ok call; parsed = is; answers = tt };
+    right = lacking old.base s (past old) _;
+  }
+  lost_by (Err code) is = record {
+    of_session = refl;
+    closing = refl;
+    closes = record { what = Err code; parsed = is; closes = refl };
+    answers =
+        record { what = Err code; parsed = is; answers = inr (inl refl) };
+    right = lacking old.base s (past old) _;
+  }
 
   called_lost : new ≡ with_event (answered s None (says.Error codes.NoMemory)) old → IsCalled s text old new
-  called_lost grown = record { events = answered s None (says.Error codes.NoMemory) ∷ []; grown = grown; of_call = calls.AreOfCall.at_once (lost_by (parsed text) (parsed_holds text)) }
+  called_lost grown = record {
+    events = answered s None (says.Error codes.NoMemory) ∷ [];
+    grown = grown;
+    of_call =
+        calls.AreOfCall.at_once (lost_by (parsed text) (parsed_holds text));
+  }
 
   -- a text that the parser refuses is answered so
-  pub called_end : (end : ParseEnd) → ((end ≡ NoMemory → ⊥) → Parsed text (Err (code_of end))) → IsAnswerInMemory old.base s (past old) None (says.Error (code_of end)) → new ≡ with_event (answered s None (says.Error (code_of end))) old → IsCalled s text old new
+  pub called_end : (end : ParseEnd) → ((end ≡ NoMemory → ⊥) → Parsed text (Err (code_of end)))
+      → IsAnswerInMemory old.base s (past old) None (says.Error (code_of end)) → new ≡ with_event (answered s None (says.Error (code_of end))) old
+      → IsCalled s text old new
   called_end TooLong is right grown = called_refused codes.TooLong (is (λ e. cc)) right grown
   called_end XPST0003 is right grown = called_refused codes.XPST0003 (is (λ e. cc)) right grown
   called_end NestedTooDeep is right grown = called_refused codes.NestedTooDeep (is (λ e. cc)) right grown
@@ -94,11 +126,20 @@ module _ (s : ℕ) (text : CallText) (old new : Kept) where
   called_end NoMemory is right grown = called_lost grown
 
 -- which is right
-pub right_end : (B : Base) (s : ℕ) (before : List Event) (end : ParseEnd) → (state s before ≡ InDoubt → ⊥) → IsAnswerInMemory B s before None (says.Error (code_of end))
-right_end B s before TooLong certain = unrun_here B s before None (says.Error codes.TooLong) (answers.AnswersInOrder.refuses_text (record { code = codes.TooLong; refusal = refl; says_so = refl; not_in_doubt = certain })) refl refl
-right_end B s before XPST0003 certain = unrun_here B s before None (says.Error codes.XPST0003) (answers.AnswersInOrder.refuses_text (record { code = codes.XPST0003; refusal = refl; says_so = refl; not_in_doubt = certain })) refl refl
-right_end B s before NestedTooDeep certain = unrun_here B s before None (says.Error codes.NestedTooDeep) (answers.AnswersInOrder.refuses_text (record { code = codes.NestedTooDeep; refusal = refl; says_so = refl; not_in_doubt = certain })) refl refl
-right_end B s before BadName certain = unrun_here B s before None (says.Error codes.BadName) (answers.AnswersInOrder.refuses_text (record { code = codes.BadName; refusal = refl; says_so = refl; not_in_doubt = certain })) refl refl
+pub right_end : (B : Base) (s : ℕ) (before : List Event) (end : ParseEnd) → (state s before ≡ InDoubt → ⊥)
+    → IsAnswerInMemory B s before None (says.Error (code_of end))
+right_end B s before TooLong certain =
+    unrun_here B s before None (says.Error codes.TooLong)
+    (answers.AnswersInOrder.refuses_text (record { code = codes.TooLong; refusal = refl; says_so = refl; not_in_doubt = certain })) refl refl
+right_end B s before XPST0003 certain =
+    unrun_here B s before None (says.Error codes.XPST0003)
+    (answers.AnswersInOrder.refuses_text (record { code = codes.XPST0003; refusal = refl; says_so = refl; not_in_doubt = certain })) refl refl
+right_end B s before NestedTooDeep certain =
+    unrun_here B s before None (says.Error codes.NestedTooDeep)
+    (answers.AnswersInOrder.refuses_text (record { code = codes.NestedTooDeep; refusal = refl; says_so = refl; not_in_doubt = certain })) refl refl
+right_end B s before BadName certain =
+    unrun_here B s before None (says.Error codes.BadName)
+    (answers.AnswersInOrder.refuses_text (record { code = codes.BadName; refusal = refl; says_so = refl; not_in_doubt = certain })) refl refl
 right_end B s before NoMemory certain = lacking B s before None
 
 pub on_err : {T E P Q : Type 0} (r : Result T E) → (P → Q) → OnErr r P → OnErr r Q

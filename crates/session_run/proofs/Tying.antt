@@ -41,7 +41,8 @@ run_calls-append F (x ∷ xs) ys = run_calls-append (stmt F x.call).forest xs ys
 
 -- ---- no open updating transaction
 
-tied_none : (B : Base) (before : List Event) (changes : ChangeMap) (o : Option Transaction) → o ≡ None → changes ≡ no_changes → AreChangesOf B before changes (updating o)
+tied_none : (B : Base) (before : List Event) (changes : ChangeMap) (o : Option Transaction) → o ≡ None → changes ≡ no_changes
+    → AreChangesOf B before changes (updating o)
 tied_none B before changes o none is = subst (λ z. AreChangesOf B before changes (updating z)) (sym none) is
 
 module _ (B : Base) (s : ℕ) (past : List Event) where
@@ -52,7 +53,8 @@ module _ (B : Base) (s : ℕ) (past : List Event) where
   pub none_idle : (changes : ChangeMap) → state s past ≡ Idle → IsTied B s changes past → changes ≡ no_changes
   none_idle changes idle tied = subst (λ o. AreChangesOf B past changes (updating o)) (idle_none (open_of s past) idle) tied
 
-  begun_tied : (e : Event) (kind : BeginKind) (changes : ChangeMap) → changes ≡ no_changes → AreChangesOf B (e ∷ past) changes (where_updating (begun kind) kind)
+  begun_tied : (e : Event) (kind : BeginKind) (changes : ChangeMap) → changes ≡ no_changes
+      → AreChangesOf B (e ∷ past) changes (where_updating (begun kind) kind)
   begun_tied e kinds.Updating changes none = λ G agree. sym (ap (λ c. laid_over c G) none ∙ laid-none G)
   begun_tied e (kinds.Reading n) changes none = none
 
@@ -69,16 +71,19 @@ module _ (B : Base) (s : ℕ) (past : List Event) where
   agreed e none locks G agree = subst (λ F. AgreeAt locks F G) (newest_stays e none) agree
 
   -- an event that commits nothing and leaves the transactions
-  same_by : (e : Event) (changes : ChangeMap) (ts : List Transaction) → committed_by e past ≡ [] → AreChangesOf B past changes ts → AreChangesOf B (e ∷ past) changes ts
+  same_by : (e : Event) (changes : ChangeMap) (ts : List Transaction) → committed_by e past ≡ [] → AreChangesOf B past changes ts
+      → AreChangesOf B (e ∷ past) changes ts
   same_by e changes [] none tied = tied
   same_by e changes (t ∷ more) none tied = λ G agree. tied G (agreed e none t.locks G agree)
 
-  pub tied_refused : (changes : ChangeMap) (name : List ℕ) (holder : ℕ) (asked : List Need) → IsTied B s changes past → IsTied B s changes (Refused s name holder asked ∷ past)
+  pub tied_refused : (changes : ChangeMap) (name : List ℕ) (holder : ℕ) (asked : List Need) → IsTied B s changes past
+      → IsTied B s changes (Refused s name holder asked ∷ past)
   tied_refused changes name holder asked tied = same_by (Refused s name holder asked) changes (updating (open_of s past)) refl tied
 
   locked_by : (e : Event) (changes : ChangeMap) (asked : List Need) (t : Transaction) (kind : BeginKind) → committed_by e past ≡ []
       → AreChangesOf B past changes (where_updating t kind) → AreChangesOf B (e ∷ past) changes (where_updating (record t { locks = t.locks ++ asked }) kind)
-  locked_by e changes asked t kinds.Updating none tied = λ G agree. tied G (agree_first t.locks asked (newest B past) G (agreed e none (t.locks ++ asked) G agree))
+  locked_by e changes asked t kinds.Updating none tied =
+      λ G agree. tied G (agree_first t.locks asked (newest B past) G (agreed e none (t.locks ++ asked) G agree))
   locked_by e changes asked t (kinds.Reading n) none tied = tied
 
   locked_in : (e : Event) (changes : ChangeMap) (asked : List Need) (o : Option Transaction) → committed_by e past ≡ []
@@ -87,7 +92,8 @@ module _ (B : Base) (s : ℕ) (past : List Event) where
   locked_in e changes asked (Some t) none tied = locked_by e changes asked t t.kind none tied
 
   pub tied_granted : (changes : ChangeMap) (asked : List Need) → IsTied B s changes past → IsTied B s changes (Granted s asked ∷ past)
-  tied_granted changes asked tied = subst (λ o. AreChangesOf B (Granted s asked ∷ past) changes (updating o)) (sym (here s (open_of s past) (with_locks asked (open_of s past))))
+  tied_granted changes asked tied =
+      subst (λ o. AreChangesOf B (Granted s asked ∷ past) changes (updating o)) (sym (here s (open_of s past) (with_locks asked (open_of s past))))
       (locked_in (Granted s asked) changes asked (open_of s past) refl tied)
 
   -- ---- answers
@@ -105,12 +111,14 @@ module _ (B : Base) (s : ℕ) (past : List Event) where
         ∙ ap (λ F. run_calls F (ran r)) (tied G same) ∙ makes G same
     replied_by t (kinds.Reading n) makes tied = makes ∙ tied
 
-    replied_in : (o : Option Transaction) → MakesOf (updating o) → AreChangesOf B past changes (updating o) → AreChangesOf B (Answered s r ∷ past) after (updating (with_reply r o))
+    replied_in : (o : Option Transaction) → MakesOf (updating o) → AreChangesOf B past changes (updating o)
+        → AreChangesOf B (Answered s r ∷ past) after (updating (with_reply r o))
     replied_in None makes tied = makes ∙ tied
     replied_in (Some t) makes tied = replied_by t t.kind makes tied
 
     pub tied_answered : MakesOf (updating (open_of s past)) → IsTied B s changes past → IsTied B s after (Answered s r ∷ past)
-    tied_answered makes tied = subst (λ o. AreChangesOf B (Answered s r ∷ past) after (updating o)) (sym (here s (open_of s past) (with_reply r (open_of s past))))
+    tied_answered makes tied =
+        subst (λ o. AreChangesOf B (Answered s r ∷ past) after (updating o)) (sym (here s (open_of s past) (with_reply r (open_of s past))))
         (replied_in (open_of s past) makes tied)
 
   makes_nothing : (r : Reply) (changes : ChangeMap) (ts : List Transaction) → ran r ≡ [] → MakesOf r changes changes ts
@@ -123,15 +131,20 @@ module _ (B : Base) (s : ℕ) (past : List Event) where
 
 -- ---- other sessions
 
-module _ (B : Base) (past : List Event) (locks : AtEach LocksAt past) (refusals : AtEach RefusalsAt past) (t : ℕ) (changes : ChangeMap) (e : Event) (other : whose e ≡ t → ⊥) where
+module _ (B : Base) (past : List Event) (locks : AtEach LocksAt past) (refusals : AtEach RefusalsAt past) (t : ℕ) (changes : ChangeMap) (e : Event)
+    (other : whose e ≡ t → ⊥) where
   -- a forest with the newest documents at the names of an open updating transaction's locks had them before the event
-  agreed_before : (u : Transaction) → open_of t past ≡ Some u → u.kind ≡ kinds.Updating → (G : Forest) → AgreeAt u.locks (newest B (e ∷ past)) G → AgreeAt u.locks (newest B past) G
-  agreed_before u open_is kind_is G agree = agree_at u.locks (newest B past) G (λ name there. kept name there ∙ agree_of u.locks (newest B (e ∷ past)) G agree name there)
+  agreed_before : (u : Transaction) → open_of t past ≡ Some u → u.kind ≡ kinds.Updating → (G : Forest) → AgreeAt u.locks (newest B (e ∷ past)) G
+      → AgreeAt u.locks (newest B past) G
+  agreed_before u open_is kind_is G agree =
+      agree_at u.locks (newest B past) G (λ name there. kept name there ∙ agree_of u.locks (newest B (e ∷ past)) G agree name there)
     where
       kept : Agree u.locks (newest B past) (newest B (e ∷ past))
-      kept = subst (λ l. Agree l (newest B past) (newest B (e ∷ past))) (ap locks_in open_is ∙ ap (locks_by u) kind_is) (newest_agrees B past locks refusals t e other)
+      kept = subst (λ l. Agree l (newest B past) (newest B (e ∷ past))) (ap locks_in open_is ∙ ap (locks_by u) kind_is)
+          (newest_agrees B past locks refusals t e other)
 
-  beside_kind : (u : Transaction) → open_of t past ≡ Some u → (kind : BeginKind) → u.kind ≡ kind → AreChangesOf B past changes (where_updating u kind) → AreChangesOf B (e ∷ past) changes (where_updating u kind)
+  beside_kind : (u : Transaction) → open_of t past ≡ Some u → (kind : BeginKind) → u.kind ≡ kind → AreChangesOf B past changes (where_updating u kind)
+      → AreChangesOf B (e ∷ past) changes (where_updating u kind)
   beside_kind u is kinds.Updating kind_is tied = λ G agree. tied G (agreed_before u is kind_is G agree)
   beside_kind u is (kinds.Reading n) kind_is tied = tied
 

@@ -61,18 +61,23 @@ untouched_event t k e other apart legal = let more = past-more k.journal e in re
   tied = λ changes tied. subst (IsTied k.base t changes) (sym more) (tied_beside k.base (past k) legal.locks legal.refusals t changes e other tied);
 }
 
-untouched_closing : (B : Base) (t s : ℕ) (text : CallText) (k : Kept) (e : Event) (before : List Event) → (t ≡ s → ⊥) → ClosesText B s text e before → IsLegalBefore (with_event e k) → IsUntouched t k (with_event e k)
+untouched_closing : (B : Base) (t s : ℕ) (text : CallText) (k : Kept) (e : Event) (before : List Event) → (t ≡ s → ⊥) → ClosesText B s text e before
+    → IsLegalBefore (with_event e k) → IsUntouched t k (with_event e k)
 untouched_closing B t s text k e before differ closes legal = untouched_event t k e
     (λ same. differ (sym same ∙ closing_whose e closes.closing ∙ closes.of_session)) (λ same. differ (sym same ∙ closes.of_session)) (before_event k e legal)
 
-untouched_grant : (t s : ℕ) (k : Kept) (e : Event) → (t ≡ s → ⊥) → session_of e ≡ s → whose e ≡ s → IsLegalBefore (with_event e k) → IsUntouched t k (with_event e k)
-untouched_grant t s k e differ own its legal = untouched_event t k e (λ same. differ (sym same ∙ its)) (λ same. differ (sym same ∙ own)) (before_event k e legal)
+untouched_grant : (t s : ℕ) (k : Kept) (e : Event) → (t ≡ s → ⊥) → session_of e ≡ s → whose e ≡ s → IsLegalBefore (with_event e k)
+    → IsUntouched t k (with_event e k)
+untouched_grant t s k e differ own its legal =
+    untouched_event t k e (λ same. differ (sym same ∙ its)) (λ same. differ (sym same ∙ own)) (before_event k e legal)
 
-by_events : (t s : ℕ) (text : CallText) (old : Kept) (events : List Event) → (t ≡ s → ⊥) → AreOfCall old.base s text (past old) events → IsLegalBefore (with_events events old) → IsUntouched t old (with_events events old)
+by_events : (t s : ℕ) (text : CallText) (old : Kept) (events : List Event) → (t ≡ s → ⊥) → AreOfCall old.base s text (past old) events
+    → IsLegalBefore (with_events events old) → IsUntouched t old (with_events events old)
 by_events t s text old events differ (calls.AreOfCall.at_once {e} closes) legal = untouched_closing old.base t s text old e (past old) differ closes legal
 by_events t s text old events differ (calls.AreOfCall.behind_grant {asked} {e} some needed closes) legal =
     let mid : Kept = with_event (Granted s asked) old in
-    let flat : with_event e mid ≡ with_events (Granted s asked ∷ e ∷ []) old = λ i. record { base = old.base; journal = append_assoc old.journal (Granted s asked ∷ []) (e ∷ []) i } in
+    let flat : with_event e mid ≡ with_events (Granted s asked ∷ e ∷ []) old =
+    λ i. record { base = old.base; journal = append_assoc old.journal (Granted s asked ∷ []) (e ∷ []) i } in
     let legal_flat : IsLegalBefore (with_event e mid) = subst IsLegalBefore (sym flat) legal in
     subst (IsUntouched t old) flat (untouched_then t old mid (with_event e mid)
     (untouched_grant t s old (Granted s asked) differ refl refl (before_event mid e legal_flat))
@@ -84,12 +89,14 @@ module _ (t s : ℕ) (text : CallText) (old new : Kept) (differ : t ≡ s → �
 
   -- a call that is closed
   untouched_called : IsCalled s text old new → IsUntouched t old new
-  untouched_called called = subst (IsUntouched t old) (sym called.grown) (by_events t s text old called.events differ called.of_call (subst IsLegalBefore called.grown legal_new))
+  untouched_called called =
+      subst (IsUntouched t old) (sym called.grown) (by_events t s text old called.events differ called.of_call (subst IsLegalBefore called.grown legal_new))
 
   -- and one that is not
   untouched_unclosed : IsUnclosed s text old new → IsUntouched t old new
   untouched_unclosed (inl same) = untouched_same t old new same
-  untouched_unclosed (inr alone) = subst (IsUntouched t old) (sym alone.grown) (untouched_grant t s old (Granted s alone.asked) differ refl refl (subst IsLegalBefore alone.grown legal_new))
+  untouched_unclosed (inr alone) =
+      subst (IsUntouched t old) (sym alone.grown) (untouched_grant t s old (Granted s alone.asked) differ refl refl (subst IsLegalBefore alone.grown legal_new))
 
   pub untouched : {T E : Type 0} (r : Result T E) → OnOk r (IsCalled s text old new) → OnErr r (IsUnclosed s text old new) → IsUntouched t old new
   untouched (Ok x) called unclosed = untouched_called called
@@ -100,5 +107,7 @@ module _ (t s : ℕ) (text : CallText) (old new : Kept) (differ : t ≡ s → �
   untouched_left grown = subst (IsUntouched t old) (sym grown) (untouched_grant t s old (Left s) differ refl refl (subst IsLegalBefore grown legal_new))
 
 -- another session may make its next call still
-pub ready_beside : (t : ℕ) (changes : ChangeMap) (old new : Kept) → IsReady t changes old → IsUntouched t old new → in_doubt (past new) ≡ None → IsReady t changes new
-ready_beside t changes old new ready same settled = record { tied = same.tied changes ready.tied; between = subst EndsCall (sym same.last_is) ready.between; settled = settled }
+pub ready_beside : (t : ℕ) (changes : ChangeMap) (old new : Kept) → IsReady t changes old → IsUntouched t old new → in_doubt (past new) ≡ None
+    → IsReady t changes new
+ready_beside t changes old new ready same settled =
+    record { tied = same.tied changes ready.tied; between = subst EndsCall (sym same.last_is) ready.between; settled = settled }

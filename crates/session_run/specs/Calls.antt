@@ -45,4 +45,5 @@ pub record ClosesText (B : Base) (s : ℕ) (text : CallText) (e : Event) (past :
 -- the events of one call: what closes it, and before that the locks that it was granted, where it needs some
 pub data AreOfCall (B : Base) (s : ℕ) (text : CallText) (past : List Event) : List Event → Type 0 where
   at_once : {e : Event} → ClosesText B s text e past → AreOfCall B s text past (e ∷ [])
-  behind_grant : {asked : List Need} {e : Event} → 0 < length asked → NeedsThese asked text → ClosesText B s text e (Granted s asked ∷ past) → AreOfCall B s text past (Granted s asked ∷ e ∷ [])
+  behind_grant : {asked : List Need} {e : Event} → 0 < length asked → NeedsThese asked text → ClosesText B s text e (Granted s asked ∷ past)
+      → AreOfCall B s text past (Granted s asked ∷ e ∷ [])

@@ -36,7 +36,8 @@ module _ {X : Type 0} (spells : List ℕ → Result X InputFault) (IsText : X �
 
   -- where what was read was written in part, since the sink failed
   pub answered_partly : (before after written new : Option (List ℕ)) (what : X) (text : List ℕ)
-      → IsRead spells before after (Ok what) → IsText what text → AppendedPrefix text written new → IsAnswered spells IsText Lacks before after written new (Some WriteFault)
+      → IsRead spells before after (Ok what) → IsText what text → AppendedPrefix text written new
+      → IsAnswered spells IsText Lacks before after written new (Some WriteFault)
   answered_partly before after written new what text read is prefix = record {
     input = read.input;
     taken = read.taken;
@@ -46,7 +47,9 @@ module _ {X : Type 0} (spells : List ℕ → Result X InputFault) (IsText : X �
 
   -- where memory ran out behind the reading
   pub answered_lacking : (before after written : Option (List ℕ)) (what : X)
-      → IsRead spells before after (Ok what) → ((input : List ℕ) → IsWhole input after → spells input ≡ Ok what → Lacks input after) → IsAnswered spells IsText Lacks before after written written (Some NoMemory)
-  answered_lacking before after written what read lacks = record { input = read.input; taken = read.taken; at_most = read.at_most; answer = (refl, lacks read.input read.reads.0 read.reads.1) }
+      → IsRead spells before after (Ok what) → ((input : List ℕ) → IsWhole input after → spells input ≡ Ok what → Lacks input after)
+      → IsAnswered spells IsText Lacks before after written written (Some NoMemory)
+  answered_lacking before after written what read lacks =
+      record { input = read.input; taken = read.taken; at_most = read.at_most; answer = (refl, lacks read.input read.reads.0 read.reads.1) }
 
 pub ruleset answer_laws = (answered_reading, answered_done, answered_partly, answered_lacking)

@@ -20,7 +20,8 @@ use Rattle.xdb_top.specs.Played.{IsPlayed, IsUpTo}
 no_grant : {A : Type 0} → false ≡ true → A
 no_grant is = absurd (true≢false (sym is))
 
-as_call : (P : Scripts) (e : Event) (past : List Event) → is_closing e ≡ true → IsSomeText (next_call P (session_of e) past) (λ text. ClosesBy text e) → IsForCall P e past
+as_call : (P : Scripts) (e : Event) (past : List Event) → is_closing e ≡ true → IsSomeText (next_call P (session_of e) past) (λ text. ClosesBy text e)
+    → IsForCall P e past
 as_call P (Began s kind) past is h = h
 as_call P (Granted s needs) past is h = no_grant is
 as_call P (Refused s name holder needs) past is h = h
@@ -32,7 +33,8 @@ as_call P (Doubt s n mark) past is h = h
 as_call P (Settled by s stands) past is h = no_grant is
 as_call P (Left s) past is h = no_grant is
 
-as_answer : (P : Scripts) (text : CallText) (e : Event) (past : List Event) → next_call P (session_of e) past ≡ Some text → AnswersText text e past → TextRefusalsAt P e past
+as_answer : (P : Scripts) (text : CallText) (e : Event) (past : List Event) → next_call P (session_of e) past ≡ Some text → AnswersText text e past
+    → TextRefusalsAt P e past
 as_answer P text (Began s kind) past next h = tt
 as_answer P text (Granted s needs) past next h = tt
 as_answer P text (Refused s name holder needs) past next h = tt
@@ -160,7 +162,8 @@ not_ended : (P : Scripts) (s : ℕ) (past : List Event) (text : CallText) → ne
 not_ended P s past text next all = let more = has_more (calls_of P s) (closed_of s past) text next in omega (arith, more, all)
 
 -- so it has not left
-not_left_yet : (B : Base) (P : Scripts) (s : ℕ) (past : List Event) (text : CallText) → IsPlayed B P past → next_call P s past ≡ Some text → has_left s past ≡ false
+not_left_yet : (B : Base) (P : Scripts) (s : ℕ) (past : List Event) (text : CallText) → IsPlayed B P past → next_call P s past ≡ Some text
+    → has_left s past ≡ false
 not_left_yet B P s past text played next = by_test (has_left s past) refl
   where
     by_test : (b : Bool) → has_left s past ≡ b → has_left s past ≡ false
@@ -168,7 +171,8 @@ not_left_yet B P s past text played next = by_test (has_left s past) refl
     by_test false is = is
 
 -- the grant of its locks
-pub granted_played : (B : Base) (P : Scripts) (s : ℕ) (text : CallText) (asked : List Need) (past : List Event) → IsPlayed B P past → IsAtRest past → next_call P s past ≡ Some text
+pub granted_played : (B : Base) (P : Scripts) (s : ℕ) (text : CallText) (asked : List Need) (past : List Event) → IsPlayed B P past → IsAtRest past
+    → next_call P s past ≡ Some text
     → NeedsThese asked text → IsPlayed B P (Granted s asked ∷ past)
 granted_played B P s text asked past played rests next needed = record {
   closes = ((subst (λ c. IsSomeText c (NeedsThese asked)) (sym next) needed, not_left_yet B P s past text played next), played.closes);
@@ -177,7 +181,9 @@ granted_played B P s text asked past played rests next needed = record {
   at_once = (follows_rest (Granted s asked) past rests, played.at_once);
   leaves = (tt, played.leaves);
   stays = λ t has. rw (zero_more (closed_of t past)) (played.stays t has);
-  ends = λ t all. rw (elsewhere s t (open_of t past) _ (λ same. not_ended P s past text next (subst (λ u. closed_of u past ≡ length (calls_of P u)) (sym same) (sym (zero_more (closed_of t past)) ∙ all)))) (played.ends t (sym (zero_more (closed_of t past)) ∙ all));
+  ends = λ t all. rw (elsewhere s t (open_of t past) _
+      (λ same. not_ended P s past text next (subst (λ u. closed_of u past ≡ length (calls_of P u)) (sym same) (sym (zero_more (closed_of t past)) ∙ all))))
+      (played.ends t (sym (zero_more (closed_of t past)) ∙ all));
 }
   where
     zero_more : (n : ℕ) → 0 + n ≡ n
@@ -191,7 +197,14 @@ next_behind_grant P s asked past = ap (λ n. slice_get (calls_of P s) n) (omega 
 pub closed_played : (B : Base) (P : Scripts) (s : ℕ) (text : CallText) (e : Event) (past : List Event) → IsPlayed B P past → next_call P s past ≡ Some text
     → ClosesText B s text e past → FollowsAtOnce e past → IsUpTo B P s (e ∷ past)
 closed_played B P s text e past played next closed follows = record {
-  closes = ((as_call P e past closed.closing (subst (λ c. IsSomeText c (λ t. ClosesBy t e)) (sym here_next) closed.closes), ap (λ u. has_left u past) closed.of_session ∙ not_left_yet B P s past text played next), played.closes);
+  closes = (
+    (
+      as_call P e past closed.closing (subst (λ c. IsSomeText c (λ t. ClosesBy t e)) (sym here_next) closed.closes),
+      ap
+          (λ u. has_left u past) closed.of_session ∙ not_left_yet B P s past text played next,
+    ),
+    played.closes,
+  );
   texts = (as_answer P text e past here_next closed.answers, played.texts);
   right = (closed.right, played.right);
   at_once = (follows, played.at_once);
@@ -217,7 +230,8 @@ closed_played B P s text e past played next closed follows = record {
 -- ---- its session's end
 
 -- the session goes on, or its transaction is not open
-pub goes_on : (B : Base) (P : Scripts) (s : ℕ) (past : List Event) → IsUpTo B P s past → (closed_of s past ≡ length (calls_of P s) → is_open (state s past) ≡ false) → IsPlayed B P past
+pub goes_on : (B : Base) (P : Scripts) (s : ℕ) (past : List Event) → IsUpTo B P s past
+    → (closed_of s past ≡ length (calls_of P s) → is_open (state s past) ≡ false) → IsPlayed B P past
 goes_on B P s past up ended = record {
   closes = up.closes;
   texts = up.texts;
@@ -228,7 +242,8 @@ goes_on B P s past up ended = record {
   ends = λ t all. by_session t all (eqb_tells s t);
 }
   where
-    by_session : (t : ℕ) → closed_of t past ≡ length (calls_of P t) → ((eqb s t ≡ true) × (s ≡ t)) ⊎ ((eqb s t ≡ false) × (s ≢ t)) → is_open (state t past) ≡ false
+    by_session : (t : ℕ) → closed_of t past ≡ length (calls_of P t) → ((eqb s t ≡ true) × (s ≡ t)) ⊎ ((eqb s t ≡ false) × (s ≢ t))
+        → is_open (state t past) ≡ false
     by_session t all (inl (is, same)) = subst (λ u. closed_of u past ≡ length (calls_of P u) → is_open (state u past) ≡ false) same ended all
     by_session t all (inr (is, other)) = up.ends t other all
 
@@ -236,7 +251,8 @@ no_state : (s : ℕ) (o : Option Transaction) → is_open (state_with (if s == s
 no_state s o = ap (λ x. is_open (state_with x)) (here s o None)
 
 -- or it leaves
-pub left_played : (B : Base) (P : Scripts) (s : ℕ) (past : List Event) → IsUpTo B P s past → closed_of s past ≡ length (calls_of P s) → is_open (state s past) ≡ true → IsPlayed B P (Left s ∷ past)
+pub left_played : (B : Base) (P : Scripts) (s : ℕ) (past : List Event) → IsUpTo B P s past → closed_of s past ≡ length (calls_of P s)
+    → is_open (state s past) ≡ true → IsPlayed B P (Left s ∷ past)
 left_played B P s past up all is_open_still = record {
   closes = (((all, IsTrue-from is_open_still), up.not_left), up.closes);
   texts = (tt, up.texts);
@@ -253,10 +269,12 @@ left_played B P s past up all is_open_still = record {
     IsTrue-from : {b : Bool} → b ≡ true → IsTrue b
     IsTrue-from is = search rules
 
-    stays_by : (t : ℕ) → has_left t (Left s ∷ past) ≡ true → ((eqb s t ≡ true) × (s ≡ t)) ⊎ ((eqb s t ≡ false) × (s ≢ t)) → closed_of t past ≡ length (calls_of P t)
+    stays_by : (t : ℕ) → has_left t (Left s ∷ past) ≡ true → ((eqb s t ≡ true) × (s ≡ t)) ⊎ ((eqb s t ≡ false) × (s ≢ t))
+        → closed_of t past ≡ length (calls_of P t)
     stays_by t has (inl (is, same)) = subst (λ u. closed_of u past ≡ length (calls_of P u)) same all
     stays_by t has (inr (is, other)) = up.stays t (subst (λ b. (b || has_left t past) ≡ true) is has)
 
-    ends_by : (t : ℕ) → closed_of t past ≡ length (calls_of P t) → ((eqb s t ≡ true) × (s ≡ t)) ⊎ ((eqb s t ≡ false) × (s ≢ t)) → is_open (state t (Left s ∷ past)) ≡ false
+    ends_by : (t : ℕ) → closed_of t past ≡ length (calls_of P t) → ((eqb s t ≡ true) × (s ≡ t)) ⊎ ((eqb s t ≡ false) × (s ≢ t))
+        → is_open (state t (Left s ∷ past)) ≡ false
     ends_by t all' (inl (is, same)) = subst (λ u. is_open (state u (Left s ∷ past)) ≡ false) same (no_state s (open_of s past))
     ends_by t all' (inr (is, other)) = ap (λ o. is_open (state_with o)) (elsewhere s t (open_of t past) None other) ∙ up.ends t other all'

@@ -16,7 +16,8 @@ after_one (Ok r) line = all_done (step line r)
 after_one (Err e) line = refl
 
 -- one line and then the others
-pub after_more : (old : Result Reading RefusedLine) (line : Line) (lines : List Line) → ((old >>= after (line ∷ [])) >>= after lines) ≡ (old >>= after (line ∷ lines))
+pub after_more : (old : Result Reading RefusedLine) (line : Line) (lines : List Line)
+    → ((old >>= after (line ∷ [])) >>= after lines) ≡ (old >>= after (line ∷ lines))
 after_more (Ok r) line lines = done (step line r)
   where
     done : (read : Result Reading RefusedLine) → ((read >>= after []) >>= after lines) ≡ (read >>= after lines)
@@ -27,7 +28,8 @@ after_more (Err e) line lines = refl
 pub ruleset line_laws = (after_one)
 
 -- where no line before the bad byte is refused, its line is
-pub not_text-Ok : (front : List ℕ) (read : Result Reading RefusedLine) → IsOk read → not_text front read ≡ Err (record { line = count_by (λ b. b == 10) front + 1; why = NotUtf8 })
+pub not_text-Ok : (front : List ℕ) (read : Result Reading RefusedLine) → IsOk read
+    → not_text front read ≡ Err (record { line = count_by (λ b. b == 10) front + 1; why = NotUtf8 })
 not_text-Ok front (Ok r) ok = refl
 not_text-Ok front (Err e) ok = cc
 

@@ -36,7 +36,8 @@ abbrev ToCome : Base → Scripts → List Event → List Event → Type 0
 ToCome B P past [] = ClosesAtEnd P past
 ToCome B P past (e ∷ events) = IsPlace B P e past × IsNoWant e × ToCome B P (e ∷ past) events
 
-to_come : (B : Base) (P : Scripts) (events past : List Event) → AtEach (IsPlace B P) (onto events past) → HasNoWant events → ClosesAtEnd P (onto events past) → ToCome B P past events × AtEach (IsPlace B P) past
+to_come : (B : Base) (P : Scripts) (events past : List Event) → AtEach (IsPlace B P) (onto events past) → HasNoWant events → ClosesAtEnd P (onto events past)
+    → ToCome B P past events × AtEach (IsPlace B P) past
 unfolding onto
 to_come B P [] past each no_want at_end = (at_end, each)
 to_come B P (e ∷ events) past each no_want at_end =
@@ -46,7 +47,8 @@ module _ (B : Base) (P : Scripts) where
   -- ---- a session with a next call, and one that leaves
 
   calls_left : (e : Event) (past : List Event) → IsOfText B P e past → closed_of (session_of e) past ≡ length (calls_of P (session_of e)) → ⊥
-  calls_left e past of_text all = let within = slice_get_within (calls_of P (session_of e)) (closed_of (session_of e) past) of_text.text of_text.next_is in omega (arith, within, all)
+  calls_left e past of_text all = let within = slice_get_within (calls_of P (session_of e)) (closed_of (session_of e) past) of_text.text of_text.next_is in
+      omega (arith, within, all)
 
   -- where a session leaves, its calls are closed and its transaction is open, and its last call has just been closed
   left_all : (s : ℕ) (e : Event) (past : List Event) → e ≡ Left s → IsPlace B P e past → closed_of s past ≡ length (calls_of P s)
@@ -76,18 +78,21 @@ module _ (B : Base) (P : Scripts) where
   open_stays s (Settled by t stands) past o place other = absurd place.right
   open_stays s (Left t) past o place other = elsewhere t s o _ other
 
-  still_open : (s : ℕ) (e : Event) (past : List Event) → IsPlace B P e past → (session_of e ≡ s → ⊥) → is_open (state s past) ≡ true → is_open (state s (e ∷ past)) ≡ true
+  still_open : (s : ℕ) (e : Event) (past : List Event) → IsPlace B P e past → (session_of e ≡ s → ⊥) → is_open (state s past) ≡ true
+      → is_open (state s (e ∷ past)) ≡ true
   still_open s e past place other is = ap (λ o. is_open (state_with o)) (open_stays s e past (open_of s past) place other) ∙ is
 
   none_closed : (s t : ℕ) (b : Bool) → (t ≡ s → ⊥) → ◌≡◌ {A = ℕ} (if b && (t == s) then 1 else 0) 0
   none_closed s t true other = elsewhere {A = ℕ} t s 0 1 other
   none_closed s t false other = refl
 
-  still_closed : (s : ℕ) (e : Event) (past : List Event) → (session_of e ≡ s → ⊥) → closed_of s past ≡ length (calls_of P s) → closed_of s (e ∷ past) ≡ length (calls_of P s)
+  still_closed : (s : ℕ) (e : Event) (past : List Event) → (session_of e ≡ s → ⊥) → closed_of s past ≡ length (calls_of P s)
+      → closed_of s (e ∷ past) ≡ length (calls_of P s)
   still_closed s e past other all = let none : more_closed s e ≡ 0 = none_closed s (session_of e) (is_closing e) other in omega (arith, none, all)
 
   -- a session whose calls are closed adds no event, but that it leaves directly behind its last call
-  adds_none : (s : ℕ) (e : Event) (past : List Event) → IsPlace B P e past → IsNoWant e → closed_of s past ≡ length (calls_of P s) → (IsBehindCall s past → ⊥) → session_of e ≡ s → ⊥
+  adds_none : (s : ℕ) (e : Event) (past : List Event) → IsPlace B P e past → IsNoWant e → closed_of s past ≡ length (calls_of P s) → (IsBehindCall s past → ⊥)
+      → session_of e ≡ s → ⊥
   adds_none s e past place no_want all not_behind same = by_kind (of_text B P past e place no_want)
     where
       by_kind : (e ≡ Left (session_of e)) ⊎ IsOfText B P e past → ⊥
@@ -95,7 +100,8 @@ module _ (B : Base) (P : Scripts) where
       by_kind (inr of_text) = calls_left e past of_text (subst (λ t. closed_of t past ≡ length (calls_of P t)) (sym same) all)
 
   -- so its transaction is not open where another session's event comes next
-  left_out : (events : List Event) (e : Event) (s : ℕ) (past : List Event) → is_open (state s past) ≡ true → closed_of s past ≡ length (calls_of P s) → (session_of e ≡ s → ⊥) → ToCome B P past (e ∷ events) → ⊥
+  left_out : (events : List Event) (e : Event) (s : ℕ) (past : List Event) → is_open (state s past) ≡ true → closed_of s past ≡ length (calls_of P s)
+      → (session_of e ≡ s → ⊥) → ToCome B P past (e ∷ events) → ⊥
   left_out [] e s past is all other to_come = true≢false (sym (still_open s e past to_come.0 other is) ∙ (to_come.2 s).1)
   left_out (f ∷ events) e s past is all other to_come =
       left_out events f s (e ∷ past) (still_open s e past to_come.0 other is) (still_closed s e past other all)
@@ -110,8 +116,10 @@ module _ (B : Base) (P : Scripts) where
       by_kind (inl is) = true≢false (sym (left_open (session_of e) e past is place) ∙ (at_end (session_of e)).1)
       by_kind (inr of_text) = calls_left e past of_text (at_end (session_of e)).0
 
-  grant_turn : (s : ℕ) (e : Event) (past : List Event) → IsOfText B P e past → session_of e ≡ s → closed_of s (e ∷ past) ≡ closed_of s past → ClosesAtEnd P (e ∷ past) → ⊥
-  grant_turn s e past of_text same none at_end = calls_left e past of_text (subst (λ t. closed_of t past ≡ length (calls_of P t)) (sym same) (sym none ∙ (at_end s).0))
+  grant_turn : (s : ℕ) (e : Event) (past : List Event) → IsOfText B P e past → session_of e ≡ s → closed_of s (e ∷ past) ≡ closed_of s past
+      → ClosesAtEnd P (e ∷ past) → ⊥
+  grant_turn s e past of_text same none at_end =
+      calls_left e past of_text (subst (λ t. closed_of t past ≡ length (calls_of P t)) (sym same) (sym none ∙ (at_end s).0))
 
   has_turn : (e : Event) (past events : List Event) → ToCome B P past (e ∷ events) → IsOfText B P e past → HasNext (session_of e) (turns_in (e ∷ events))
   has_turn (Began s kind) past events to_come of_text = refl
@@ -134,7 +142,8 @@ module _ (B : Base) (P : Scripts) where
 
   -- ---- the next event
 
-  next_same : (past : List Event) (e f : Event) (events events' : List Event) → ToCome B P past (e ∷ events) → ToCome B P past (f ∷ events') → turns_in (e ∷ events) ≡ turns_in (f ∷ events') → e ≡ f
+  next_same : (past : List Event) (e f : Event) (events events' : List Event) → ToCome B P past (e ∷ events) → ToCome B P past (f ∷ events')
+      → turns_in (e ∷ events) ≡ turns_in (f ∷ events') → e ≡ f
   next_same past e f events events' one other turns = by_kinds (of_text B P past e one.0 one.1) (of_text B P past f other.0 other.1)
     where
       apart : (s : ℕ) (g : Event) → IsOfText B P g past → closed_of s past ≡ length (calls_of P s) → session_of g ≡ s → ⊥
@@ -142,19 +151,23 @@ module _ (B : Base) (P : Scripts) where
 
       by_kinds : (e ≡ Left (session_of e)) ⊎ IsOfText B P e past → (f ≡ Left (session_of f)) ⊎ IsOfText B P f past → e ≡ f
       by_kinds (inl is) (inl is') =
-          is ∙ ap Left (same_behind (session_of e) (session_of f) past (left_behind (session_of e) e past is one.0) (left_behind (session_of f) f past is' other.0)) ∙ sym is'
+          is ∙ ap Left (same_behind (session_of e) (session_of f) past (left_behind (session_of e) e past is one.0)
+          (left_behind (session_of f) f past is' other.0)) ∙ sym is'
       by_kinds (inl is) (inr text) =
           let all = left_all (session_of e) e past is one.0 in
           absurd (left_out events' f (session_of e) past (left_open (session_of e) e past is one.0) all (apart (session_of e) f text all) other)
       by_kinds (inr text) (inl is) =
           let all = left_all (session_of f) f past is other.0 in
           absurd (left_out events e (session_of f) past (left_open (session_of f) f past is other.0) all (apart (session_of f) e text all) one)
-      by_kinds (inr text) (inr text') = of_text_once B P past e f (same_turn (session_of e) (session_of f) _ _ turns (has_turn e past events one text) (has_turn f past events' other text')) text text'
+      by_kinds (inr text) (inr text') =
+          of_text_once B P past e f
+          (same_turn (session_of e) (session_of f) _ _ turns (has_turn e past events one text) (has_turn f past events' other text')) text text'
 
   same_rest : (e : Event) (events events' : List Event) → turns_in (e ∷ events) ≡ turns_in (e ∷ events') → turns_in events ≡ turns_in events'
   same_rest e events events' same = by_test (is_closing e) same
     where
-      by_test : (b : Bool) → (if b then session_of e ∷ turns_in events else turns_in events) ≡ (if b then session_of e ∷ turns_in events' else turns_in events') → turns_in events ≡ turns_in events'
+      by_test : (b : Bool) → (if b then session_of e ∷ turns_in events else turns_in events) ≡ (if b then session_of e ∷ turns_in events' else turns_in events')
+          → turns_in events ≡ turns_in events'
       by_test true is = cc
       by_test false is = is
 
@@ -177,6 +190,8 @@ whole_to_come B script journal whole no_want =
     (to_come B script.sessions journal [] (subst (AtEach (IsPlace B script.sessions)) (past_onto journal) each) no_want
     (subst (ClosesAtEnd script.sessions) (past_onto journal) whole.legal.closes.at_end)).0
 
-pub one_play : (B : Base) (script : Script) (one other : List Event) → IsWholePlay B script one → IsWholePlay B script other → HasNoWant one → HasNoWant other → one ≡ other
+pub one_play : (B : Base) (script : Script) (one other : List Event) → IsWholePlay B script one → IsWholePlay B script other → HasNoWant one → HasNoWant other
+    → one ≡ other
 one_play B script one other whole whole' no_want no_want' =
-    same_events B script.sessions one other [] (whole_to_come B script one whole no_want) (whole_to_come B script other whole' no_want') (whole.in_turn ∙ sym whole'.in_turn)
+    same_events B script.sessions one other [] (whole_to_come B script one whole no_want) (whole_to_come B script other whole' no_want') (whole.in_turn
+    ∙ sym whole'.in_turn)

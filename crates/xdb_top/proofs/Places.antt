@@ -25,8 +25,10 @@ pub record IsPlace (B : Base) (P : Scripts) (e : Event) (past : List Event) : Ty
   pub settling : SettlingAt B.numbers e past
 
 -- of each event, where each of them holds of each
-pub places : (B : Base) (P : Scripts) (past : List Event) → AtEach (ClosesAt P) past → AtEach (TextRefusalsAt P) past → AtEach (TakesNoDevice B) past → AtEach FollowsAtOnce past → AtEach LeavesAtOnce past
-    → AtEach LocksAt past → AtEach (SerialAt B) past → AtEach (SnapshotsAt B) past → AtEach RefusalsAt past → AtEach (SettlingAt B.numbers) past → AtEach (IsPlace B P) past
+pub places : (B : Base) (P : Scripts) (past : List Event) → AtEach (ClosesAt P) past → AtEach (TextRefusalsAt P) past → AtEach (TakesNoDevice B) past
+    → AtEach FollowsAtOnce past → AtEach LeavesAtOnce past
+    → AtEach LocksAt past → AtEach (SerialAt B) past → AtEach (SnapshotsAt B) past → AtEach RefusalsAt past → AtEach (SettlingAt B.numbers) past
+    → AtEach (IsPlace B P) past
 places B P [] closes texts right at_once leaves locks serial snapshots refusals settling = tt
 places B P (e ∷ past) closes texts right at_once leaves locks serial snapshots refusals settling = (
   record {

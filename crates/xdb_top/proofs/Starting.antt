@@ -19,7 +19,8 @@ abbrev pub new_seat : ℕ → Seat
 new_seat i = record { session = seat_of (i + 1) no_changes; made = 0 }
 
 pub no_seats : (seats : List Seat) → seats ≡ [] → AreNewSeats 0 seats
-no_seats seats none = subst (AreNewSeats 0) (sym none) (record { as_many = refl; each = λ i seat got. absurd (let out = slice_get_within [] i seat got in omega (arith, out)) })
+no_seats seats none = subst (AreNewSeats 0) (sym none)
+    (record { as_many = refl; each = λ i seat got. absurd (let out = slice_get_within [] i seat got in omega (arith, out)) })
 
 pub one_seat_more : (n : ℕ) (seats : List Seat) → AreNewSeats n seats → AreNewSeats (n + 1) (seats ++ new_seat n ∷ [])
 one_seat_more n seats are = record {
@@ -30,15 +31,18 @@ one_seat_more n seats are = record {
     by_place : (i : ℕ) (seat : Seat) → slice_get (seats ++ new_seat n ∷ []) i ≡ Some seat → ((eqb i n ≡ true) × (i ≡ n)) ⊎ ((eqb i n ≡ false) × (i ≢ n))
         → (seat.session ≡ seat_of (i + 1) no_changes) × (seat.made ≡ 0)
     by_place i seat got (inl (test, same)) =
-        let last : seat ≡ new_seat n = sym (get_or_from_slice_get (seats ++ new_seat n ∷ []) i seat seat got) ∙ get_or_push seats (new_seat n) seat i (are.as_many ∙ sym same) in
+        let last : seat ≡ new_seat n = sym (get_or_from_slice_get (seats ++ new_seat n ∷ []) i seat seat got)
+        ∙ get_or_push seats (new_seat n) seat i (are.as_many ∙ sym same) in
         (ap (λ s. s.session) last ∙ ap (λ k. seat_of (k + 1) no_changes) (sym same), ap (λ s. s.made) last)
     by_place i seat got (inr (test, other)) =
         let below = slice_get_within (seats ++ new_seat n ∷ []) i seat got in
         let within : i < length seats = omega (arith, below, length-append seats (new_seat n ∷ []), are.as_many, other) in
-        are.each i seat (slice_get-get_or seats i seat within ∙ ap Some (sym (get_or_append_left seats (new_seat n ∷ []) seat i within) ∙ get_or_from_slice_get (seats ++ new_seat n ∷ []) i seat seat got))
+        are.each i seat (slice_get-get_or seats i seat within
+        ∙ ap Some (sym (get_or_append_left seats (new_seat n ∷ []) seat i within) ∙ get_or_from_slice_get (seats ++ new_seat n ∷ []) i seat seat got))
 
 pub nothing_played_yet : (B : Base) (P : Scripts) → IsPlayed B P []
-nothing_played_yet B P = record { closes = tt; texts = tt; right = tt; at_once = tt; leaves = tt; stays = λ s has. absurd (true≢false (sym has)); ends = λ s all. refl }
+nothing_played_yet B P =
+    record { closes = tt; texts = tt; right = tt; at_once = tt; leaves = tt; stays = λ s has. absurd (true≢false (sym has)); ends = λ s all. refl }
 
 -- a play that breaks off before its first turn
 pub off_at_start : (P : Scripts) (order : List ℕ) (k : Kept) → k ≡ start_kept → HasBrokenOff P order start_kept k
@@ -57,5 +61,6 @@ starts P seats are = record {
   };
 }
 
-pub whole : (script : Script) (k : Kept) (seats : List Seat) → HasPlayed script.sessions (script.order ++ one_by_one 1 script.sessions) start_kept k seats → IsPlayedWhole script k
+pub whole : (script : Script) (k : Kept) (seats : List Seat) → HasPlayed script.sessions (script.order ++ one_by_one 1 script.sessions) start_kept k seats
+    → IsPlayedWhole script k
 whole script k seats played = record { base = played.playing.base; played = played.playing.played; at_rest = played.playing.at_rest; in_turn = played.turns }

@@ -52,7 +52,8 @@ pub of_text_once : (B : Base) (P : Scripts) (past : List Event) (e f : Event) �
 of_text_once B P past e f same a b =
     let text : a.text ≡ b.text = same_text a.text b.text (next_call P (session_of e) past) a.next_is (ap (λ s. next_call P s past) same ∙ b.next_is) in
     let what : b.what ≡ a.what = one_answer a.text b.what a.what (subst (λ t. Parsed t b.what) (sym text) b.parsed) a.parsed in
-    told_by_once B (session_of e) past a.what e f a.told (subst (λ w. IsToldBy B (session_of e) past w f) what (subst (λ s. IsToldBy B s past b.what f) (sym same) b.told))
+    told_by_once B (session_of e) past a.what e f a.told
+    (subst (λ w. IsToldBy B (session_of e) past w f) what (subst (λ s. IsToldBy B s past b.what f) (sym same) b.told))
 
 -- ---- each event is for a call, or its session's end
 
@@ -60,17 +61,22 @@ module _ (B : Base) (P : Scripts) (past : List Event) where
   some_asked : (before : List Need) (n : Need) (behind asked : List Need) → asked ≡ before ++ n ∷ behind → 0 < length asked
   some_asked before n behind asked is = let all = length-append before (n ∷ behind) in let same = ap length is in omega arith
 
-  answer_told : (call : Call) (s : ℕ) (reply : Reply) → KeepsReading (Ok call) reply → IsPlace B P (Answered s reply) past → IsNoWant (Answered s reply) → IsTold B s past call (state s past) (Answered s reply)
+  answer_told : (call : Call) (s : ℕ) (reply : Reply) → KeepsReading (Ok call) reply → IsPlace B P (Answered s reply) past → IsNoWant (Answered s reply)
+      → IsTold B s past call (state s past) (Answered s reply)
   answer_told call s reply (inl is) place no_want =
       let right : IsAnswerInMemory B s past (Some call) reply.says = subst (λ c. IsAnswerInMemory B s past c reply.says) is place.right in
       let locks : IsAnsweredWithLocks (state s past) s (record { call = Some call; says = reply.says }) past =
       subst (λ c. IsAnsweredWithLocks (state s past) s (record { call = c; says = reply.says }) past) is place.locks.0 in
-      subst (λ c. IsTold B s past call (state s past) (Answered s (record { call = c; says = reply.says }))) (sym is) (right_told B s past call reply.says right no_want locks)
+      subst (λ c. IsTold B s past call (state s past) (Answered s (record { call = c; says = reply.says }))) (sym is)
+      (right_told B s past call reply.says right no_want locks)
   answer_told call s reply (inr lost) place no_want = absurd (no_want lost.1)
 
-  call_told : (call : Call) (e : Event) → is_closing e ≡ true → ClosesCall call e → IsPlace B P e past → IsNoWant e → IsTold B (session_of e) past call (state (session_of e) past) e
-  call_told call (Began s kinds.Updating) closing is place no_want = told_where B s past call Begin (state s past) Idle (Began s kinds.Updating) is place.refusals refl
-  call_told call (Began s (kinds.Reading n)) closing is place no_want = told_where B s past call BeginRead (state s past) Idle (Began s (kinds.Reading n)) is place.refusals (ap (λ m. Began s (kinds.Reading m)) place.snapshots)
+  call_told : (call : Call) (e : Event) → is_closing e ≡ true → ClosesCall call e → IsPlace B P e past → IsNoWant e
+      → IsTold B (session_of e) past call (state (session_of e) past) e
+  call_told call (Began s kinds.Updating) closing is place no_want =
+      told_where B s past call Begin (state s past) Idle (Began s kinds.Updating) is place.refusals refl
+  call_told call (Began s (kinds.Reading n)) closing is place no_want =
+      told_where B s past call BeginRead (state s past) Idle (Began s (kinds.Reading n)) is place.refusals (ap (λ m. Began s (kinds.Reading m)) place.snapshots)
   call_told call (Granted s asked) closing is place no_want = never closing
   call_told call (Refused s name holder asked) closing is place no_want =
       let refused : IsRefused s name holder (needs call) past = subst (λ n. IsRefused s name holder n past) is place.locks.0 in
@@ -78,17 +84,22 @@ module _ (B : Base) (P : Scripts) (past : List Event) where
       (needing B s past call (Refused s name holder asked) (some_asked refused.before refused.blocked refused.behind (needs call) refused.asked_are)
       (inr (inl (record { name = name; holder = holder; is = ap (Refused s name holder) is; refused = refused }))))
   call_told call (Answered s reply) closing is place no_want = answer_told call s reply is place no_want
-  call_told call (Committed s n) closing is place no_want = told_where B s past call Commit (state s past) Updating (Committed s n) is place.refusals (inl (ap (Committed s) place.serial.0, place.settling.0.1))
-  call_told call (Ended s) closing is place no_want = told_where B s past call Commit (state s past) (state s past) (Ended s) is refl (ended B s past (state s past) place.refusals)
-  call_told call (RolledBack s) closing is place no_want = told_where B s past call Rollback (state s past) (state s past) (RolledBack s) is refl (rolled_back B s past (state s past) place.refusals)
+  call_told call (Committed s n) closing is place no_want =
+      told_where B s past call Commit (state s past) Updating (Committed s n) is place.refusals (inl (ap (Committed s) place.serial.0, place.settling.0.1))
+  call_told call (Ended s) closing is place no_want =
+      told_where B s past call Commit (state s past) (state s past) (Ended s) is refl (ended B s past (state s past) place.refusals)
+  call_told call (RolledBack s) closing is place no_want =
+      told_where B s past call Rollback (state s past) (state s past) (RolledBack s) is refl (rolled_back B s past (state s past) place.refusals)
   call_told call (Doubt s n mark) closing is place no_want = absurd place.right
   call_told call (Settled by s stands) closing is place no_want = never closing
   call_told call (Left s) closing is place no_want = never closing
 
-  grant_told : (call : Call) (s : ℕ) (asked : List Need) → needs call ≡ asked → IsPlace B P (Granted s asked) past → IsTold B s past call (state s past) (Granted s asked)
+  grant_told : (call : Call) (s : ℕ) (asked : List Need) → needs call ≡ asked → IsPlace B P (Granted s asked) past
+      → IsTold B s past call (state s past) (Granted s asked)
   grant_told call s asked same place =
       let some : 0 < length (needs call) = subst (λ n. 0 < length n) (sym same) place.locks.0.some in
-      told_where B s past call call (state s past) Updating (Granted s asked) refl place.locks.0.updating (needing B s past call (Granted s asked) some (inl (record {
+      told_where B s past call call (state s past) Updating (Granted s asked) refl place.locks.0.updating
+      (needing B s past call (Granted s asked) some (inl (record {
         is = ap (Granted s) (sym same);
         some = some;
         free = subst (λ n. AllFree s n past) (sym same) place.locks.0.free;
@@ -100,21 +111,25 @@ module _ (B : Base) (P : Scripts) (past : List Event) where
   device_failed (says.Error (codes.Failed mark)) failed = refl
   device_failed answer failed = absurd failed
 
-  refusal_says : (s : ℕ) (code : Code) (answer : Says) → IsTextAnswer (Err code) (state s past) answer → is_of_device answer ≡ false → (answer ≡ says.Error codes.NoMemory → ⊥) → answer ≡ says.Error code
+  refusal_says : (s : ℕ) (code : Code) (answer : Says) → IsTextAnswer (Err code) (state s past) answer → is_of_device answer ≡ false
+      → (answer ≡ says.Error codes.NoMemory → ⊥) → answer ≡ says.Error code
   refusal_says s code answer (inl is) here no_want = is
   refusal_says s code answer (inr (inl lacks)) here no_want = absurd (no_want lacks)
   refusal_says s code answer (inr (inr doubt)) here no_want = never (sym here ∙ device_failed answer doubt.1)
 
-  refusal_told : (text : CallText) (code : Code) (s : ℕ) (reply : Reply) → next_call P s past ≡ Some text → Parsed text (Err code) → reply.call ≡ None → IsPlace B P (Answered s reply) past → IsNoWant (Answered s reply)
+  refusal_told : (text : CallText) (code : Code) (s : ℕ) (reply : Reply) → next_call P s past ≡ Some text → Parsed text (Err code) → reply.call ≡ None
+      → IsPlace B P (Answered s reply) past → IsNoWant (Answered s reply)
       → Answered s reply ≡ Answered s (record { call = None; says = says.Error code })
   refusal_told text code s reply next parsed none place no_want =
       let answer : IsAnswerTo text (state s past) reply.says = subst (λ o. IfSome o (λ t. IsAnswerTo t (state s past) reply.says)) next place.texts in
       let same : answer.what ≡ Err code = one_answer text answer.what (Err code) answer.parsed parsed in
       let right : IsAnswerInMemory B s past None reply.says = subst (λ c. IsAnswerInMemory B s past c reply.says) none place.right in
-      let is : reply.says ≡ says.Error code = refusal_says s code reply.says (subst (λ w. IsTextAnswer w (state s past) reply.says) same answer.answers) right.1 no_want in
+      let is : reply.says ≡ says.Error code =
+      refusal_says s code reply.says (subst (λ w. IsTextAnswer w (state s past) reply.says) same answer.answers) right.1 no_want in
       ap (λ c. Answered s (record { call = c; says = reply.says })) none ∙ ap (λ a. Answered s (record { call = None; says = a })) is
 
-  text_told : (text : CallText) (what : Result Call Code) (e : Event) → is_closing e ≡ true → next_call P (session_of e) past ≡ Some text → Parsed text what → Closes what e → IsPlace B P e past → IsNoWant e
+  text_told : (text : CallText) (what : Result Call Code) (e : Event) → is_closing e ≡ true → next_call P (session_of e) past ≡ Some text → Parsed text what
+      → Closes what e → IsPlace B P e past → IsNoWant e
       → IsToldBy B (session_of e) past what e
   text_told text (Ok call) e closing next parsed is place no_want = call_told call e closing is place no_want
   text_told text (Err code) (Answered s reply) closing next parsed is place no_want = refusal_told text code s reply next parsed is place no_want
@@ -128,15 +143,20 @@ module _ (B : Base) (P : Scripts) (past : List Event) where
   text_told text (Err code) (Settled by s stands) closing next parsed is place no_want = absurd is
   text_told text (Err code) (Left s) closing next parsed is place no_want = absurd is
 
-  closing_text : (o : Option CallText) (e : Event) → next_call P (session_of e) past ≡ o → is_closing e ≡ true → IsSomeText o (λ text. ClosesBy text e) → IsPlace B P e past → IsNoWant e → IsOfText B P e past
+  closing_text : (o : Option CallText) (e : Event) → next_call P (session_of e) past ≡ o → is_closing e ≡ true → IsSomeText o (λ text. ClosesBy text e)
+      → IsPlace B P e past → IsNoWant e → IsOfText B P e past
   closing_text None e next closing is place no_want = absurd is
-  closing_text (Some text) e next closing is place no_want = record { text = text; next_is = next; what = is.what; parsed = is.parsed; told = text_told text is.what e closing next is.parsed is.closes place no_want }
+  closing_text (Some text) e next closing is place no_want =
+      record { text = text; next_is = next; what = is.what; parsed = is.parsed; told = text_told text is.what e closing next is.parsed is.closes place no_want }
 
-  granted_text : (o : Option CallText) (s : ℕ) (asked : List Need) → next_call P s past ≡ o → IsSomeText o (NeedsThese asked) → IsPlace B P (Granted s asked) past → IsOfText B P (Granted s asked) past
+  granted_text : (o : Option CallText) (s : ℕ) (asked : List Need) → next_call P s past ≡ o → IsSomeText o (NeedsThese asked)
+      → IsPlace B P (Granted s asked) past → IsOfText B P (Granted s asked) past
   granted_text None s asked next is place = absurd is
-  granted_text (Some text) s asked next is place = record { text = text; next_is = next; what = Ok is.call; parsed = is.parsed; told = grant_told is.call s asked is.needs_are place }
+  granted_text (Some text) s asked next is place =
+      record { text = text; next_is = next; what = Ok is.call; parsed = is.parsed; told = grant_told is.call s asked is.needs_are place }
 
-  closing_of : (e : Event) → is_closing e ≡ true → IsSomeText (next_call P (session_of e) past) (λ text. ClosesBy text e) → IsPlace B P e past → IsNoWant e → IsOfText B P e past
+  closing_of : (e : Event) → is_closing e ≡ true → IsSomeText (next_call P (session_of e) past) (λ text. ClosesBy text e) → IsPlace B P e past → IsNoWant e
+      → IsOfText B P e past
   closing_of e closing is place no_want = closing_text (next_call P (session_of e) past) e refl closing is place no_want
 
   -- an event is its session's end, or it is for a call

@@ -60,13 +60,15 @@ from_first : (first : ℕ) (P : Scripts) (k : ℕ) → turns_of (first + k) (one
 from_first first [] k = refl
 from_first first (calls ∷ more) zero =
     turns_of-append (first + 0) (replicate (length calls) first) (one_by_one (first + 1) more)
-    ∙ ap (λ n. n + turns_of (first + 0) (one_by_one (first + 1) more)) (ap (λ u. turns_of u (replicate (length calls) first)) (add-zero first) ∙ turns_of-same first (length calls))
+    ∙ ap (λ n. n + turns_of (first + 0) (one_by_one (first + 1) more)) (ap (λ u. turns_of u (replicate (length calls) first)) (add-zero first)
+    ∙ turns_of-same first (length calls))
     ∙ ap (λ n. length calls + n) (before_first (first + 1) (first + 0) more (omega arith))
     ∙ omega arith
 from_first first (calls ∷ more) (suc k) =
     turns_of-append (first + suc k) (replicate (length calls) first) (one_by_one (first + 1) more)
     ∙ ap (λ n. n + turns_of (first + suc k) (one_by_one (first + 1) more)) (turns_of-other (first + suc k) first (length calls) (λ same. omega arith))
-    ∙ let next : turns_of (first + suc k) (one_by_one (first + 1) more) ≡ turns_of ((first + 1) + k) (one_by_one (first + 1) more) = ap (λ u. turns_of u (one_by_one (first + 1) more)) (omega arith) in
+    ∙ let next : turns_of (first + suc k) (one_by_one (first + 1) more) ≡ turns_of ((first + 1) + k) (one_by_one (first + 1) more) =
+    ap (λ u. turns_of u (one_by_one (first + 1) more)) (omega arith) in
     let rest = from_first (first + 1) more k in
     omega arith
 
@@ -92,7 +94,8 @@ pub front_itself : (turns : List ℕ) → IsFront turns turns
 front_itself turns = record { rest = []; is = append-nil turns }
 
 pub front_then : (a b c : List ℕ) → IsFront a b → IsFront b c → IsFront a c
-front_then a b c one other = record { rest = one.rest ++ other.rest; is = sym (append_assoc a one.rest other.rest) ∙ ap (λ x. x ++ other.rest) one.is ∙ other.is }
+front_then a b c one other =
+    record { rest = one.rest ++ other.rest; is = sym (append_assoc a one.rest other.rest) ∙ ap (λ x. x ++ other.rest) one.is ∙ other.is }
 
 with_turn_front : (P : Scripts) (turns : List ℕ) (s : ℕ) → IsFront turns (with_turn P turns s)
 with_turn_front P turns s = by_test (nat_lt (turns_of s turns) (length (calls_of P s)))
@@ -103,7 +106,8 @@ with_turn_front P turns s = by_test (nat_lt (turns_of s turns) (length (calls_of
 
 pub ordered_front : (P : Scripts) (turns order : List ℕ) → IsFront turns (ordered P turns order)
 ordered_front P turns [] = front_itself turns
-ordered_front P turns (s ∷ order) = front_then turns (with_turn P turns s) (ordered P (with_turn P turns s) order) (with_turn_front P turns s) (ordered_front P (with_turn P turns s) order)
+ordered_front P turns (s ∷ order) =
+    front_then turns (with_turn P turns s) (ordered P (with_turn P turns s) order) (with_turn_front P turns s) (ordered_front P (with_turn P turns s) order)
 
 pub take_front : (k : ℕ) (turns : List ℕ) → IsFront (take k turns) turns
 take_front k turns = record { rest = drop k turns; is = take-append-drop k turns }
@@ -116,7 +120,8 @@ one_by_one_front first zero P = record { rest = one_by_one first P; is = refl }
 one_by_one_front first (suc k) [] = front_itself []
 one_by_one_front first (suc k) (calls ∷ more) = let front = one_by_one_front (first + 1) k more in record {
   rest = front.rest;
-  is = append_assoc (replicate (length calls) first) (one_by_one (first + 1) (take k more)) front.rest ∙ ap (λ turns. replicate (length calls) first ++ turns) front.is;
+  is = append_assoc (replicate (length calls) first) (one_by_one (first + 1) (take k more)) front.rest
+      ∙ ap (λ turns. replicate (length calls) first ++ turns) front.is;
 }
 
 -- ---- the turns of a journal
@@ -132,7 +137,9 @@ closed_by_turns s (e ∷ journal) =
     ap (closed_of s) (reverse-append (e ∷ []) journal) ∙ closed_of-append s (past_of journal) (e ∷ [])
     ∙ ap (λ n. n + (more_closed s e + 0)) (closed_by_turns s journal) ∙ by_test (is_closing e) refl
   where
-    by_test : (b : Bool) → is_closing e ≡ b → turns_of s (turns_in journal) + ((if b && (session_of e == s) then 1 else 0) + 0) ≡ turns_of s (if b then session_of e ∷ turns_in journal else turns_in journal)
+    by_test : (b : Bool) → is_closing e ≡ b
+        → turns_of s (turns_in journal) + ((if b && (session_of e == s) then 1 else 0) + 0)
+        ≡ turns_of s (if b then session_of e ∷ turns_in journal else turns_in journal)
     by_test true is = omega arith
     by_test false is = omega arith
 

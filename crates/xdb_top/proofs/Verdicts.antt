@@ -127,7 +127,8 @@ module _ (B : Base) (s : ℕ) (past : List Event) where
   none_needed some = absurd (omega arith)
 
   -- a call that needs locks
-  pub needing : (call : Call) (e : Event) → 0 < length (needs call) → Grants s call e past ⊎ (Refuses s call e past ⊎ Runs B s call e past) → IsTold B s past call Updating e
+  pub needing : (call : Call) (e : Event) → 0 < length (needs call) → Grants s call e past ⊎ (Refuses s call e past ⊎ Runs B s call e past)
+      → IsTold B s past call Updating e
   needing Begin e some is = none_needed some
   needing BeginRead e some is = none_needed some
   needing Commit e some is = none_needed some
@@ -139,7 +140,8 @@ module _ (B : Base) (s : ℕ) (past : List Event) where
   needing (Load name pyx) e some is = is
   needing (Export name) e some is = is
 
-  running : (call : Call) (e : Event) → IsTrue (is_statement call) → refused_in Updating (work_of call) ≡ None → Runs B s call e past → IsTold B s past call Updating e
+  running : (call : Call) (e : Event) → IsTrue (is_statement call) → refused_in Updating (work_of call) ≡ None → Runs B s call e past
+      → IsTold B s past call Updating e
   running Begin e statement passes is = never statement
   running BeginRead e statement passes is = never statement
   running Commit e statement passes is = never statement
@@ -151,7 +153,8 @@ module _ (B : Base) (s : ℕ) (past : List Event) where
   running (Load name pyx) e statement passes is = inr (inr is)
   running (Export name) e statement passes is = inr (inr is)
 
-  reading : (call : Call) (n : ℕ) (answer : Says) → IsTrue (is_statement call) → refused_in (Reading n) (work_of call) ≡ None → answer ≡ says_of (stmt (after B past (n - B.numbers.commit)) call).says
+  reading : (call : Call) (n : ℕ) (answer : Says) → IsTrue (is_statement call) → refused_in (Reading n) (work_of call) ≡ None
+      → answer ≡ says_of (stmt (after B past (n - B.numbers.commit)) call).says
       → IsTold B s past call (Reading n) (answered s call answer)
   reading Begin n answer statement passes is = never statement
   reading BeginRead n answer statement passes is = never statement
@@ -164,17 +167,28 @@ module _ (B : Base) (s : ℕ) (past : List Event) where
   reading (Load name pyx) n answer statement passes is = cc
   reading (Export name) n answer statement passes is = ap (answered s (Export name)) is
 
-  by_step : (call : Call) (answer : Says) → AnswersInOrder B.numbers s past (Some call) answer → IsToldBy B s past (Some call) answer → is_of_device answer ≡ false → (answer ≡ says.Error codes.NoMemory → ⊥)
+  by_step : (call : Call) (answer : Says) → AnswersInOrder B.numbers s past (Some call) answer → IsToldBy B s past (Some call) answer
+      → is_of_device answer ≡ false → (answer ≡ says.Error codes.NoMemory → ⊥)
       → IsAnsweredWithLocks (state s past) s (record { call = Some call; says = answer }) past → IsTold B s past call (state s past) (answered s call answer)
   by_step call _ lacks_memory by here no_want locks = absurd (no_want refl)
-  by_step call answer (refuses_call r) by here no_want locks = subst (λ o. Is B s past call (by_refusal B s past call (state s past) o) (answered s call answer)) (sym r.refused) (ap (answered s call) r.says_so)
-  by_step call answer (makes_checkpoint m) by here no_want locks = told_where call Checkpoint (state s past) Idle (answered s call answer) m.is m.idle (ap (λ c. answered s c answer) m.is ∙ ap (answered s Checkpoint) m.says_so)
+  by_step call answer (refuses_call r) by here no_want locks =
+      subst (λ o. Is B s past call (by_refusal B s past call (state s past) o) (answered s call answer)) (sym r.refused) (ap (answered s call) r.says_so)
+  by_step call answer (makes_checkpoint m) by here no_want locks =
+      told_where call Checkpoint (state s past) Idle (answered s call answer) m.is m.idle (ap (λ c. answered s c answer) m.is
+      ∙ ap (answered s Checkpoint) m.says_so)
   by_step call answer (finds_no_number f) by here no_want locks =
-      told_where call Commit (state s past) Updating (answered s call answer) f.is f.updating (inr (ap (λ c. answered s c answer) f.is ∙ ap (answered s Commit) f.says_so, f.none_left))
+      told_where call Commit (state s past) Updating (answered s call answer) f.is f.updating
+      (inr (ap (λ c. answered s c answer) f.is ∙ ap (answered s Commit) f.says_so, f.none_left))
   by_step call answer (runs_updating r) by here no_want locks =
       let with_locks = subst (λ x. IsAnsweredWithLocks x s (record { call = Some call; says = answer }) past) r.updating locks in
       told_where call call (state s past) Updating (answered s call answer) refl r.updating
-      (running call (answered s call answer) r.statement r.passes (record { is = ap (answered s call) (told_by B s past Updating call answer r.updating r.statement r.told by); granted = r.granted; free = with_locks.1 r.passes no_want }))
+      (running call (answered s call answer) r.statement r.passes
+      (record {
+        is = ap (answered s call) (told_by B s past Updating call answer r.updating r.statement r.told by);
+        granted = r.granted;
+        free =
+            with_locks.1 r.passes no_want;
+      }))
   by_step call answer (runs_reading r) by here no_want locks = told_where call call (state s past) (Reading r.number) (answered s call answer) refl r.reading
       (reading call r.number answer r.statement r.passes (told_by B s past (Reading r.number) call answer r.reading r.statement r.told by))
   by_step call answer (fails f) by here no_want locks = never (sym here ∙ ap is_of_device f.says_so)
@@ -197,10 +211,13 @@ module _ (s : ℕ) (past : List Event) where
   not_free n taken free = true≢false (sym taken.2 ∙ free taken.0 taken.1)
 
   -- the first need that is taken
-  first_taken : (before other : List Need) (n m : Need) (behind rest : List Need) → AllFree s before past → AllFree s other past → before ++ n ∷ behind ≡ other ++ m ∷ rest → IsTaken n → IsTaken m → n ≡ m
+  first_taken : (before other : List Need) (n m : Need) (behind rest : List Need) → AllFree s before past → AllFree s other past
+      → before ++ n ∷ behind ≡ other ++ m ∷ rest → IsTaken n → IsTaken m → n ≡ m
   first_taken [] [] n m behind rest free free' same taken taken' = cc
-  first_taken [] (k ∷ other) n m behind rest free free' same taken taken' = let first : k ≡ n = cc in absurd (not_free n taken (subst (λ x. IsFree s x past) first free'.0))
-  first_taken (k ∷ before) [] n m behind rest free free' same taken taken' = let first : k ≡ m = cc in absurd (not_free m taken' (subst (λ x. IsFree s x past) first free.0))
+  first_taken [] (k ∷ other) n m behind rest free free' same taken taken' = let first : k ≡ n = cc in
+      absurd (not_free n taken (subst (λ x. IsFree s x past) first free'.0))
+  first_taken (k ∷ before) [] n m behind rest free free' same taken taken' = let first : k ≡ m = cc in
+      absurd (not_free m taken' (subst (λ x. IsFree s x past) first free.0))
   first_taken (k ∷ before) (l ∷ other) n m behind rest free free' same taken taken' =
       let more : before ++ n ∷ behind ≡ other ++ m ∷ rest = cc in first_taken before other n m behind rest free.1 free'.1 more taken taken'
 
@@ -213,7 +230,8 @@ module _ (s : ℕ) (past : List Event) where
 
   -- locks are not both refused and free
   not_both : {A : Type 0} (name : List ℕ) (holder : ℕ) (asked : List Need) → IsRefused s name holder asked past → AllFree s asked past → A
-  not_both name holder asked r free = absurd (not_free r.blocked (taken_of name holder asked r) (all_free r.before r.blocked r.behind (subst (λ n. AllFree s n past) r.asked_are free)))
+  not_both name holder asked r free =
+      absurd (not_free r.blocked (taken_of name holder asked r) (all_free r.before r.blocked r.behind (subst (λ n. AllFree s n past) r.asked_are free)))
 
   least_holder : (n : Need) (h k : ℕ) → (h ≡ s → ⊥) → (k ≡ s → ⊥) → blocks h n past ≡ true → blocks k n past ≡ true
       → ((t : ℕ) → t < h → (t ≡ s → ⊥) → blocks t n past ≡ false) → ((t : ℕ) → t < k → (t ≡ s → ⊥) → blocks t n past ≡ false) → h ≡ k
@@ -222,9 +240,12 @@ module _ (s : ℕ) (past : List Event) where
       let not_above : k < h → ⊥ = λ above. true≢false (sym holds' ∙ least k above other') in
       omega (arith, not_below, not_above)
 
-  refused_once : (name name' : List ℕ) (holder holder' : ℕ) (asked : List Need) → IsRefused s name holder asked past → IsRefused s name' holder' asked past → (name ≡ name') × (holder ≡ holder')
+  refused_once : (name name' : List ℕ) (holder holder' : ℕ) (asked : List Need) → IsRefused s name holder asked past → IsRefused s name' holder' asked past
+      → (name ≡ name') × (holder ≡ holder')
   refused_once name name' holder holder' asked r q =
-      let same : r.blocked ≡ q.blocked = first_taken r.before q.before r.blocked q.blocked r.behind q.behind r.before_free q.before_free (sym r.asked_are ∙ q.asked_are) (taken_of name holder asked r) (taken_of name' holder' asked q) in (
+      let same : r.blocked ≡ q.blocked =
+      first_taken r.before q.before r.blocked q.blocked r.behind q.behind r.before_free q.before_free (sym r.asked_are ∙ q.asked_are)
+      (taken_of name holder asked r) (taken_of name' holder' asked q) in (
         r.name_is ∙ ap (λ n. n.name) same ∙ sym q.name_is,
         least_holder r.blocked holder holder' r.other q.other r.holds (subst (λ n. blocks holder' n past ≡ true) (sym same) q.holds) r.least
             (subst (λ n. (t : ℕ) → t < holder' → (t ≡ s → ⊥) → blocks t n past ≡ false) (sym same) q.least),

@@ -42,7 +42,8 @@ whole_play script k whole so_far = record {
   leaves = whole.played.leaves;
 }
 
-pub whole_where_ok : {T E : Type 0} (r : Result T E) (script : Script) (k : Kept) (journal : List Event) → OnOk r (IsPlayedWhole script k) → SoFar k.base k.journal → journal ≡ k.journal
+pub whole_where_ok : {T E : Type 0} (r : Result T E) (script : Script) (k : Kept) (journal : List Event) → OnOk r (IsPlayedWhole script k)
+    → SoFar k.base k.journal → journal ≡ k.journal
     → IsTrue (is_ok r) → IsWholePlay start script journal
 whole_where_ok (Ok x) script k journal whole so_far same ok = subst (IsWholePlay start script) (sym same) (whole_play script k whole so_far)
 whole_where_ok (Err e) script k journal whole so_far same ok = absurd (search rules)
@@ -52,7 +53,14 @@ whole_where_ok (Err e) script k journal whole so_far same ok = absurd (search ru
 -- nothing of it
 pub nothing_of_it : (script : Script) (journal : List Event) → journal ≡ [] → IsPartPlay start script journal
 nothing_of_it script journal none = subst (IsPartPlay start script) (sym none)
-    (record { legal = begins start; played = nothing_played_yet start script.sessions; rest = all_turns script.sessions script.order; in_turn = refl; under_way = tt })
+    (record {
+      legal = begins start;
+      played = nothing_played_yet start script.sessions;
+      rest = all_turns script.sessions script.order;
+      in_turn =
+          refl;
+      under_way = tt;
+    })
 
 module _ (script : Script) (k : Kept) (so_far : SoFar k.base k.journal) (base : k.base ≡ start) where
   from_start : SoFar start k.journal
@@ -68,10 +76,18 @@ module _ (script : Script) (k : Kept) (so_far : SoFar k.base k.journal) (base : 
   }
 
   part_off : HasBrokenOff script.sessions (script.order ++ one_by_one 1 script.sessions) start_kept k → IsPartPlay start script k.journal
-  part_off off = record { legal = from_start; played = subst (λ B. IsPlayed B script.sessions (past k)) base off.played; rest = off.rest; in_turn = off.turns; under_way = off.under_way }
+  part_off off = record {
+    legal = from_start;
+    played = subst (λ B. IsPlayed B script.sessions (past k)) base off.played;
+    rest = off.rest;
+    in_turn =
+        off.turns;
+    under_way = off.under_way;
+  }
 
   -- what was played is a part of the script, however the play ended
-  pub part_play : {T E : Type 0} (r : Result T E) (journal : List Event) → OnOk r (IsPlayedWhole script k) → OnErr r (HasBrokenOff script.sessions (script.order ++ one_by_one 1 script.sessions) start_kept k)
+  pub part_play : {T E : Type 0} (r : Result T E) (journal : List Event) → OnOk r (IsPlayedWhole script k)
+      → OnErr r (HasBrokenOff script.sessions (script.order ++ one_by_one 1 script.sessions) start_kept k)
       → journal ≡ k.journal → IsPartPlay start script journal
   part_play (Ok x) journal whole off same = subst (IsPartPlay start script) (sym same) (part_of_whole whole)
   part_play (Err e) journal whole off same = subst (IsPartPlay start script) (sym same) (part_off off)

@@ -67,7 +67,8 @@ pub record IsWhole (input : List ℕ) (rest : Option (List ℕ)) : Type 0 where
   pub within : length input ≤ INPUT_BYTES_MAX
 
 -- a text of what the input spells was written
-pub record IsWritten {X : Type 0} (spells : List ℕ → Result X InputFault) (IsText : X → List ℕ → Type 0) (input : List ℕ) (written new : Option (List ℕ)) : Type 0 where
+pub record IsWritten {X : Type 0} (spells : List ℕ → Result X InputFault) (IsText : X → List ℕ → Type 0) (input : List ℕ)
+    (written new : Option (List ℕ)) : Type 0 where
   pub what : X
   pub is : spells input ≡ Ok what
   pub text : List ℕ
@@ -75,7 +76,8 @@ pub record IsWritten {X : Type 0} (spells : List ℕ → Result X InputFault) (I
   pub appended : new ≡ append_known written text
 
 -- a prefix of it was
-pub record IsPartlyWritten {X : Type 0} (spells : List ℕ → Result X InputFault) (IsText : X → List ℕ → Type 0) (input : List ℕ) (written new : Option (List ℕ)) : Type 0 where
+pub record IsPartlyWritten {X : Type 0} (spells : List ℕ → Result X InputFault) (IsText : X → List ℕ → Type 0) (input : List ℕ)
+    (written new : Option (List ℕ)) : Type 0 where
   pub what : X
   pub is : spells input ≡ Ok what
   pub text : List ℕ
@@ -84,17 +86,20 @@ pub record IsPartlyWritten {X : Type 0} (spells : List ℕ → Result X InputFau
 
 -- What each answer says of the input that was taken, of what the source has left, and of what the sink holds. Where memory
 -- was wanting, `Lacks` says what else is known of the input.
-abbrev pub Answers : {X : Type 0} → (List ℕ → Result X InputFault) → (X → List ℕ → Type 0) → (List ℕ → Option (List ℕ) → Type 0) → List ℕ → Option (List ℕ) → Option (List ℕ) → Option (List ℕ) → Option TopFault → Type 0
+abbrev pub Answers : {X : Type 0} → (List ℕ → Result X InputFault) → (X → List ℕ → Type 0) → (List ℕ → Option (List ℕ) → Type 0) → List ℕ → Option (List ℕ)
+    → Option (List ℕ) → Option (List ℕ) → Option TopFault → Type 0
 Answers spells IsText Lacks input rest written new None = IsWhole input rest × IsWritten spells IsText input written new
 Answers spells IsText Lacks input rest written new (Some BadWords) = ⊥
-Answers spells IsText Lacks input rest written new (Some (BadInput line why)) = IsWhole input rest × (spells input ≡ Err (record { line = line; why = why })) × (new ≡ written)
+Answers spells IsText Lacks input rest written new (Some (BadInput line why)) =
+    IsWhole input rest × (spells input ≡ Err (record { line = line; why = why })) × (new ≡ written)
 Answers spells IsText Lacks input rest written new (Some TooLarge) = (INPUT_BYTES_MAX < length input) × (new ≡ written)
 Answers spells IsText Lacks input rest written new (Some ReadFault) = (length input ≤ INPUT_BYTES_MAX) × (new ≡ written)
 Answers spells IsText Lacks input rest written new (Some WriteFault) = IsWhole input rest × IsPartlyWritten spells IsText input written new
 Answers spells IsText Lacks input rest written new (Some NoMemory) = (new ≡ written) × Lacks input rest
 
 -- The command took some bytes from the front of what the source had, one more than the limit at most, and answered for them.
-pub record IsAnswered {X : Type 0} (spells : List ℕ → Result X InputFault) (IsText : X → List ℕ → Type 0) (Lacks : List ℕ → Option (List ℕ) → Type 0) (before after written new : Option (List ℕ)) (fault : Option TopFault) : Type 0 where
+pub record IsAnswered {X : Type 0} (spells : List ℕ → Result X InputFault) (IsText : X → List ℕ → Type 0) (Lacks : List ℕ → Option (List ℕ) → Type 0)
+    (before after written new : Option (List ℕ)) (fault : Option TopFault) : Type 0 where
   pub input : List ℕ
   pub taken : before ≡ prepend_known input after
   pub at_most : length input ≤ INPUT_BYTES_MAX + 1

@@ -1,3 +1,4 @@
+// The commands, and how they end.
 ghost use Rattle.std.specs.Prelude.{◌≡◌, ◌≤◌, ◌↔◌, ◌⊎◌, None, Some, IfOk, length, []};
 ghost use Rattle.script_text.specs.declared.limits.TheConstants.{SESSIONS_MAX};
 ghost use Rattle.std.specs.Io.KnownBytes.{append_known};

@@ -1,3 +1,4 @@
+// The faults of a command, as they are told.
 use script_text::ScriptRefusal;
 use thiserror::Error;
 use xq_ast::PyxRefusal;

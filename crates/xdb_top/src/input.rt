@@ -1,3 +1,4 @@
+// The input of a command, read to its end and spelled out.
 ghost use Rattle.std.specs.Prelude.{◌≡◌, ◌∷◌, [], ◌==◌, count_by, Result, Ok, Err, IsOk};
 ghost use Rattle.xml_model.specs.Pyx.{split_lines, split_ended_lines, read};
 ghost use Rattle.xdb_top.specs.Input as spec;

@@ -4,5 +4,6 @@ use Rattle.session_run.proofs.answering.answer.Goals as goal
 
 pub post-requires : goal.post-requires
 post-requires c = record {
-  legal = answers_keep_legal c.args.core.now.base c.args.core.now.journal c.args.session (record { call = c.args.call; says = c.args.says }) c.legal.ensures c.requires.right.0 (undamaged c.args.says c.requires.right.1) c.requires.follows;
+  legal = answers_keep_legal c.args.core.now.base c.args.core.now.journal c.args.session
+      (record { call = c.args.call; says = c.args.says }) c.legal.ensures c.requires.right.0 (undamaged c.args.says c.requires.right.1) c.requires.follows;
 }

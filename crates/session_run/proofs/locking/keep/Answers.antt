@@ -16,21 +16,27 @@ answer_unchanged-requires-clause-right c = lacking c.args.core.now.base c.args.s
 pub returns-then-is_err-clause-ready : goal.returns-then-is_err-clause-ready
 returns-then-is_err-clause-ready c =
     subst (λ es. OnOk c.answer_unchanged.result (IsReady c.args.session es c.answer_unchanged.new.core)) (sym c.reserve.ensures.same)
-    (stays c.answer_unchanged.result c.args.session c.args.changes.now.changes c.args.core.now c.args.core.now c.answer_unchanged.new.core refl c.requires.tied c.answer_unchanged.ensures.ready)
+    (stays c.answer_unchanged.result c.args.session c.args.changes.now.changes c.args.core.now c.args.core.now c.answer_unchanged.new.core refl c.requires.tied
+    c.answer_unchanged.ensures.ready)
 
 pub answer-requires-clause-right : goal.answer-requires-clause-right
 answer-requires-clause-right c =
-    update_right c.args.core.now.base c.args.session (past c.args.core.now) c.args.changes.now.changes c.requires.tied c.args.call c.args.effect c.requires.updating c.requires.granted c.requires.statement c.requires.effect c.requires.passes
+    update_right c.args.core.now.base c.args.session
+    (past c.args.core.now) c.args.changes.now.changes c.requires.tied c.args.call c.args.effect c.requires.updating c.requires.granted c.requires.statement
+    c.requires.effect c.requires.passes
 
 pub returns-in-Some-clause-ready : goal.returns-in-Some-clause-ready
 returns-in-Some-clause-ready c =
     let old : ChangeMap = c.args.changes.now.changes in
     let after : ChangeMap = with_change c.args.effect.change old in
     let same : c.put.new.self.changes ≡ after =
-    c.put.ensures ∙ ap (λ es. map.insert es c.in-Some.change.name (unshared c.in-Some.change.after)) c.reserve.ensures.same ∙ sym (ap (λ o. with_change o old) c.in-Some.is) in
+    c.put.ensures ∙ ap (λ es. map.insert es c.in-Some.change.name (unshared c.in-Some.change.after)) c.reserve.ensures.same
+    ∙ sym (ap (λ o. with_change o old) c.in-Some.is) in
     subst (λ x. IsReady c.args.session x c.answer.new.core) (sym same)
-    (ready_behind c.args.session after c.args.core.now c.answer.new.core (answered c.args.session (Some c.args.call) c.args.effect.says) c.in_ok-answer.ensures.ok refl tt c.requires.settled
-    (tied_effect c.args.core.now.base c.args.session (past c.args.core.now) old c.requires.tied c.args.call c.args.effect c.requires.updating c.requires.granted c.requires.statement c.requires.effect))
+    (ready_behind c.args.session after c.args.core.now c.answer.new.core
+    (answered c.args.session (Some c.args.call) c.args.effect.says) c.in_ok-answer.ensures.ok refl tt c.requires.settled
+    (tied_effect c.args.core.now.base c.args.session
+    (past c.args.core.now) old c.requires.tied c.args.call c.args.effect c.requires.updating c.requires.granted c.requires.statement c.requires.effect))
 
 pub returns-in_default-clause-ready : goal.returns-in_default-clause-ready
 returns-in_default-clause-ready c =
@@ -38,15 +44,21 @@ returns-in_default-clause-ready c =
     let after : ChangeMap = with_change c.args.effect.change old in
     let same : c.reserve.new.self.changes ≡ after = c.reserve.ensures.same ∙ sym (ap (λ o. with_change o old) c.in_default.is) in
     subst (λ x. IsReady c.args.session x c.answer.new.core) (sym same)
-    (ready_behind c.args.session after c.args.core.now c.answer.new.core (answered c.args.session (Some c.args.call) c.args.effect.says) c.in_ok-answer.ensures.ok refl tt c.requires.settled
-    (tied_effect c.args.core.now.base c.args.session (past c.args.core.now) old c.requires.tied c.args.call c.args.effect c.requires.updating c.requires.granted c.requires.statement c.requires.effect))
+    (ready_behind c.args.session after c.args.core.now c.answer.new.core
+    (answered c.args.session (Some c.args.call) c.args.effect.says) c.in_ok-answer.ensures.ok refl tt c.requires.settled
+    (tied_effect c.args.core.now.base c.args.session
+    (past c.args.core.now) old c.requires.tied c.args.call c.args.effect c.requires.updating c.requires.granted c.requires.statement c.requires.effect))
 
 pub returns-in-Some-clause-closed : goal.returns-in-Some-clause-closed
 returns-in-Some-clause-closed c =
-    let right = update_right c.args.core.now.base c.args.session (past c.args.core.now) c.args.changes.now.changes c.requires.tied c.args.call c.args.effect c.requires.updating c.requires.granted c.requires.statement c.requires.effect c.requires.passes in
+    let right = update_right c.args.core.now.base c.args.session
+    (past c.args.core.now) c.args.changes.now.changes c.requires.tied c.args.call c.args.effect c.requires.updating c.requires.granted c.requires.statement
+    c.requires.effect c.requires.passes in
     answer_closes c.args.session c.args.call c.args.effect.says c.args.core.now c.answer.new.core right c.in_ok-answer.ensures.ok
 
 pub returns-in_default-clause-closed : goal.returns-in_default-clause-closed
 returns-in_default-clause-closed c =
-    let right = update_right c.args.core.now.base c.args.session (past c.args.core.now) c.args.changes.now.changes c.requires.tied c.args.call c.args.effect c.requires.updating c.requires.granted c.requires.statement c.requires.effect c.requires.passes in
+    let right = update_right c.args.core.now.base c.args.session
+    (past c.args.core.now) c.args.changes.now.changes c.requires.tied c.args.call c.args.effect c.requires.updating c.requires.granted c.requires.statement
+    c.requires.effect c.requires.passes in
     answer_closes c.args.session c.args.call c.args.effect.says c.args.core.now c.answer.new.core right c.in_ok-answer.ensures.ok

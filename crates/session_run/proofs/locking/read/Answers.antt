@@ -17,4 +17,5 @@ pub returns-in-Ok-clause-closed : goal.returns-in-Ok-clause-closed
 returns-in-Ok-clause-closed c =
     let right = read_right c.args.core.now.base c.args.session (past c.args.core.now) c.args.changes.now.changes c.requires.ready.tied
     c.args.call c.in-Ok.effect c.forest.result.now c.forest.ensures c.requires.reading c.requires.statement c.requires.passes c.in-Ok.ensures.effect in
-    on_ok c.answer.result (λ grown. answer_closes c.args.session c.args.call c.in-Ok.effect.says c.args.core.now c.answer.new.core right grown) c.answer.ensures.ok
+    on_ok c.answer.result (λ grown. answer_closes c.args.session c.args.call c.in-Ok.effect.says c.args.core.now c.answer.new.core right grown)
+    c.answer.ensures.ok

@@ -9,4 +9,5 @@ answer_unchanged-requires-clause-right c = lacking c.args.core.now.base c.args.s
 
 pub returns-in-Err-clause-ready : goal.returns-in-Err-clause-ready
 returns-in-Err-clause-ready c =
-    stays c.answer_unchanged.result c.args.session c.args.changes.now.changes c.args.core.now c.args.core.now c.answer_unchanged.new.core refl c.requires.tied c.answer_unchanged.ensures.ready
+    stays c.answer_unchanged.result c.args.session c.args.changes.now.changes c.args.core.now c.args.core.now c.answer_unchanged.new.core refl c.requires.tied
+    c.answer_unchanged.ensures.ready

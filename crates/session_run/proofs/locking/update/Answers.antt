@@ -10,16 +10,20 @@ answer_unchanged-requires-clause-right c = lacking c.args.core.now.base c.args.s
 
 pub returns-in_default-clause-ready : goal.returns-in_default-clause-ready
 returns-in_default-clause-ready c =
-    stays c.answer_unchanged.result c.args.session c.args.changes.now.changes c.args.core.now c.args.core.now c.answer_unchanged.new.core refl c.requires.ready.tied c.answer_unchanged.ensures.ready
+    stays c.answer_unchanged.result c.args.session c.args.changes.now.changes c.args.core.now c.args.core.now c.answer_unchanged.new.core refl
+    c.requires.ready.tied c.answer_unchanged.ensures.ready
 
 pub run_granted-requires-in-Ok-ask-clause-tied : goal.run_granted-requires-in-Ok-ask-clause-tied
 run_granted-requires-in-Ok-ask-clause-tied c =
-    (granted_here c.args.session c.args.changes.now.changes c.args.call c.args.core.now c.requires.ready c.requires.updating c.ask.new.self c.in-Ok.needed c.in-Ok.ensures c.in-Ok-ask.ensures.granted).tied
+    (granted_here c.args.session c.args.changes.now.changes c.args.call c.args.core.now c.requires.ready c.requires.updating c.ask.new.self c.in-Ok.needed
+    c.in-Ok.ensures c.in-Ok-ask.ensures.granted).tied
 
 pub answer_unchanged-requires-in-Err-NoMemory-clause-right : goal.answer_unchanged-requires-in-Err-NoMemory-clause-right
 answer_unchanged-requires-in-Err-NoMemory-clause-right c = lacking c.ask.new.self.base c.args.session (past c.ask.new.self) (Some _)
 
 pub returns-in-Err-NoMemory-clause-ready : goal.returns-in-Err-NoMemory-clause-ready
 returns-in-Err-NoMemory-clause-ready c =
-    stays c.answer_unchanged-in-Err-NoMemory.result c.args.session c.args.changes.now.changes c.ask.new.self c.args.core.now c.answer_unchanged-in-Err-NoMemory.new.core
-    (subst (AskEnds c.args.session c.in-Ok.needed c.args.core.now c.ask.new.self) c.in-Err-NoMemory.field-0-is c.in-Err-NoMemory.ensures.refused) c.requires.ready.tied c.answer_unchanged-in-Err-NoMemory.ensures.ready
+    stays c.answer_unchanged-in-Err-NoMemory.result c.args.session c.args.changes.now.changes c.ask.new.self c.args.core.now
+    c.answer_unchanged-in-Err-NoMemory.new.core
+    (subst (AskEnds c.args.session c.in-Ok.needed c.args.core.now c.ask.new.self) c.in-Err-NoMemory.field-0-is c.in-Err-NoMemory.ensures.refused)
+    c.requires.ready.tied c.answer_unchanged-in-Err-NoMemory.ensures.ready

@@ -13,8 +13,11 @@ answer_unchanged-requires-clause-right c = lacking c.begin_update.new.self.base 
 
 pub returns-in-Ok-clause-ready : goal.returns-in-Ok-clause-ready
 returns-in-Ok-clause-ready c = λ changes tied.
-    ready_behind c.args.session changes c.args.core.now c.begin_update.new.self (events.Began c.args.session kinds.Updating) c.in-Ok.ensures.ok refl tt c.requires.settled
+    ready_behind c.args.session changes c.args.core.now c.begin_update.new.self
+    (events.Began c.args.session kinds.Updating) c.in-Ok.ensures.ok refl tt c.requires.settled
     (tied_began c.args.core.now.base c.args.session (past c.args.core.now) kinds.Updating changes c.requires.idle tied)
 
 pub returns-in-Err-clause-ready : goal.returns-in-Err-clause-ready
-returns-in-Err-clause-ready c = subst (λ (k : Kept). OnOk c.answer_unchanged.result (StaysReady c.args.session k c.answer_unchanged.new.core)) c.in-Err.ensures.err c.answer_unchanged.ensures.ready
+returns-in-Err-clause-ready c =
+    subst (λ (k : Kept). OnOk c.answer_unchanged.result (StaysReady c.args.session k c.answer_unchanged.new.core)) c.in-Err.ensures.err
+    c.answer_unchanged.ensures.ready

@@ -12,22 +12,26 @@ use Rattle.session_run.proofs.Memory.{lacking, unrun_here}
 use Rattle.session_run.proofs.transaction.commit.Goals as goal
 
 pub answer_unchanged-requires-clause-right : goal.answer_unchanged-requires-clause-right
-answer_unchanged-requires-clause-right c = unrun_here c.args.core.now.base c.args.session (past c.args.core.now) (Some Commit) (says.Error (codes.Spent spent.Commit last_number)) (answers.AnswersInOrder.finds_no_number (record {
-  is = refl;
-  updating = c.requires.updating;
-  settled = c.requires.ready.settled;
-  none_left = none_left c.args.core.now.base (past c.args.core.now) c.newest.result c.newest.ensures c.if-newest-eq18446744073709551615.true;
-  says_so = refl;
-})) refl refl
+answer_unchanged-requires-clause-right c =
+    unrun_here c.args.core.now.base c.args.session (past c.args.core.now) (Some Commit) (says.Error (codes.Spent spent.Commit last_number))
+    (answers.AnswersInOrder.finds_no_number (record {
+      is = refl;
+      updating = c.requires.updating;
+      settled = c.requires.ready.settled;
+      none_left = none_left c.args.core.now.base (past c.args.core.now) c.newest.result c.newest.ensures c.if-newest-eq18446744073709551615.true;
+      says_so = refl;
+    })) refl refl
 
 pub returns-then-newest-eq18446744073709551615-clause-ready : goal.returns-then-newest-eq18446744073709551615-clause-ready
 returns-then-newest-eq18446744073709551615-clause-ready c =
-    stays c.answer_unchanged.result c.args.session c.args.changes.now.changes c.args.core.now c.args.core.now c.answer_unchanged.new.core refl c.requires.ready.tied c.answer_unchanged.ensures.ready
+    stays c.answer_unchanged.result c.args.session c.args.changes.now.changes c.args.core.now c.args.core.now c.answer_unchanged.new.core refl
+    c.requires.ready.tied c.answer_unchanged.ensures.ready
 
 pub answer_unchanged-requires-in-Err-clause-right : goal.answer_unchanged-requires-in-Err-clause-right
 answer_unchanged-requires-in-Err-clause-right c = lacking c.commit_changes.new.core.base c.args.session (past c.commit_changes.new.core) (Some _)
 
 pub returns-in-Err-clause-ready : goal.returns-in-Err-clause-ready
 returns-in-Err-clause-ready c =
-    stays c.answer_unchanged-in-Err.result c.args.session c.args.changes.now.changes c.commit_changes.new.core c.args.core.now c.answer_unchanged-in-Err.new.core
+    stays c.answer_unchanged-in-Err.result c.args.session c.args.changes.now.changes c.commit_changes.new.core c.args.core.now
+    c.answer_unchanged-in-Err.new.core
     c.in-Err.ensures.err c.requires.ready.tied c.answer_unchanged-in-Err.ensures.ready

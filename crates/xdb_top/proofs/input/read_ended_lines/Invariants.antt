@@ -5,7 +5,8 @@ use Rattle.xml_model.specs.Pyx.{after, split_ended_lines, ◌>>=◌}
 use Rattle.xdb_top.proofs.input.read_ended_lines.Given as goal
 
 abbrev pub invariant-loop-first : goal.invariant-loop-first
-invariant-loop-first l = shadow (Utf8 l.rest) × IsOk l.reader × ((l.reader >>= after (split_ended_lines l.rest)) ≡ (l.initial.reader >>= after (split_ended_lines l.text)))
+invariant-loop-first l =
+    shadow (Utf8 l.rest) × IsOk l.reader × ((l.reader >>= after (split_ended_lines l.rest)) ≡ (l.initial.reader >>= after (split_ended_lines l.text)))
 
 abbrev pub decreases-loop-first : goal.decreases-loop-first
 decreases-loop-first l = length l.rest

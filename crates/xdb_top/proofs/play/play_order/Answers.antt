@@ -14,15 +14,18 @@ play_turn-requires c = c.loop-number.invariant.playing
 
 pub loop-number-preserved : goal.loop-number-preserved
 loop-number-preserved c =
-    subst (λ order. HasPlayed c.args.sessions.now order c.args.core.now c.play_turn.new.core c.play_turn.new.seats) (sym (take_more c.args.order.now c.loop-number.number-index 0 c.loop-number-test.true))
-    (more_played c.args.sessions.now (take c.loop-number.number-index c.args.order.now) (slice_index_or c.args.order.now c.loop-number.number-index 0 ∷ []) c.args.core.now c.loop-number.core c.play_turn.new.core
+    subst (λ order. HasPlayed c.args.sessions.now order c.args.core.now c.play_turn.new.core c.play_turn.new.seats)
+    (sym (take_more c.args.order.now c.loop-number.number-index 0 c.loop-number-test.true))
+    (more_played c.args.sessions.now (take c.loop-number.number-index c.args.order.now)
+    (slice_index_or c.args.order.now c.loop-number.number-index 0 ∷ []) c.args.core.now c.loop-number.core c.play_turn.new.core
     c.loop-number.seats c.play_turn.new.seats c.loop-number.invariant c.in_ok-play_turn.ensures.played)
 
 pub returns : goal.returns
 returns c =
     let all : c.loop-number.number-index ≡ length c.args.order.now = omega (arith, c.loop-number-test.false, c.loop-number.auto.number-index-end) in
     record {
-      played = subst (λ order. HasPlayed c.args.sessions.now order c.args.core.now c.loop-number.core c.loop-number.seats) (ap (λ n. take n c.args.order.now) all ∙ take-length c.args.order.now) c.loop-number.invariant;
+      played = subst (λ order. HasPlayed c.args.sessions.now order c.args.core.now c.loop-number.core c.loop-number.seats)
+          (ap (λ n. take n c.args.order.now) all ∙ take-length c.args.order.now) c.loop-number.invariant;
       off = tt;
       base = c.loop-number.invariant.playing.base;
     }
@@ -30,7 +33,10 @@ returns c =
 pub returns-in_err-play_turn-clause-off : goal.returns-in_err-play_turn-clause-off
 returns-in_err-play_turn-clause-off c =
     let i = c.loop-number.number-index in
-    where_err c.from_residual.result (off_in_front c.args.sessions.now (take (i + 1) c.args.order.now) c.args.order.now c.args.core.now c.play_turn.new.core (take_front (i + 1) c.args.order.now)
+    where_err c.from_residual.result
+    (off_in_front c.args.sessions.now (take (i + 1) c.args.order.now) c.args.order.now c.args.core.now c.play_turn.new.core
+    (take_front (i + 1) c.args.order.now)
     (subst (λ order. HasBrokenOff c.args.sessions.now order c.args.core.now c.play_turn.new.core) (sym (take_more c.args.order.now i 0 c.loop-number-test.true))
-    (played_and_off c.args.sessions.now (take i c.args.order.now) (slice_index_or c.args.order.now i 0 ∷ []) c.args.core.now c.loop-number.core c.play_turn.new.core c.loop-number.seats
+    (played_and_off c.args.sessions.now (take i c.args.order.now)
+    (slice_index_or c.args.order.now i 0 ∷ []) c.args.core.now c.loop-number.core c.play_turn.new.core c.loop-number.seats
     c.loop-number.invariant c.in_err-play_turn.ensures.off)))

@@ -24,12 +24,16 @@ returns-then-seat-len c =
     let P = c.args.sessions.now in
     let place = c.index-as_slice-index.is ∙ ap (λ Q. slice_index_or Q c.args.index c.index-as_slice-index.result) c.as_slice.ensures in
     let calls = calls_at P c.args.index c.index-as_slice-index.result c.requires.index place in
-    let after = up_after_next P c.args.index c.args.seat.now.made c.args.seat.now.session.number c.as_slice-2.result.now c.in-Some.call.now c.args.core.now c.call_on.new.core
-    c.requires.played c.requires.at_rest (calls ∙ sym c.as_slice-2.ensures) (c.in-Some.ensures.lookup).0 (c.in-Some.ensures.lookup).1 c.requires.seated.made c.requires.seated.number c.in_ok-call_on.ensures.ok in
+    let after = up_after_next P c.args.index c.args.seat.now.made c.args.seat.now.session.number c.as_slice-2.result.now c.in-Some.call.now c.args.core.now
+    c.call_on.new.core
+    c.requires.played c.requires.at_rest (calls ∙ sym c.as_slice-2.ensures) (c.in-Some.ensures.lookup).0
+    (c.in-Some.ensures.lookup).1 c.requires.seated.made c.requires.seated.number c.in_ok-call_on.ensures.ok in
     let called = c.in_ok-call_on.ensures.number ∙ c.requires.seated.number in
     let left = c.leave_on.ensures.number ∙ called in
-    let turn : HasHadTurn P (c.args.index + 1) c.args.core.now c.leave_on.new.core (record { session = c.leave_on.new.self; made = c.args.seat.now.made + 1 }) = turn_ends P (c.args.index + 1) c.args.core.now c.call_on.new.core c.leave_on.new.core _ after
-    (λ is. subst (λ s. IsTrue (is_open (state s (past c.call_on.new.core))) → c.leave_on.new.core ≡ with_event (Left s) c.call_on.new.core) called c.leave_on.ensures.left is)
+    let turn : HasHadTurn P (c.args.index + 1) c.args.core.now c.leave_on.new.core (record { session = c.leave_on.new.self; made = c.args.seat.now.made + 1 }) =
+    turn_ends P (c.args.index + 1) c.args.core.now c.call_on.new.core c.leave_on.new.core _ after
+    (λ is. subst (λ s. IsTrue (is_open (state s (past c.call_on.new.core)))
+    → c.leave_on.new.core ≡ with_event (Left s) c.call_on.new.core) called c.leave_on.ensures.left is)
     (λ is. subst (λ s. is_open (state s (past c.call_on.new.core)) ≡ false → c.leave_on.new.core ≡ c.call_on.new.core) called c.leave_on.ensures.closed is)
     (ready_as c.leave_on.new.self.number c.args.index c.leave_on.new.self.changes c.leave_on.new.core left c.leave_on.ensures.ready)
     left
@@ -44,13 +48,16 @@ returns-else-seat-len c =
     let P = c.args.sessions.now in
     let place = c.index-as_slice-index.is ∙ ap (λ Q. slice_index_or Q c.args.index c.index-as_slice-index.result) c.as_slice.ensures in
     let calls = calls_at P c.args.index c.index-as_slice-index.result c.requires.index place in
-    let after = up_after_next P c.args.index c.args.seat.now.made c.args.seat.now.session.number c.as_slice-2.result.now c.in-Some.call.now c.args.core.now c.call_on.new.core
-    c.requires.played c.requires.at_rest (calls ∙ sym c.as_slice-2.ensures) (c.in-Some.ensures.lookup).0 (c.in-Some.ensures.lookup).1 c.requires.seated.made c.requires.seated.number c.in_ok-call_on.ensures.ok in
+    let after = up_after_next P c.args.index c.args.seat.now.made c.args.seat.now.session.number c.as_slice-2.result.now c.in-Some.call.now c.args.core.now
+    c.call_on.new.core
+    c.requires.played c.requires.at_rest (calls ∙ sym c.as_slice-2.ensures) (c.in-Some.ensures.lookup).0
+    (c.in-Some.ensures.lookup).1 c.requires.seated.made c.requires.seated.number c.in_ok-call_on.ensures.ok in
     let called = c.in_ok-call_on.ensures.number ∙ c.requires.seated.number in
     let within = ltb-true c.args.seat.now.made (length c.as_slice-2.result.now) (sym (c.in-Some.ensures.lookup).0) in
     let long = ap length (calls ∙ sym c.as_slice-2.ensures) in
     let counted = c.len.ensures ∙ ap length (sym c.as_slice-2.ensures) in
-    let turn : HasHadTurn P (c.args.index + 1) c.args.core.now c.call_on.new.core (record { session = c.call_on.new.self; made = c.args.seat.now.made + 1 }) = turn_goes_on P (c.args.index + 1) c.args.core.now c.call_on.new.core _ after
+    let turn : HasHadTurn P (c.args.index + 1) c.args.core.now c.call_on.new.core (record { session = c.call_on.new.self; made = c.args.seat.now.made + 1 }) =
+    turn_goes_on P (c.args.index + 1) c.args.core.now c.call_on.new.core _ after
     (ready_as c.call_on.new.self.number c.args.index c.call_on.new.self.changes c.call_on.new.core called c.in_ok-call_on.ensures.ready)
     called
     (ap (λ n. n + 1) c.requires.seated.made)
@@ -63,5 +70,8 @@ returns-in_err-call_on-clause-off c =
     let P = c.args.sessions.now in
     let place = c.index-as_slice-index.is ∙ ap (λ Q. slice_index_or Q c.args.index c.index-as_slice-index.result) c.as_slice.ensures in
     let calls = calls_at P c.args.index c.index-as_slice-index.result c.requires.index place in
-    where_err c.from_residual.result (broke_off_next P c.args.index c.args.seat.now.made c.args.seat.now.session.number c.as_slice-2.result.now c.in-Some.call.now c.args.core.now c.call_on.new.core
-    c.requires.played c.requires.at_rest (calls ∙ sym c.as_slice-2.ensures) (c.in-Some.ensures.lookup).0 (c.in-Some.ensures.lookup).1 c.requires.seated.made c.requires.seated.number c.in_err-call_on.ensures.err)
+    where_err c.from_residual.result
+    (broke_off_next P c.args.index c.args.seat.now.made c.args.seat.now.session.number c.as_slice-2.result.now c.in-Some.call.now c.args.core.now
+    c.call_on.new.core
+    c.requires.played c.requires.at_rest (calls ∙ sym c.as_slice-2.ensures) (c.in-Some.ensures.lookup).0
+    (c.in-Some.ensures.lookup).1 c.requires.seated.made c.requires.seated.number c.in_err-call_on.ensures.err)

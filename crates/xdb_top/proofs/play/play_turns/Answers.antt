@@ -13,13 +13,16 @@ play_turn-requires c = c.loop-turn.invariant.playing
 
 pub loop-turn-preserved : goal.loop-turn-preserved
 loop-turn-preserved c =
-    subst (λ order. HasPlayed c.args.sessions.now order c.args.core.now c.play_turn.new.core c.play_turn.new.seats) (replicate_more c.loop-turn._turn c.args.number)
-    (more_played c.args.sessions.now (replicate c.loop-turn._turn c.args.number) (c.args.number ∷ []) c.args.core.now c.loop-turn.core c.play_turn.new.core c.loop-turn.seats c.play_turn.new.seats
+    subst (λ order. HasPlayed c.args.sessions.now order c.args.core.now c.play_turn.new.core c.play_turn.new.seats)
+    (replicate_more c.loop-turn._turn c.args.number)
+    (more_played c.args.sessions.now (replicate c.loop-turn._turn c.args.number)
+    (c.args.number ∷ []) c.args.core.now c.loop-turn.core c.play_turn.new.core c.loop-turn.seats c.play_turn.new.seats
     c.loop-turn.invariant c.in_ok-play_turn.ensures.played)
 
 pub returns : goal.returns
 returns c = record {
-  played = subst (λ n. HasPlayed c.args.sessions.now (replicate n c.args.number) c.args.core.now c.loop-turn.core c.loop-turn.seats) (let all : c.loop-turn._turn ≡ c.args.count = omega (arith, c.loop-turn-test.false, c.loop-turn.auto._turn-end) in all) c.loop-turn.invariant;
+  played = subst (λ n. HasPlayed c.args.sessions.now (replicate n c.args.number) c.args.core.now c.loop-turn.core c.loop-turn.seats)
+      (let all : c.loop-turn._turn ≡ c.args.count = omega (arith, c.loop-turn-test.false, c.loop-turn.auto._turn-end) in all) c.loop-turn.invariant;
   off = tt;
   base = c.loop-turn.invariant.playing.base;
 }
@@ -27,8 +30,10 @@ returns c = record {
 pub returns-in_err-play_turn-clause-off : goal.returns-in_err-play_turn-clause-off
 returns-in_err-play_turn-clause-off c =
     let turn = c.loop-turn._turn in
-    where_err c.from_residual.result (off_in_front c.args.sessions.now (replicate (turn + 1) c.args.number) (replicate c.args.count c.args.number) c.args.core.now c.play_turn.new.core
+    where_err c.from_residual.result
+    (off_in_front c.args.sessions.now (replicate (turn + 1) c.args.number) (replicate c.args.count c.args.number) c.args.core.now c.play_turn.new.core
     (replicate_front (turn + 1) c.args.count c.args.number (omega (arith, c.loop-turn-test.true)))
     (subst (λ order. HasBrokenOff c.args.sessions.now order c.args.core.now c.play_turn.new.core) (replicate_more turn c.args.number)
-    (played_and_off c.args.sessions.now (replicate turn c.args.number) (c.args.number ∷ []) c.args.core.now c.loop-turn.core c.play_turn.new.core c.loop-turn.seats
+    (played_and_off c.args.sessions.now (replicate turn c.args.number)
+    (c.args.number ∷ []) c.args.core.now c.loop-turn.core c.play_turn.new.core c.loop-turn.seats
     c.loop-turn.invariant c.in_err-play_turn.ensures.off)))

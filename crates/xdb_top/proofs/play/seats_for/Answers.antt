@@ -8,7 +8,8 @@ loop-index-init c = no_seats c.new-seats.result.items c.new-seats.ensures.items
 
 pub loop-index-preserved : goal.loop-index-preserved
 loop-index-preserved c =
-    subst (AreNewSeats (c.loop-index.index + 1)) (sym (c.in_ok-push.ensures.items ∙ ap (λ s. c.loop-index.seats.items ++ record { session = s; made = 0 } ∷ []) c.of.ensures))
+    subst (AreNewSeats (c.loop-index.index + 1))
+    (sym (c.in_ok-push.ensures.items ∙ ap (λ s. c.loop-index.seats.items ++ record { session = s; made = 0 } ∷ []) c.of.ensures))
     (one_seat_more c.loop-index.index c.loop-index.seats.items c.loop-index.invariant)
 
 pub returns : goal.returns
