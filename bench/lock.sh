@@ -10,15 +10,15 @@ bench="$folder/crates/lock_bench"
 mkdir -p "$bench/src" "$bench/proofs"
 cp -r crates/hist_lock "$folder/crates/"
 cp HANDLES "$folder/"
-printf '%s\n' 'hist_lock may_wait=2 tests_may=Threads+Wait: atomic_table thiserror' 'lock_bench: hist_lock' > "$folder/crates.txt"
+printf '%s\n' 'hist_lock: atomic_table thiserror' 'lock_bench: hist_lock' > "$folder/crates.txt"
 
 # the workers, in a crate of their own
-cp crates/hist_lock/src/tests/*.rt "$bench/src/"
-cp -r crates/hist_lock/proofs/tests/* "$bench/proofs/"
+cp crates/store_tests/src/hist_lock_calls/*.rt "$bench/src/"
+cp -r crates/store_tests/proofs/hist_lock_calls/* "$bench/proofs/"
 find "$bench" -name '*.rt' -o -name '*.antt' | xargs sed -i \
-    -e 's/Rattle\.hist_lock\.specs\.declared\.tests/Rattle.lock_bench.specs.declared/g' \
-    -e 's/Rattle\.hist_lock\.proofs\.tests/Rattle.lock_bench.proofs/g' \
-    -e 's/^use crate::/use hist_lock::/' -e 's/use super::/use crate::/'
+    -e 's/Rattle\.store_tests\.specs\.declared\.hist_lock_calls/Rattle.lock_bench.specs.declared/g' \
+    -e 's/Rattle\.store_tests\.proofs\.hist_lock_calls/Rattle.lock_bench.proofs/g' \
+    -e 's/use super::/use crate::/'
 
 cat > "$bench/src/main.rt" <<'PROGRAM'
 //! Times sections under the history lock, and under a `Mutex`.
