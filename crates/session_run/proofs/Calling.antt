@@ -1,6 +1,5 @@
 -- What a call needs and leaves, by its session's state.
-use Rattle.std.proofs.Common.{◌≡◌, ℕ, ◌<◌, Bool, true, false, not, true≢false, List, [], ◌∷◌, length, Option, None, Some, IsTrue, Result, OnOk, OnErr, refl, sym, ap, subst, ◌∙◌, arith}
-use mathlib.Core.Logic.{inl, inr}
+use Rattle.std.proofs.Common.{◌≡◌, ℕ, Bool, true, false, not, true≢false, List, [], ◌∷◌, Option, None, Some, IsTrue, refl, sym, ap, subst, ◌∙◌, arith}
 use Rattle.std.specs.Prelude.{if◌then◌else◌}
 use Rattle.xq_ast.specs.declared.call.Call.{Call}
 use Rattle.xq_ast.specs.declared.call.Call.TheVariants.{Begin, BeginRead, Commit, Rollback, Checkpoint, ShowDocuments, Create, Drop, Load, Export}
@@ -36,9 +35,8 @@ use Rattle.session_run.specs.declared.statement.Effect.{Effect}
 use Rattle.session_run.specs.Answers.{answered}
 use Rattle.session_run.specs.Calls.{IsAnswerInMemory}
 use Rattle.session_run.proofs.Memory.{ran_right}
-use Rattle.session_run.specs.Called.{AddsClosing, behind_grant, ClosesRead, LeavesRead}
-use Rattle.session_run.proofs.Closing.{on_ok, follows_between, follows_grant}
-use Rattle.session_run.proofs.Texts.{on_err}
+use Rattle.session_run.specs.Called.{behind_grant}
+use Rattle.session_run.proofs.Closing.{follows_grant}
 use Rattle.xml_model.specs.Changes.{ChangeMap, no_changes, laid_over}
 use Rattle.session_run.specs.Effects.{with_change, IsEffect}
 use Rattle.session_run.specs.Tied.{AreChangesOf, IsTied, IsReady}
@@ -112,15 +110,6 @@ reading_at InDoubt is = absurd (true≢false (sym is))
 -- a call that its state refuses does not run
 pub refused_unrun : (x : State) (call : Call) (code : Code) → refused_in x (work_of call) ≡ Some code → ran_by (Some call) (says.Error code) ≡ []
 refused_unrun x call code is = none_ran (Some call) (says.Error code) (ap not (state_unrun code (refused_code x (work_of call) code is)))
-
--- a statement that an updating transaction lets pass needs locks
-pub some_needs : (call : Call) → IsTrue (is_statement call) → refused_in Updating (work_of call) ≡ None → 0 < length (needs call)
-some_needs ShowDocuments statement passes = cc
-some_needs (Create name) statement passes = omega arith
-some_needs (Drop name) statement passes = omega arith
-some_needs (Load name lines) statement passes = omega arith
-some_needs (Export name) statement passes = omega arith
-some_needs call statement passes = absurd (true≢false (sym statement))
 
 -- the newest number is the last one
 pub none_left : (B : Base) (before : List Event) (n : ℕ) → n ≡ newest_number B.numbers before → n ≡ 18446744073709551615 → HasNoCommitLeft B.numbers before
@@ -224,38 +213,3 @@ module _ (s : ℕ) (changes : ChangeMap) (call : Call) (old : Kept) (ready : IsR
 
   pub granted_here : (mid : Kept) (asked : List Need) → asked ≡ needs call → mid ≡ with_event (Granted s asked) old → IsGrantedHere s changes call mid
   granted_here mid asked same grown = subst (IsGrantedHere s changes call) (sym (grown ∙ ap (λ l. with_event (Granted s l) old) same)) granted_at
-
-  -- a call that needs no locks is where one is whose locks were granted
-  pub needless_here : (asked : List Need) → asked ≡ needs call → asked ≡ [] → IsGrantedHere s changes call old
-  needless_here asked same none = record {
-    tied = ready.tied;
-    settled = ready.settled;
-    updating_is = is;
-    granted = subst (λ l. AreGranted s l (past old)) (sym none ∙ same) tt;
-    follows = λ answer. follows_between (answered s (Some call) answer) (past old) ready.between;
-  }
-
--- ---- how a call is closed
-
--- at once
-pub closed_at_once : {T E : Type 0} (r : Result T E) (s : ℕ) (call : Call) (old new : Kept) → OnOk r (AddsClosing s call old new)
-    → OnOk r (ClosesRead s call old new)
-closed_at_once r s call old new closed = on_ok r inl closed
-
--- or behind the grant of its locks
-pub closed_granted : {T E : Type 0} (r : Result T E) (s : ℕ) (call : Call) (old mid new : Kept) (asked : List Need) → asked ≡ needs call → 0 < length asked
-    → mid ≡ with_event (Granted s asked) old
-    → OnOk r (AddsClosing s call mid new) → OnOk r (ClosesRead s call old new)
-closed_granted r s call old mid new asked same some grown closed =
-    on_ok r (λ a. inr (record {
-      some = subst (λ l. 0 < length l) same some;
-      closes =
-          subst (λ (k : Kept). AddsClosing s call k new) (grown ∙ ap (λ l. with_event (Granted s l) old) same) a;
-    })) closed
-
--- or not, and then the grant stays
-pub left_granted : {T E : Type 0} (r : Result T E) (s : ℕ) (call : Call) (old mid new : Kept) (asked : List Need) → asked ≡ needs call → 0 < length asked
-    → mid ≡ with_event (Granted s asked) old
-    → OnErr r (new ≡ mid) → OnErr r (LeavesRead s call old new)
-left_granted r s call old mid new asked same some grown left =
-    on_err r (λ is. inr (subst (λ l. 0 < length l) same some, is ∙ grown ∙ ap (λ l. with_event (Granted s l) old) same)) left
