@@ -1,6 +1,7 @@
 -- The names of the attributes behind the first sixteen.
-use Rattle.std.proofs.Common.{◌≡◌, ℕ, ◌<◌, ◌≤◌, Bool, true, false, cond, ◌||◌, List, [], ◌∷◌, ◌++◌, take, drop, length, refl, ap, sym, ◌∙◌, take-append-drop, length-append, arith}
-use Rattle.std.proofs.lemmas.List.{drop-append-le, drop_all}
+use Rattle.std.proofs.Common.{◌≡◌, ℕ, ◌<◌, ◌≤◌, Bool, true, false, ◌||◌, List, [], ◌∷◌, ◌++◌, take, drop, length, refl, ap, sym, ◌∙◌, take-append-drop, length-append, length-drop, ◌-◌, arith}
+use Rattle.std.proofs.lemmas.List.{drop_all}
+use Rattle.std.proofs.Math.Seq.{take-length}
 use Rattle.std.specs.Str.{bytes_eq}
 use Rattle.xml_model.specs.declared.node.Attr.{Attr}
 use Rattle.xml_model.specs.Trees.{has_attribute}
@@ -8,16 +9,6 @@ use Rattle.xml_model.specs.Trees.{has_attribute}
 or-assoc : (a b c : Bool) → (a || (b || c)) ≡ ((a || b) || c)
 or-assoc true b c = refl
 or-assoc false b c = refl
-
-or-false : (a : Bool) → (a || false) ≡ a
-or-false true = refl
-or-false false = refl
-
-pub or-cond : (a b : Bool) → cond b true a ≡ (a || b)
-or-cond true true = refl
-or-cond true false = refl
-or-cond false true = refl
-or-cond false false = refl
 
 -- attributes in two parts
 pub has_attribute-append : (name : List ℕ) (xs ys : List Attr) → has_attribute name (xs ++ ys) ≡ (has_attribute name xs || has_attribute name ys)
@@ -37,9 +28,6 @@ few_more n attrs a lt =
     let most : length attrs ≤ n = omega (arith, lt) in
     drop_all n (attrs ++ a ∷ []) all ∙ sym (drop_all n attrs most)
 
--- another attribute behind them
-pub many_more : (n : ℕ) (bytes : List ℕ) (attrs : List Attr) (a : Attr) → n ≤ length attrs
-    → has_attribute bytes (drop n (attrs ++ a ∷ [])) ≡ (has_attribute bytes (drop n attrs) || bytes_eq a.name bytes)
-many_more n bytes attrs a le =
-    ap (has_attribute bytes) (drop-append-le n attrs (a ∷ []) le)
-    ∙ (has_attribute-append bytes (drop n attrs) (a ∷ []) ∙ ap (λ b. has_attribute bytes (drop n attrs) || b) (or-false (bytes_eq a.name bytes)))
+-- the others, as a slice to the end
+pub to_end : (n : ℕ) (attrs : List Attr) → take (length attrs - n) (drop n attrs) ≡ drop n attrs
+to_end n attrs = ap (λ k. take k (drop n attrs)) (sym (length-drop n attrs)) ∙ take-length (drop n attrs)
