@@ -1,5 +1,5 @@
 -- The names of the attributes behind the first sixteen.
-use Rattle.std.proofs.Common.{◌≡◌, ℕ, ◌<◌, ◌≤◌, Bool, true, false, ◌||◌, List, [], ◌∷◌, ◌++◌, take, drop, length, refl, ap, sym, ◌∙◌, take-append-drop, length-append, length-drop, ◌-◌, arith}
+use Rattle.std.proofs.Common.{◌≡◌, ℕ, ◌<◌, ◌≤◌, Bool, true, false, ◌||◌, List, [], ◌∷◌, ◌++◌, take, drop, length, refl, ap, sym, ◌∙◌, length-append, length-drop, ◌-◌, arith}
 use Rattle.std.proofs.lemmas.List.{drop_all}
 use Rattle.std.proofs.Math.Seq.{take-length}
 use Rattle.std.specs.Str.{bytes_eq}
@@ -15,11 +15,6 @@ pub has_attribute-append : (name : List ℕ) (xs ys : List Attr) → has_attribu
 has_attribute-append name [] ys = refl
 has_attribute-append name (x ∷ xs) ys = ap (λ b. bytes_eq x.name name || b) (has_attribute-append name xs ys)
     ∙ or-assoc (bytes_eq x.name name) (has_attribute name xs) (has_attribute name ys)
-
--- among the first of the attributes, or among the others
-pub among_parts : (name : List ℕ) (attrs : List Attr) (n : ℕ)
-    → has_attribute name attrs ≡ (has_attribute name (take n attrs) || has_attribute name (drop n attrs))
-among_parts name attrs n = ap (has_attribute name) (sym (take-append-drop n attrs)) ∙ has_attribute-append name (take n attrs) (drop n attrs)
 
 -- another attribute, while there are few
 pub few_more : (n : ℕ) (attrs : List Attr) (a : Attr) → length attrs < n → drop n (attrs ++ a ∷ []) ≡ drop n attrs
