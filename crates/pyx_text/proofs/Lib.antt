@@ -4,3 +4,4 @@ pub mod Replaced
 pub mod Escapes
 pub mod LineText
 pub mod Tied
+pub mod Ways

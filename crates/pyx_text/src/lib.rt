@@ -14,6 +14,7 @@ mod fault;
 mod lines;
 mod listing;
 mod open_tag;
+mod places;
 mod progress;
 mod reader;
 mod room;

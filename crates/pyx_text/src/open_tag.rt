@@ -1,17 +1,16 @@
 //! An element that is open, with its attributes so far.
-ghost use Rattle.std.specs.Prelude.{◌≡◌, ◌++◌, ◌∷◌, [], ◌||◌, List, ℕ, drop, OnOk, OnErr, IfErr};
-ghost use Rattle.std.specs.BTreeSet.{contains_text};
-ghost use Rattle.std.specs.Str.{bytes_eq};
+ghost use Rattle.std.specs.Prelude.{◌≡◌, ◌++◌, ◌∷◌, [], drop, OnOk, OnErr, IfErr};
 ghost use Rattle.xml_model.specs.Trees.{has_attribute};
+ghost use Rattle.pyx_text.specs.Ways.{Tied};
 
 use crate::fault::PyxFault;
+use crate::places::{add_place, free_slot};
 use crate::room::push_in_room;
 use std::alloc::Global;
-use std::collections::BTreeSet;
 use xml_model::{Attr, Node, has_attribute};
 use xq_ast::Str;
 
-// The attributes that are looked through one by one. The names of all others stand in an ordered set,
+// The attributes that are looked through one by one. All others are found by the bits of their names,
 // so that many attributes of one element take no time that grows with their square.
 const FEW: usize = 16;
 
@@ -21,21 +20,8 @@ pub(crate) struct OpenTag {
     pub(crate) name: Str,
     pub(crate) attrs: Vec<Attr>,
     pub(crate) before: Vec<Node>,
-    later: BTreeSet<String>,
-    ghost tied: { (bytes : List ℕ) → contains_text later bytes ≡ has_attribute bytes (drop 16 attrs.items) },
-}
-
-// Adds a name to a set. After an error nothing has changed.
-fn remember(alloc: Global, names: &mut BTreeSet<String>, name: &Str) -> Result<(), PyxFault>
-    ensures ok { OnOk result ((bytes : List ℕ) → contains_text names.new bytes ≡ (contains_text names.old bytes || bytes_eq name.now bytes)) }
-    ensures err { OnErr result ((bytes : List ℕ) → contains_text names.new bytes ≡ contains_text names.old bytes) }
-    ensures memory { IfErr result (λ e. e ≡ PyxFault.NoMemory) }
-{
-    let name = String::from_str(alloc, name.as_str())?;
-    let Ok(_) = names.insert(name) else {
-        return Err(PyxFault::NoMemory);
-    };
-    Ok(())
+    slots: Vec<u32>,
+    ghost tied: { Tied (drop 16 attrs.items) slots.items },
 }
 
 impl OpenTag {
@@ -49,7 +35,7 @@ impl OpenTag {
             name,
             attrs: Vec::new(alloc),
             before,
-            later: BTreeSet::new(alloc),
+            slots: Vec::new(alloc),
         }
     }
 
@@ -60,7 +46,8 @@ impl OpenTag {
         if self.attrs.len() <= FEW {
             return has_attribute(&self.attrs, name);
         }
-        has_attribute(&self.attrs[..FEW], name) || self.later.contains(name)
+        has_attribute(&self.attrs[..FEW], name)
+            || free_slot(&self.attrs[FEW..], &self.slots, name).is_none()
     }
 
     /// Adds an attribute. After an error nothing has changed.
@@ -76,7 +63,7 @@ impl OpenTag {
             push_in_room(&mut self.attrs, attr);
             return Ok(());
         }
-        remember(alloc, &mut self.later, &attr.name)?;
+        add_place(&self.attrs[FEW..], &mut self.slots, attr.name.as_str())?;
         push_in_room(&mut self.attrs, attr);
         Ok(())
     }
