@@ -29,7 +29,8 @@ impl Model for LogBody {
 }
 
 impl LogBody {
-    pub(crate) fn tail(&self) -> &[u8]
+    /// The bytes that stand after the record's gate: its length, its body, and the next gate, which is closed.
+    pub fn tail(&self) -> &[u8]
         ensures { result.now ≡ tail_of self.now }
     {
         self.tail.as_slice()
