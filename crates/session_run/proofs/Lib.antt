@@ -6,3 +6,4 @@ pub mod Closing
 pub mod Texts
 pub mod Calling
 pub mod Untouched
+pub mod Outcomes
