@@ -7,3 +7,4 @@ pub mod Texts
 pub mod Calling
 pub mod Untouched
 pub mod Outcomes
+pub mod Plain

@@ -1,5 +1,5 @@
 -- Right answers are Done, lines or an error.
-use Rattle.std.proofs.Common.{◌≡◌, ℕ, true, false, true≢false, IsTrue, List, Option, None, Some, refl, sym, ap, ◌∙◌}
+use Rattle.std.proofs.Common.{◌≡◌, ℕ, true, true≢false, List, Option, Some, refl, sym, ap}
 use Rattle.xq_ast.specs.declared.call.Call.{Call}
 use Rattle.session_core.specs.declared.event.Says.{Says}
 use Rattle.session_core.specs.declared.event.Says.TheVariants as says

@@ -11,6 +11,7 @@ ghost use Rattle.session_core.specs.States.{state as state_of, in_doubt, is_open
 ghost use Rattle.session_core.specs.Transactions.{newest};
 ghost use Rattle.session_run.specs.Called.{AddsClosing, ClosesRead, LeavesRead};
 ghost use Rattle.session_run.specs.Outcomes.{EndsWith};
+ghost use Rattle.session_run.specs.Calls.{HasPlainLines};
 ghost use Rattle.session_run.specs.Effects.{IsEffect, IsValidChange};
 ghost use Rattle.xq_ast.specs.Parsed.{has_good_names};
 ghost use Rattle.session_run.specs.Tied.{IsTied, IsReady};
@@ -57,6 +58,7 @@ fn keep(
     effect: Effect,
 ) -> Result<Outcome, NoMemory>
     requires effect { IsEffect call changes.old.changes (newest core.old.base (past core.old)) effect }
+    requires plain { HasPlainLines effect.says }
     requires valid { IsValidChange effect.change }
     requires tied { IsTied core.old.base session changes.old.changes (past core.old) }
     requires settled { in_doubt (past core.old) ≡ None }

@@ -23,7 +23,7 @@ pub answer-requires-clause-right : goal.answer-requires-clause-right
 answer-requires-clause-right c =
     update_right c.args.core.now.base c.args.session
     (past c.args.core.now) c.args.changes.now.changes c.requires.tied c.args.call c.args.effect c.requires.updating c.requires.granted c.requires.statement
-    c.requires.effect c.requires.passes
+    c.requires.effect c.requires.passes c.requires.plain
 
 pub returns-in-Some-clause-ready : goal.returns-in-Some-clause-ready
 returns-in-Some-clause-ready c =
@@ -53,12 +53,12 @@ pub returns-in-Some-clause-closed : goal.returns-in-Some-clause-closed
 returns-in-Some-clause-closed c =
     let right = update_right c.args.core.now.base c.args.session
     (past c.args.core.now) c.args.changes.now.changes c.requires.tied c.args.call c.args.effect c.requires.updating c.requires.granted c.requires.statement
-    c.requires.effect c.requires.passes in
+    c.requires.effect c.requires.passes c.requires.plain in
     answer_closes c.args.session c.args.call c.args.effect.says c.args.core.now c.answer.new.core right c.in_ok-outcome.ensures.ok
 
 pub returns-in-None-clause-closed : goal.returns-in-None-clause-closed
 returns-in-None-clause-closed c =
     let right = update_right c.args.core.now.base c.args.session
     (past c.args.core.now) c.args.changes.now.changes c.requires.tied c.args.call c.args.effect c.requires.updating c.requires.granted c.requires.statement
-    c.requires.effect c.requires.passes in
+    c.requires.effect c.requires.passes c.requires.plain in
     answer_closes c.args.session c.args.call c.args.effect.says c.args.core.now c.answer.new.core right c.in_ok-outcome.ensures.ok
