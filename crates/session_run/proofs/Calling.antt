@@ -33,7 +33,7 @@ use Rattle.session_core.proofs.Beside.{agree_of}
 use Rattle.session_core.proofs.Answering.{stmt_told, told_runs, one_ran, state_unrun, refused_code, held_where_granted, granted_as}
 use Rattle.session_run.specs.declared.statement.Effect.{Effect}
 use Rattle.session_run.specs.Answers.{answered}
-use Rattle.session_run.specs.Calls.{IsAnswerInMemory}
+use Rattle.session_run.specs.Calls.{HasPlainLines, IsAnswerInMemory}
 use Rattle.session_run.proofs.Memory.{ran_right}
 use Rattle.session_run.specs.Called.{behind_grant}
 use Rattle.session_run.proofs.Closing.{follows_grant}
@@ -134,8 +134,9 @@ module _ (B : Base) (s : ℕ) (before : List Event) (changes : ChangeMap) (tied 
   -- what a reader is answered
   pub read_right : (call : Call) (effect : Effect) (F : Forest) → F ≡ forest_in B before (state s before) → IsTrue (is_reading (state s before))
       → IsTrue (is_statement call)
-      → refused_in (state s before) (work_of call) ≡ None → IsEffect call changes F effect → IsAnswerInMemory B s before (Some call) effect.says
-  read_right call effect F is reading statement passes so = let at = reading_at (state s before) reading in
+      → refused_in (state s before) (work_of call) ≡ None → IsEffect call changes F effect → HasPlainLines effect.says
+      → IsAnswerInMemory B s before (Some call) effect.says
+  read_right call effect F is reading statement passes so plain = let at = reading_at (state s before) reading in
       ran_right B s before (Reading at.number) call effect.says at.is statement
       (λ told. answers.AnswersInOrder.runs_reading
       (record {
@@ -146,7 +147,7 @@ module _ (B : Base) (s : ℕ) (before : List Event) (changes : ChangeMap) (tied 
         told =
             told;
       }))
-      (so.says ∙ ap (λ G. says_of (stmt G call).says) (ap (λ c. laid_over c F) (none_reading reading) ∙ laid-none F ∙ is ∙ ap (forest_in B before) at.is))
+      (so.says ∙ ap (λ G. says_of (stmt G call).says) (ap (λ c. laid_over c F) (none_reading reading) ∙ laid-none F ∙ is ∙ ap (forest_in B before) at.is)) plain
 
   -- ---- an updating transaction
 
@@ -163,10 +164,10 @@ module _ (B : Base) (s : ℕ) (before : List Event) (changes : ChangeMap) (tied 
       (statement : IsTrue (is_statement call))
       (so : IsEffect call changes (newest B before) effect) where
     -- what a statement is answered there
-    pub update_right : refused_in Updating (work_of call) ≡ None → IsAnswerInMemory B s before (Some call) effect.says
-    update_right passes = ran_right B s before Updating call effect.says is statement
+    pub update_right : refused_in Updating (work_of call) ≡ None → HasPlainLines effect.says → IsAnswerInMemory B s before (Some call) effect.says
+    update_right passes plain = ran_right B s before Updating call effect.says is statement
         (λ told. answers.AnswersInOrder.runs_updating (record { statement = statement; updating = is; passes = passes; granted = granted; told = told }))
-        (so.says ∙ ap (λ G. says_of (stmt G call).says) (sym (behind_changes is)))
+        (so.says ∙ ap (λ G. says_of (stmt G call).says) (sym (behind_changes is))) plain
 
     runs : says_run effect.says ≡ true
     runs = ap says_run so.says

@@ -6,3 +6,5 @@ pub mod Closing
 pub mod Texts
 pub mod Calling
 pub mod Untouched
+pub mod Outcomes
+pub mod Plain

@@ -1,5 +1,5 @@
 -- Right answers whose cause is in no device.
-use Rattle.std.proofs.Common.{◌≡◌, ℕ, true, false, not, true≢false, List, [], Option, None, Some, IsTrue, refl, sym, ap, ◌∙◌}
+use Rattle.std.proofs.Common.{◌≡◌, ℕ, true, false, not, true≢false, List, [], Option, Some, IsTrue, refl, sym, ap, ◌∙◌}
 use Rattle.xq_ast.specs.declared.call.Call.{Call}
 use Rattle.xq_ast.specs.declared.code.Code.{Code}
 use Rattle.xq_ast.specs.declared.code.Code.TheVariants as codes
@@ -15,7 +15,7 @@ use Rattle.session_core.specs.Answering as answers
 use Rattle.session_core.specs.Answering.{AnswersInOrder, IsRightAnswer, is_told, is_damaged, is_of_device, forest_for}
 use Rattle.session_core.proofs.Covering.{none_ran}
 use Rattle.session_core.proofs.Answering.{stmt_told, right_unrun, right_lacking, right_ran, state_unrun, refused_code}
-use Rattle.session_run.specs.Calls.{IsAnswerInMemory}
+use Rattle.session_run.specs.Calls.{HasPlainLines, IsAnswerInMemory}
 
 pub undamaged : (answer : Says) → is_of_device answer ≡ false → is_damaged answer ≡ false
 undamaged (says.Error (codes.Damaged commit ordinal page)) is = absurd (true≢false is)
@@ -40,21 +40,21 @@ refused_here code is = refl
 
 module _ (B : Base) (s : ℕ) (before : List Event) where
   pub lacking : (call : Option Call) → IsAnswerInMemory B s before call (says.Error codes.NoMemory)
-  lacking call = (right_lacking B s before call, refl)
+  lacking call = (right_lacking B s before call, refl, tt)
 
   pub unrun_here : (call : Option Call) (answer : Says) → AnswersInOrder B.numbers s before call answer → ran_by call answer ≡ [] → is_of_device answer ≡ false
-      → IsAnswerInMemory B s before call answer
-  unrun_here call answer order none here = (right_unrun B s before call answer order none, here)
+      → HasPlainLines answer → IsAnswerInMemory B s before call answer
+  unrun_here call answer order none here plain = (right_unrun B s before call answer order none, here, plain)
 
   pub refused_right : (call : Call) (code : Code) → refused_in (state s before) (work_of call) ≡ Some code
       → IsAnswerInMemory B s before (Some call) (says.Error code)
   refused_right call code is = let by_state = refused_code (state s before) (work_of call) code is in
       unrun_here (Some call) (says.Error code) (answers.AnswersInOrder.refuses_call (record { code = code; refused = is; says_so = refl }))
-      (none_ran (Some call) (says.Error code) (ap not (state_unrun code by_state))) (refused_here code by_state)
+      (none_ran (Some call) (says.Error code) (ap not (state_unrun code by_state))) (refused_here code by_state) tt
 
   -- a statement that ran, on the documents of its session's state
   pub ran_right : (x : State) (call : Call) (answer : Says) → state s before ≡ x → IsTrue (is_statement call)
       → (is_told answer ≡ true → AnswersInOrder B.numbers s before (Some call) answer)
-      → answer ≡ says_of (stmt (forest_for B s before x) call).says → IsAnswerInMemory B s before (Some call) answer
-  ran_right x call answer is statement order so =
-      (right_ran B s before x call answer is statement order so, told_here answer (ap is_told so ∙ stmt_told (forest_for B s before x) call))
+      → answer ≡ says_of (stmt (forest_for B s before x) call).says → HasPlainLines answer → IsAnswerInMemory B s before (Some call) answer
+  ran_right x call answer is statement order so plain =
+      (right_ran B s before x call answer is statement order so, told_here answer (ap is_told so ∙ stmt_told (forest_for B s before x) call), plain)

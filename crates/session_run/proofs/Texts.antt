@@ -130,16 +130,16 @@ pub right_end : (B : Base) (s : ℕ) (before : List Event) (end : ParseEnd) → 
     → IsAnswerInMemory B s before None (says.Error (code_of end))
 right_end B s before TooLong certain =
     unrun_here B s before None (says.Error codes.TooLong)
-    (answers.AnswersInOrder.refuses_text (record { code = codes.TooLong; refusal = refl; says_so = refl; not_in_doubt = certain })) refl refl
+    (answers.AnswersInOrder.refuses_text (record { code = codes.TooLong; refusal = refl; says_so = refl; not_in_doubt = certain })) refl refl tt
 right_end B s before XPST0003 certain =
     unrun_here B s before None (says.Error codes.XPST0003)
-    (answers.AnswersInOrder.refuses_text (record { code = codes.XPST0003; refusal = refl; says_so = refl; not_in_doubt = certain })) refl refl
+    (answers.AnswersInOrder.refuses_text (record { code = codes.XPST0003; refusal = refl; says_so = refl; not_in_doubt = certain })) refl refl tt
 right_end B s before NestedTooDeep certain =
     unrun_here B s before None (says.Error codes.NestedTooDeep)
-    (answers.AnswersInOrder.refuses_text (record { code = codes.NestedTooDeep; refusal = refl; says_so = refl; not_in_doubt = certain })) refl refl
+    (answers.AnswersInOrder.refuses_text (record { code = codes.NestedTooDeep; refusal = refl; says_so = refl; not_in_doubt = certain })) refl refl tt
 right_end B s before BadName certain =
     unrun_here B s before None (says.Error codes.BadName)
-    (answers.AnswersInOrder.refuses_text (record { code = codes.BadName; refusal = refl; says_so = refl; not_in_doubt = certain })) refl refl
+    (answers.AnswersInOrder.refuses_text (record { code = codes.BadName; refusal = refl; says_so = refl; not_in_doubt = certain })) refl refl tt
 right_end B s before NoMemory certain = lacking B s before None
 
 pub on_err : {T E P Q : Type 0} (r : Result T E) → (P → Q) → OnErr r P → OnErr r Q

@@ -2,6 +2,7 @@
 use Rattle.std.specs.Prelude.{◌≡◌, ℕ, ◌<◌, true, false, List, [], ◌∷◌, length, Option}
 use Rattle.xq_ast.specs.declared.call.CallText.{CallText}
 use Rattle.xq_ast.specs.declared.need.Need.{Need}
+use Rattle.xml_model.specs.Pyx.{Line, IsPlain}
 use Rattle.session_core.specs.declared.event.Event.{Event}
 use Rattle.session_core.specs.declared.event.Event.TheVariants.{Began, Granted, Refused, Answered, Committed, Ended, RolledBack, Doubt, Settled, Left}
 use Rattle.session_core.specs.History.{session_of, is_closing}
@@ -10,6 +11,7 @@ use Rattle.session_core.specs.States.{state}
 use Rattle.session_core.specs.Closes.{ClosesBy, NeedsThese, IsAnswerTo}
 use Rattle.session_core.specs.Answering.{IsRightAnswer, is_of_device}
 use Rattle.session_core.specs.declared.event.Says.{Says}
+use Rattle.session_core.specs.declared.event.Says.TheVariants as says
 use Rattle.xq_ast.specs.declared.call.Call.{Call}
 
 -- an answer is one to the text
@@ -17,9 +19,19 @@ abbrev pub AnswersText : CallText → Event → List Event → Type 0
 AnswersText text (Answered s reply) past = IsAnswerTo text (state s past) reply.says
 AnswersText text _ past = Unit {0}
 
--- a right answer whose cause is in no device
+-- lines without newlines
+abbrev pub ArePlain : List Line → Type 0
+ArePlain [] = Unit {0}
+ArePlain (line ∷ more) = IsPlain line × ArePlain more
+
+-- no line of an answer has a newline
+abbrev pub HasPlainLines : Says → Type 0
+HasPlainLines (says.Lines all) = ArePlain all
+HasPlainLines _ = Unit {0}
+
+-- a right answer whose cause is in no device, and whose lines have no newlines
 abbrev pub IsAnswerInMemory : Base → ℕ → List Event → Option Call → Says → Type 0
-IsAnswerInMemory B s past call answer = IsRightAnswer B s past call answer × (is_of_device answer ≡ false)
+IsAnswerInMemory B s past call answer = IsRightAnswer B s past call answer × (is_of_device answer ≡ false) × HasPlainLines answer
 
 -- an event in which no device takes part: an answer is such a one, and no commit comes into doubt or out of it
 abbrev pub TakesNoDevice : Base → Event → List Event → Type 0

@@ -4,3 +4,4 @@ pub mod Tied
 pub mod Called
 pub mod Answers
 pub mod Sessions
+pub mod Outcomes

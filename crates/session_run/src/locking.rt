@@ -1,5 +1,5 @@
 //! Statements in a transaction: their locks, their answers and their changes.
-ghost use Rattle.std.specs.Prelude.{◌≡◌, Some, None, IsTrue, OnOk, OnErr};
+ghost use Rattle.std.specs.Prelude.{◌≡◌, Some, None, IsTrue, IfOk, OnOk, OnErr};
 ghost use Rattle.xml_model.specs.Needs.{needs as needs_of};
 ghost use Rattle.xml_model.specs.Statement.{is_statement};
 ghost use Rattle.session_core.specs.Locks.{AreGranted};
@@ -10,12 +10,15 @@ ghost use Rattle.session_core.specs.Refusals.{refused_in, work_of};
 ghost use Rattle.session_core.specs.States.{state as state_of, in_doubt, is_open, is_reading};
 ghost use Rattle.session_core.specs.Transactions.{newest};
 ghost use Rattle.session_run.specs.Called.{AddsClosing, ClosesRead, LeavesRead};
+ghost use Rattle.session_run.specs.Outcomes.{EndsWith};
+ghost use Rattle.session_run.specs.Calls.{HasPlainLines};
 ghost use Rattle.session_run.specs.Effects.{IsEffect, IsValidChange};
 ghost use Rattle.xq_ast.specs.Parsed.{has_good_names};
 ghost use Rattle.session_run.specs.Tied.{IsTied, IsReady};
 
 use crate::answering::{answer, answer_unchanged};
 use crate::changes::Change;
+use crate::outcome::Outcome;
 use crate::statement::{Effect, run};
 use doc_locks::AskEnd;
 use session_core::{Core, Says, State};
@@ -29,7 +32,7 @@ fn read(
     session: u32,
     changes: &DocChanges,
     call: Call,
-) -> Result<(), NoMemory>
+) -> Result<Outcome, NoMemory>
     requires ready { IsReady session changes.now.changes core.old }
     requires reading { IsTrue (is_reading (state_of session (past core.old))) }
     requires statement { IsTrue (is_statement call) }
@@ -37,6 +40,7 @@ fn read(
     requires passes { refused_in (state_of session (past core.old)) (work_of call) ≡ None }
     ensures closed { OnOk result (AddsClosing session call core.old core.new) }
     ensures ready { OnOk result (IsReady session changes.now.changes core.new) }
+    ensures outcome { IfOk result (λ outcome. EndsWith outcome core.new) }
     ensures err { OnErr result (core.new ≡ core.old) }
 {
     match run(alloc, core.forest(session), changes, &call) {
@@ -52,8 +56,9 @@ fn keep(
     changes: &mut DocChanges,
     call: Call,
     effect: Effect,
-) -> Result<(), NoMemory>
+) -> Result<Outcome, NoMemory>
     requires effect { IsEffect call changes.old.changes (newest core.old.base (past core.old)) effect }
+    requires plain { HasPlainLines effect.says }
     requires valid { IsValidChange effect.change }
     requires tied { IsTied core.old.base session changes.old.changes (past core.old) }
     requires settled { in_doubt (past core.old) ≡ None }
@@ -64,6 +69,7 @@ fn keep(
     requires passes { refused_in State.Updating (work_of call) ≡ None }
     ensures closed { OnOk result (AddsClosing session call core.old core.new) }
     ensures ready { OnOk result (IsReady session changes.new.changes core.new) }
+    ensures outcome { IfOk result (λ outcome. EndsWith outcome core.new) }
     ensures err { OnErr result (core.new ≡ core.old) }
     ensures same { OnErr result (changes.new.changes ≡ changes.old.changes) }
 {
@@ -71,12 +77,15 @@ fn keep(
         return answer_unchanged(core, session, call, Says::Error(Code::NoMemory));
     }
     let Effect { says, change } = effect;
-    answer(core, session, Some(call), says)?;
-    if let Some(change) = change {
-        let Change { name, after } = change;
-        changes.put(name, after);
+    let outcome = answer(core, session, Some(call), says)?;
+    match change {
+        Some(change) => {
+            let Change { name, after } = change;
+            changes.put(name, after);
+            Ok(outcome)
+        }
+        None => Ok(outcome),
     }
-    Ok(())
 }
 
 // Runs a statement whose locks were granted, or that needs none.
@@ -86,7 +95,7 @@ fn run_granted(
     session: u32,
     changes: &mut DocChanges,
     call: Call,
-) -> Result<(), NoMemory>
+) -> Result<Outcome, NoMemory>
     requires tied { IsTied core.old.base session changes.old.changes (past core.old) }
     requires settled { in_doubt (past core.old) ≡ None }
     requires updating { state_of session (past core.old) ≡ State.Updating }
@@ -97,6 +106,7 @@ fn run_granted(
     requires passes { refused_in State.Updating (work_of call) ≡ None }
     ensures closed { OnOk result (AddsClosing session call core.old core.new) }
     ensures ready { OnOk result (IsReady session changes.new.changes core.new) }
+    ensures outcome { IfOk result (λ outcome. EndsWith outcome core.new) }
     ensures err { OnErr result (core.new ≡ core.old) }
     ensures same { OnErr result (changes.new.changes ≡ changes.old.changes) }
 {
@@ -113,7 +123,7 @@ fn update(
     session: u32,
     changes: &mut DocChanges,
     call: Call,
-) -> Result<(), NoMemory>
+) -> Result<Outcome, NoMemory>
     requires ready { IsReady session changes.old.changes core.old }
     requires updating { state_of session (past core.old) ≡ State.Updating }
     requires statement { IsTrue (is_statement call) }
@@ -121,6 +131,7 @@ fn update(
     requires passes { refused_in State.Updating (work_of call) ≡ None }
     ensures closed { OnOk result (ClosesRead session call core.old core.new) }
     ensures ready { OnOk result (IsReady session changes.new.changes core.new) }
+    ensures outcome { IfOk result (λ outcome. EndsWith outcome core.new) }
     ensures err { OnErr result (LeavesRead session call core.old core.new) }
     ensures same { OnErr result (changes.new.changes ≡ changes.old.changes) }
 {
@@ -132,7 +143,7 @@ fn update(
     }
     match core.ask(session, &needed) {
         Ok(()) => run_granted(alloc, core, session, changes, call),
-        Err(AskEnd::Held { .. }) => Ok(()),
+        Err(AskEnd::Held { name, holder }) => Ok(Outcome::LockHeld(name, holder)),
         Err(AskEnd::NoMemory) => {
             answer_unchanged(core, session, call, Says::Error(Code::NoMemory))
         }
@@ -146,7 +157,7 @@ pub(crate) fn run_statement(
     session: u32,
     changes: &mut DocChanges,
     call: Call,
-) -> Result<(), NoMemory>
+) -> Result<Outcome, NoMemory>
     requires ready { IsReady session changes.old.changes core.old }
     requires inside { IsTrue (is_open (state_of session (past core.old))) }
     requires statement { IsTrue (is_statement call) }
@@ -154,6 +165,7 @@ pub(crate) fn run_statement(
     requires passes { refused_in (state_of session (past core.old)) (work_of call) ≡ None }
     ensures closed { OnOk result (ClosesRead session call core.old core.new) }
     ensures ready { OnOk result (IsReady session changes.new.changes core.new) }
+    ensures outcome { IfOk result (λ outcome. EndsWith outcome core.new) }
     ensures err { OnErr result (LeavesRead session call core.old core.new) }
     ensures same { OnErr result (changes.new.changes ≡ changes.old.changes) }
 {

@@ -1,15 +1,17 @@
 //! A call, by its text and its session's state.
-ghost use Rattle.std.specs.Prelude.{◌≡◌, ◌≢◌, None, IsTrue, OnOk, OnErr};
+ghost use Rattle.std.specs.Prelude.{◌≡◌, ◌≢◌, None, IsTrue, IfOk, OnOk, OnErr};
 ghost use Rattle.xq_ast.specs.Parsed.{has_good_names};
 ghost use Rattle.session_core.specs.Kept.{past};
 ghost use Rattle.session_core.specs.Refusals.{refused_in, work_of};
 ghost use Rattle.session_core.specs.declared.event.State.TheVariants as states;
 ghost use Rattle.session_core.specs.States.{state as state_of};
 ghost use Rattle.session_run.specs.Called.{ClosesRead, IsCalled, IsUnclosed, LeavesRead};
+ghost use Rattle.session_run.specs.Outcomes.{EndsWith};
 ghost use Rattle.session_run.specs.Tied.{IsReady};
 
 use crate::answering::{answer, answer_unchanged};
 use crate::locking::run_statement;
+use crate::outcome::Outcome;
 use crate::table::refusal;
 use crate::transaction::{begin, begin_read, finish};
 use session_core::{Core, Says};
@@ -25,13 +27,14 @@ fn run_passed(
     session: u32,
     changes: &mut DocChanges,
     call: Call,
-) -> Result<(), NoMemory>
+) -> Result<Outcome, NoMemory>
     requires ready { IsReady session changes.old.changes core.old }
     requires named { IsTrue (has_good_names call) }
     requires certain { state_of session (past core.old) ≢ states.InDoubt }
     requires passes { refused_in (state_of session (past core.old)) (work_of call) ≡ None }
     ensures closed { OnOk result (ClosesRead session call core.old core.new) }
     ensures ready { OnOk result (IsReady session changes.new.changes core.new) }
+    ensures outcome { IfOk result (λ outcome. EndsWith outcome core.new) }
     ensures err { OnErr result (LeavesRead session call core.old core.new) }
     ensures same { OnErr result (changes.new.changes ≡ changes.old.changes) }
 {
@@ -42,7 +45,7 @@ fn run_passed(
         Call::Rollback => {
             core.roll_back(session);
             changes.clear();
-            Ok(())
+            Ok(Outcome::RolledBack)
         }
         Call::Checkpoint => answer_unchanged(core, session, Call::Checkpoint, Says::Done),
         statement => run_statement(alloc, core, session, changes, statement),
@@ -56,12 +59,13 @@ pub(crate) fn run_call(
     session: u32,
     changes: &mut DocChanges,
     call: Call,
-) -> Result<(), NoMemory>
+) -> Result<Outcome, NoMemory>
     requires ready { IsReady session changes.old.changes core.old }
     requires named { IsTrue (has_good_names call) }
     requires certain { state_of session (past core.old) ≢ states.InDoubt }
     ensures closed { OnOk result (ClosesRead session call core.old core.new) }
     ensures ready { OnOk result (IsReady session changes.new.changes core.new) }
+    ensures outcome { IfOk result (λ outcome. EndsWith outcome core.new) }
     ensures err { OnErr result (LeavesRead session call core.old core.new) }
     ensures same { OnErr result (changes.new.changes ≡ changes.old.changes) }
 {
@@ -78,10 +82,11 @@ pub(crate) fn run_text(
     session: u32,
     changes: &mut DocChanges,
     text: &CallText,
-) -> Result<(), NoMemory>
+) -> Result<Outcome, NoMemory>
     requires ready { IsReady session changes.old.changes core.old }
     ensures closed { OnOk result (IsCalled session text.now core.old core.new) }
     ensures ready { OnOk result (IsReady session changes.new.changes core.new) }
+    ensures outcome { IfOk result (λ outcome. EndsWith outcome core.new) }
     ensures err { OnErr result (IsUnclosed session text.now core.old core.new) }
     ensures same { OnErr result (changes.new.changes ≡ changes.old.changes) }
 {

@@ -1,12 +1,14 @@
 //! A session and its calls.
-ghost use Rattle.std.specs.Prelude.{◌≡◌, ◌≢◌, ℕ, false, None, IsTrue, OnOk, OnErr};
+ghost use Rattle.std.specs.Prelude.{◌≡◌, ◌≢◌, ℕ, false, None, IsTrue, IfOk, OnOk, OnErr};
 ghost use Rattle.session_core.specs.declared.event.Event.TheVariants as events;
 ghost use Rattle.session_core.specs.Kept.{with_event, past};
 ghost use Rattle.session_core.specs.States.{state as state_of, is_open};
 ghost use Rattle.session_run.specs.Called.{IsCalled, IsUnclosed, IsUntouched};
 ghost use Rattle.xml_model.specs.Changes.{no_changes};
+ghost use Rattle.session_run.specs.Outcomes.{EndsWith};
 ghost use Rattle.session_run.specs.Tied.{IsReady};
 
+use crate::outcome::Outcome;
 use crate::running::run_text;
 use session_core::{Core, State};
 use std::alloc::Global;
@@ -53,11 +55,12 @@ impl Session {
         self.number
     }
 
-    /// Makes one call, whose events are added to the journal. `NoMemory` says that the call is not
-    /// closed.
-    pub fn call_on(&mut self, core: &mut Core, call: &CallText) -> Result<(), NoMemory>
+    /// Makes one call, whose events are added to the journal, and answers what its closing event
+    /// says. `NoMemory` says that the call is not closed.
+    pub fn call_on(&mut self, core: &mut Core, call: &CallText) -> Result<Outcome, NoMemory>
         requires { IsReady self.old.number self.old.changes core.old }
         ensures ok { OnOk result (IsCalled self.old.number call.now core.old core.new) }
+        ensures outcome { IfOk result (λ outcome. EndsWith outcome core.new) }
         ensures ready { OnOk result (IsReady self.new.number self.new.changes core.new) }
         ensures others { (t : ℕ) → t ≢ self.old.number → IsUntouched t core.old core.new }
         ensures number { self.new.number ≡ self.old.number }

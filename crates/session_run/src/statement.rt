@@ -5,6 +5,7 @@ ghost use Rattle.xml_model.specs.Pyx.{read, text_of};
 ghost use Rattle.session_core.specs.Transactions.{says_of};
 ghost use Rattle.xq_ast.specs.Parsed.{is_document_name, has_good_names};
 ghost use Rattle.xml_model.specs.Document.{IsValid};
+ghost use Rattle.session_run.specs.Calls.{ArePlain, HasPlainLines};
 ghost use Rattle.session_run.specs.Effects.{IsEffect, IsPut, IsValidChange, Spells};
 
 use crate::changes::Change;
@@ -48,7 +49,9 @@ fn is_too_long(lines: &StrList) -> bool
 }
 
 fn answer_with(lines: StrList) -> Says
-    ensures { result ≡ says_of (answer_of lines) }
+    requires { ArePlain lines }
+    ensures says { result ≡ says_of (answer_of lines) }
+    ensures plain { HasPlainLines result }
 {
     if is_too_long(&lines) {
         Says::Error(Code::ReplyTooLong)
@@ -75,6 +78,7 @@ fn put(alloc: Global, name: &Str, doc: Doc) -> Result<Effect, NoMemory>
     requires valid { IsValid doc }
     ensures put { IfOk result (IsPut name.now doc) }
     ensures valid { IfOk result (λ effect. IsValidChange effect.change) }
+    ensures plain { IfOk result (λ effect. HasPlainLines effect.says) }
 {
     let after = Arc::new(alloc, doc)?;
     Ok(Effect {
@@ -95,6 +99,7 @@ fn create(
     requires named { IsTrue (is_document_name name.now) }
     ensures effect { IfOk result (IsEffect (Call.Create name.now) changes.now.changes base.now) }
     ensures valid { IfOk result (λ effect. IsValidChange effect.change) }
+    ensures plain { IfOk result (λ effect. HasPlainLines effect.says) }
 {
     match changes.seen(base, name) {
         Some(_) => Ok(refused(Code::Exists)),
@@ -118,6 +123,7 @@ fn load(
     requires named { IsTrue (is_document_name name.now) }
     ensures effect { IfOk result (IsEffect (Call.Load name.now lines.now) changes.now.changes base.now) }
     ensures valid { IfOk result (λ effect. IsValidChange effect.change) }
+    ensures plain { IfOk result (λ effect. HasPlainLines effect.says) }
 {
     match changes.seen(base, name) {
         Some(_) => Ok(refused(Code::Exists)),
@@ -136,6 +142,7 @@ fn take_away(base: &DocMap, changes: &DocChanges, name: &Str) -> Result<Effect, 
     requires named { IsTrue (is_document_name name.now) }
     ensures effect { IfOk result (IsEffect (Call.Drop name.now) changes.now.changes base.now) }
     ensures valid { IfOk result (λ effect. IsValidChange effect.change) }
+    ensures plain { IfOk result (λ effect. HasPlainLines effect.says) }
 {
     match changes.seen(base, name) {
         Some(_) => Ok(Effect {
@@ -149,6 +156,7 @@ fn take_away(base: &DocMap, changes: &DocChanges, name: &Str) -> Result<Effect, 
     }
 }
 
+#[tactic(auto, using(crate::proofs::Plain::plain_pyx))]
 fn export(
     alloc: Global,
     base: &DocMap,
@@ -157,6 +165,7 @@ fn export(
 ) -> Result<Effect, NoMemory>
     ensures effect { IfOk result (IsEffect (Call.Export name.now) changes.now.changes base.now) }
     ensures valid { IfOk result (λ effect. IsValidChange effect.change) }
+    ensures plain { IfOk result (λ effect. HasPlainLines effect.says) }
 {
     match changes.seen(base, name) {
         Some(doc) => Ok(Effect {
@@ -180,11 +189,15 @@ fn marked(alloc: Global, names: &StrList) -> Result<StrList, NoMemory>
     Ok(lines)
 }
 
+#[tactic(auto, using(crate::proofs::Plain::plain_names))]
 fn show(alloc: Global, base: &DocMap, changes: &DocChanges) -> Result<Effect, NoMemory>
     ensures effect { IfOk result (IsEffect Call.ShowDocuments changes.now.changes base.now) }
     ensures valid { IfOk result (λ effect. IsValidChange effect.change) }
+    ensures plain { IfOk result (λ effect. HasPlainLines effect.says) }
 {
-    let names = base.with_changes(changes)?.names()?;
+    let docs = base.with_changes(changes)?;
+    docs.is_forest();
+    let names = docs.names()?;
     Ok(Effect {
         says: answer_with(marked(alloc, &names)?),
         change: None,
@@ -202,6 +215,7 @@ pub(crate) fn run(
     requires named { IsTrue (has_good_names call.now) }
     ensures effect { IfOk result (IsEffect call.now changes.now.changes base.now) }
     ensures valid { IfOk result (λ effect. IsValidChange effect.change) }
+    ensures plain { IfOk result (λ effect. HasPlainLines effect.says) }
 {
     match call {
         Call::Create { name } => create(alloc, base, changes, name),

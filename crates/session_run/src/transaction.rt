@@ -1,66 +1,72 @@
 //! Calls that begin and end a transaction.
-ghost use Rattle.std.specs.Prelude.{◌≡◌, None, IsTrue, OnOk, OnErr};
+ghost use Rattle.std.specs.Prelude.{◌≡◌, None, IsTrue, IfOk, OnOk, OnErr};
 ghost use Rattle.session_core.specs.Kept.{with_event, past};
 ghost use Rattle.session_core.specs.Settling.{HasCommitLeft};
 ghost use Rattle.session_core.specs.Transactions.{next_number};
 ghost use Rattle.session_core.specs.States.{state as state_of, in_doubt, is_open};
 ghost use Rattle.session_run.specs.Called.{AddsClosing};
+ghost use Rattle.session_run.specs.Outcomes.{EndsWith};
 ghost use Rattle.session_run.specs.Tied.{IsBetweenCalls, IsReady, StaysReady};
 ghost use Rattle.session_core.specs.declared.event.Event.TheVariants as events;
 
 use crate::answering::answer_unchanged;
-use session_core::{Core, Says, State};
+use crate::outcome::Outcome;
+use session_core::{BeginKind, Core, Says, State};
 use xml_model::DocChanges;
 use xq_ast::{Call, Code, NoMemory, SpentKind};
 
 /// BEGIN: an updating transaction.
-pub(crate) fn begin(core: &mut Core, session: u32) -> Result<(), NoMemory>
+pub(crate) fn begin(core: &mut Core, session: u32) -> Result<Outcome, NoMemory>
     requires idle { state_of session (past core.old) ≡ State.Idle }
     requires between { IsBetweenCalls session (past core.old) }
     requires settled { in_doubt (past core.old) ≡ None }
     ensures closed { OnOk result (AddsClosing session Call.Begin core.old core.new) }
     ensures ready { OnOk result (StaysReady session core.old core.new) }
+    ensures outcome { IfOk result (λ outcome. EndsWith outcome core.new) }
     ensures err { OnErr result (core.new ≡ core.old) }
 {
     match core.begin_update(session) {
-        Ok(()) => Ok(()),
+        Ok(()) => Ok(Outcome::Began(BeginKind::Updating)),
         Err(_) => answer_unchanged(core, session, Call::Begin, Says::Error(Code::NoMemory)),
     }
 }
 
 /// BEGIN READ-ONLY.
-pub(crate) fn begin_read(core: &mut Core, session: u32) -> Result<(), NoMemory>
+pub(crate) fn begin_read(core: &mut Core, session: u32) -> Result<Outcome, NoMemory>
     requires idle { state_of session (past core.old) ≡ State.Idle }
     requires between { IsBetweenCalls session (past core.old) }
     requires settled { in_doubt (past core.old) ≡ None }
     ensures closed { OnOk result (AddsClosing session Call.BeginRead core.old core.new) }
     ensures ready { OnOk result (StaysReady session core.old core.new) }
+    ensures outcome { IfOk result (λ outcome. EndsWith outcome core.new) }
     ensures err { OnErr result (core.new ≡ core.old) }
 {
     match core.begin_read(session) {
-        Ok(_) => Ok(()),
+        Ok(number) => Ok(Outcome::Began(BeginKind::Reading(number))),
         Err(_) => answer_unchanged(core, session, Call::BeginRead, Says::Error(Code::NoMemory)),
     }
 }
 
 // Commits the newest documents with the changes laid over them.
-fn commit_changes(core: &mut Core, session: u32, changes: &DocChanges) -> Result<(), NoMemory>
+fn commit_changes(core: &mut Core, session: u32, changes: &DocChanges) -> Result<Outcome, NoMemory>
     requires ready { IsReady session changes.now.changes core.old }
     requires updating { state_of session (past core.old) ≡ State.Updating }
     requires left { HasCommitLeft core.old.base.numbers (past core.old) }
     ensures ok { OnOk result (core.new ≡ with_event (events.Committed session (next_number core.old.base.numbers (past core.old))) core.old) }
+    ensures outcome { IfOk result (λ outcome. EndsWith outcome core.new) }
     ensures err { OnErr result (core.new ≡ core.old) }
 {
     let docs = core.forest(session).with_changes(changes)?;
-    core.commit(session, docs)?;
-    Ok(())
+    let number = core.commit(session, docs)?;
+    Ok(Outcome::Committed(number))
 }
 
-fn commit(core: &mut Core, session: u32, changes: &mut DocChanges) -> Result<(), NoMemory>
+fn commit(core: &mut Core, session: u32, changes: &mut DocChanges) -> Result<Outcome, NoMemory>
     requires ready { IsReady session changes.old.changes core.old }
     requires updating { state_of session (past core.old) ≡ State.Updating }
     ensures closed { OnOk result (AddsClosing session Call.Commit core.old core.new) }
     ensures ready { OnOk result (IsReady session changes.new.changes core.new) }
+    ensures outcome { IfOk result (λ outcome. EndsWith outcome core.new) }
     ensures err { OnErr result (core.new ≡ core.old) }
     ensures same { OnErr result (changes.new.changes ≡ changes.old.changes) }
 {
@@ -72,9 +78,9 @@ fn commit(core: &mut Core, session: u32, changes: &mut DocChanges) -> Result<(),
         return answer_unchanged(core, session, Call::Commit, Says::Error(spent));
     }
     match commit_changes(core, session, changes) {
-        Ok(()) => {
+        Ok(outcome) => {
             changes.clear();
-            Ok(())
+            Ok(outcome)
         }
         Err(_) => answer_unchanged(core, session, Call::Commit, Says::Error(Code::NoMemory)),
     }
@@ -85,11 +91,12 @@ pub(crate) fn finish(
     core: &mut Core,
     session: u32,
     changes: &mut DocChanges,
-) -> Result<(), NoMemory>
+) -> Result<Outcome, NoMemory>
     requires ready { IsReady session changes.old.changes core.old }
     requires inside { IsTrue (is_open (state_of session (past core.old))) }
     ensures closed { OnOk result (AddsClosing session Call.Commit core.old core.new) }
     ensures ready { OnOk result (IsReady session changes.new.changes core.new) }
+    ensures outcome { IfOk result (λ outcome. EndsWith outcome core.new) }
     ensures err { OnErr result (core.new ≡ core.old) }
     ensures same { OnErr result (changes.new.changes ≡ changes.old.changes) }
 {
@@ -97,5 +104,5 @@ pub(crate) fn finish(
         return commit(core, session, changes);
     }
     core.end_read(session);
-    Ok(())
+    Ok(Outcome::Ended)
 }

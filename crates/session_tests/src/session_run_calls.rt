@@ -1,8 +1,8 @@
 //! Each public call once, with ample memory, where no commit number is left: scripts begin at 0.
 ghost use Rattle.session_run.specs.Tied.{IsReady};
 
-use session_core::{Core, Event, Reply, Says};
-use session_run::Session;
+use session_core::{BeginKind, Core, Event, Reply, Says};
+use session_run::{Outcome, Session};
 use std::alloc::Global;
 use std::test::Fail;
 use xml_model::DocMap;
@@ -20,8 +20,16 @@ fn no_commit_number_is_left(rt: HostRuntime) -> Result<(), Fail> {
     let alloc = rt.alloc();
     let mut core = Core::new(alloc, u64::MAX, 1, DocMap::new(alloc))?;
     let mut session = Session::of(alloc, 3);
-    session.call_on(&mut core, &text_of(alloc, "BEGIN")?)?;
-    session.call_on(&mut core, &text_of(alloc, "COMMIT")?)?;
+    let begun = session.call_on(&mut core, &text_of(alloc, "BEGIN")?)?;
+    assert!(&rt; matches!(begun, Outcome::Began(BeginKind::Updating)));
+    let refused = session.call_on(&mut core, &text_of(alloc, "COMMIT")?)?;
+    assert!(&rt; matches!(
+        refused,
+        Outcome::Error(Code::Spent {
+            kind: SpentKind::Commit,
+            number: u64::MAX,
+        }),
+    ));
     session.leave_on(&mut core);
     assert_eq!(&rt; session.number(), 3);
     let events = core.close().into_vec();

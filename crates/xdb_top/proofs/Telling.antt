@@ -10,7 +10,7 @@ use Rattle.xq_ast.specs.Parsed.{Parsed}
 use Rattle.xq_ast.proofs.Readings.{one_answer}
 use Rattle.xml_model.specs.Needs.{needs}
 use Rattle.session_core.specs.declared.event.BeginKind.TheVariants as kinds
-use Rattle.session_core.specs.declared.event.State.TheVariants.{Idle, Updating, InDoubt}
+use Rattle.session_core.specs.declared.event.State.TheVariants.{Idle, Updating}
 use Rattle.session_core.specs.declared.event.Reply.{Reply}
 use Rattle.session_core.specs.declared.event.Says.{Says}
 use Rattle.session_core.specs.declared.event.Says.TheVariants as says

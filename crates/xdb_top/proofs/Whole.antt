@@ -8,6 +8,9 @@ use Rattle.session_core.specs.Legal.{Legal, SoFar}
 use Rattle.session_core.specs.Kept.{Kept, past}
 use Rattle.session_core.proofs.Growing.{begins}
 use Rattle.script_text.specs.declared.scripts.session_calls.Script.{Script}
+use Rattle.script_text.specs.JournalText.{ArePrinted}
+use Rattle.xdb_top.specs.Typed.{AreTyped}
+use Rattle.xdb_top.proofs.Printed.{printed_journal}
 use Rattle.xdb_top.specs.Turns.{turns_of, turns_in, one_by_one, all_turns}
 use Rattle.xdb_top.specs.Played.{start, IsPlayed, IsWholePlay, IsPartPlay}
 use Rattle.xdb_top.specs.Playing.{HasBrokenOff, start_kept, IsPlayedWhole}
@@ -32,21 +35,25 @@ played_from_start : (script : Script) (k : Kept) → IsPlayedWhole script k → 
 played_from_start script k whole = subst (λ B. IsPlayed B script.sessions (past k)) whole.base whole.played
 
 -- a script that was played whole
-pub whole_play : (script : Script) (k : Kept) → IsPlayedWhole script k → SoFar k.base k.journal → IsWholePlay start script k.journal
-whole_play script k whole so_far = record {
+pub whole_play : (script : Script) (k : Kept) → IsPlayedWhole script k → SoFar k.base k.journal → AreTyped k.journal
+    → IsWholePlay start script k.journal
+whole_play script k whole so_far typed = record {
   legal = all_closed start script.sessions k.journal (subst (λ B. SoFar B k.journal) whole.base so_far) (played_from_start script k whole)
       (λ s. closed_by_turns s k.journal ∙ ap (turns_of s) whole.in_turn ∙ all_had script.sessions script.order s);
   in_turn = whole.in_turn;
   right = (played_from_start script k whole).right;
   at_once = whole.played.at_once;
   leaves = whole.played.leaves;
+  printed = printed_journal start script.sessions k.journal typed (played_from_start script k whole).closes so_far.locks
+      (played_from_start script k whole).right;
 }
 
 pub whole_where_ok : {T E : Type 0} (r : Result T E) (script : Script) (k : Kept) (journal : List Event) → OnOk r (IsPlayedWhole script k)
-    → SoFar k.base k.journal → journal ≡ k.journal
+    → SoFar k.base k.journal → journal ≡ k.journal → AreTyped journal
     → IsTrue (is_ok r) → IsWholePlay start script journal
-whole_where_ok (Ok x) script k journal whole so_far same ok = subst (IsWholePlay start script) (sym same) (whole_play script k whole so_far)
-whole_where_ok (Err e) script k journal whole so_far same ok = absurd (search rules)
+whole_where_ok (Ok x) script k journal whole so_far same typed ok =
+    subst (IsWholePlay start script) (sym same) (whole_play script k whole so_far (subst AreTyped same typed))
+whole_where_ok (Err e) script k journal whole so_far same typed ok = absurd (search rules)
 
 -- ---- a part of a script
 
@@ -56,20 +63,25 @@ nothing_of_it script journal none = subst (IsPartPlay start script) (sym none)
     (record {
       legal = begins start;
       played = nothing_played_yet start script.sessions;
+      printed = tt;
       rest = all_turns script.sessions script.order;
       in_turn =
           refl;
       under_way = tt;
     })
 
-module _ (script : Script) (k : Kept) (so_far : SoFar k.base k.journal) (base : k.base ≡ start) where
+module _ (script : Script) (k : Kept) (so_far : SoFar k.base k.journal) (base : k.base ≡ start) (typed : AreTyped k.journal) where
   from_start : SoFar start k.journal
   from_start = subst (λ B. SoFar B k.journal) base so_far
+
+  printed_by : IsPlayed start script.sessions (past k) → ArePrinted k.journal
+  printed_by played = printed_journal start script.sessions k.journal typed played.closes so_far.locks played.right
 
   part_of_whole : IsPlayedWhole script k → IsPartPlay start script k.journal
   part_of_whole whole = record {
     legal = from_start;
     played = played_from_start script k whole;
+    printed = printed_by (played_from_start script k whole);
     rest = [];
     in_turn = append-nil (turns_in k.journal) ∙ whole.in_turn;
     under_way = next_at_rest (past k) [] whole.at_rest;
@@ -79,6 +91,7 @@ module _ (script : Script) (k : Kept) (so_far : SoFar k.base k.journal) (base : 
   part_off off = record {
     legal = from_start;
     played = subst (λ B. IsPlayed B script.sessions (past k)) base off.played;
+    printed = printed_by (subst (λ B. IsPlayed B script.sessions (past k)) base off.played);
     rest = off.rest;
     in_turn =
         off.turns;

@@ -2,6 +2,7 @@ pub mod Input
 pub mod Ends
 pub mod Turns
 pub mod Played
+pub mod Typed
 pub mod Playing
 pub mod Wants
 pub mod Tool

@@ -10,6 +10,7 @@ use Rattle.session_core.specs.Closes.{Scripts, calls_of, closed_of, has_left, Cl
 use Rattle.session_core.specs.Legal.{SoFar, Legal}
 use Rattle.session_run.specs.Calls.{TakesNoDevice}
 use Rattle.script_text.specs.declared.scripts.session_calls.Script.{Script}
+use Rattle.script_text.specs.JournalText.{ArePrinted}
 use Rattle.xdb_top.specs.Turns.{LeavesAtOnce, FollowsAtOnce, IsOfNextTurn, IsBehindCall, turns_in, all_turns}
 
 -- each event is for a call of its session, in order, and no device takes part in it; what closes a call comes directly
@@ -41,19 +42,23 @@ start = record { numbers = record { commit = 0; generation = 1 }; forest = no_do
 
 -- A script was played whole: the journal is one legal history of its sessions' calls, which are closed in the order of
 -- their turns. Each answer is a right one, as told by the session's state and by the documents that it sees. No other
--- event comes between the events of one call, nor between a session's last call and its end.
+-- event comes between the events of one call, nor between a session's last call and its end. It is a journal as programs
+-- print them, so its text tells it (`a_text_tells_its_journal`).
 pub record IsWholePlay (B : Base) (script : Script) (journal : List Event) : Type 0 where
   pub legal : Legal journal B script.sessions
   pub in_turn : turns_in journal ≡ all_turns script.sessions script.order
   pub right : AtEach (TakesNoDevice B) (past_of journal)
   pub at_once : AtEach FollowsAtOnce (past_of journal)
   pub leaves : AtEach LeavesAtOnce (past_of journal)
+  pub printed : ArePrinted journal
 
 -- A script was played in part: the journal is legal so far, its events are for the script's calls as above, and the calls
--- that are closed are the first ones in the order of their turns. The last event may be one of the next call, before what closes it.
+-- that are closed are the first ones in the order of their turns. The last event may be one of the next call, before what
+-- closes it. It is a journal as programs print them.
 pub record IsPartPlay (B : Base) (script : Script) (journal : List Event) : Type 0 where
   pub legal : SoFar B journal
   pub played : IsPlayed B script.sessions (past_of journal)
+  pub printed : ArePrinted journal
   pub rest : List ℕ
   pub in_turn : turns_in journal ++ rest ≡ all_turns script.sessions script.order
   pub under_way : IsOfNextTurn (past_of journal) rest

@@ -7,7 +7,8 @@
 //! right one by the session's state and the documents that it sees, or want of memory. No other event comes between
 //! the grant of a call's locks and what closes the call. Where memory was wanting before the end, the journal is of the
 //! first calls in their order; where no call was answered so, a whole journal is a function of the script
-//! (`plays_without_want_are_one`). Nothing is written with a status other than 0, but a prefix with 5.
+//! (`plays_without_want_are_one`). A journal of `play`, whole or in part, is one as programs print them, so that its text
+//! tells it. Nothing is written with a status other than 0, but a prefix with 5.
 #![tactic(auto)]
 
 mod command;
@@ -16,6 +17,7 @@ mod fault;
 mod input;
 mod laws;
 mod play;
+mod typed;
 
 pub use commands::{TopEnd, end_of, tool};
 pub use fault::{INPUT_BYTES_MAX, InputFault, InputRefusal, TopFault};

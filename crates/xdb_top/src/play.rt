@@ -5,6 +5,7 @@ ghost use Rattle.xdb_top.specs.Played.{start, IsPlayed, IsWholePlay, IsPartPlay}
 ghost use Rattle.xdb_top.specs.Playing.{IsSeated, IsPlaying, HasPlayed, HasHadTurn, HasBrokenOff, AreNewSeats, start_kept, IsPlayedWhole};
 ghost use Rattle.xdb_top.specs.Turns.{IsAtRest, one_by_one};
 
+use crate::typed::typed;
 use script_text::{CallTextListList, Script};
 use session_core::{Core, Journal};
 use session_run::Session;
@@ -181,8 +182,7 @@ pub(crate) fn play(alloc: Global, script: &Script) -> Played
         };
     };
     let is_whole = play_on(alloc, &mut core, script).is_ok();
-    Played {
-        journal: core.close(),
-        is_whole,
-    }
+    let journal = core.close();
+    typed(&journal);
+    Played { journal, is_whole }
 }

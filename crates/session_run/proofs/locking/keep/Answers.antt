@@ -23,7 +23,7 @@ pub answer-requires-clause-right : goal.answer-requires-clause-right
 answer-requires-clause-right c =
     update_right c.args.core.now.base c.args.session
     (past c.args.core.now) c.args.changes.now.changes c.requires.tied c.args.call c.args.effect c.requires.updating c.requires.granted c.requires.statement
-    c.requires.effect c.requires.passes
+    c.requires.effect c.requires.passes c.requires.plain
 
 pub returns-in-Some-clause-ready : goal.returns-in-Some-clause-ready
 returns-in-Some-clause-ready c =
@@ -34,18 +34,18 @@ returns-in-Some-clause-ready c =
     ∙ sym (ap (λ o. with_change o old) c.in-Some.is) in
     subst (λ x. IsReady c.args.session x c.answer.new.core) (sym same)
     (ready_behind c.args.session after c.args.core.now c.answer.new.core
-    (answered c.args.session (Some c.args.call) c.args.effect.says) c.in_ok-answer.ensures.ok refl tt c.requires.settled
+    (answered c.args.session (Some c.args.call) c.args.effect.says) c.in_ok-outcome.ensures.ok refl tt c.requires.settled
     (tied_effect c.args.core.now.base c.args.session
     (past c.args.core.now) old c.requires.tied c.args.call c.args.effect c.requires.updating c.requires.granted c.requires.statement c.requires.effect))
 
-pub returns-in_default-clause-ready : goal.returns-in_default-clause-ready
-returns-in_default-clause-ready c =
+pub returns-in-None-clause-ready : goal.returns-in-None-clause-ready
+returns-in-None-clause-ready c =
     let old : ChangeMap = c.args.changes.now.changes in
     let after : ChangeMap = with_change c.args.effect.change old in
-    let same : c.reserve.new.self.changes ≡ after = c.reserve.ensures.same ∙ sym (ap (λ o. with_change o old) c.in_default.is) in
+    let same : c.reserve.new.self.changes ≡ after = c.reserve.ensures.same ∙ sym (ap (λ o. with_change o old) c.in-None.is) in
     subst (λ x. IsReady c.args.session x c.answer.new.core) (sym same)
     (ready_behind c.args.session after c.args.core.now c.answer.new.core
-    (answered c.args.session (Some c.args.call) c.args.effect.says) c.in_ok-answer.ensures.ok refl tt c.requires.settled
+    (answered c.args.session (Some c.args.call) c.args.effect.says) c.in_ok-outcome.ensures.ok refl tt c.requires.settled
     (tied_effect c.args.core.now.base c.args.session
     (past c.args.core.now) old c.requires.tied c.args.call c.args.effect c.requires.updating c.requires.granted c.requires.statement c.requires.effect))
 
@@ -53,12 +53,12 @@ pub returns-in-Some-clause-closed : goal.returns-in-Some-clause-closed
 returns-in-Some-clause-closed c =
     let right = update_right c.args.core.now.base c.args.session
     (past c.args.core.now) c.args.changes.now.changes c.requires.tied c.args.call c.args.effect c.requires.updating c.requires.granted c.requires.statement
-    c.requires.effect c.requires.passes in
-    answer_closes c.args.session c.args.call c.args.effect.says c.args.core.now c.answer.new.core right c.in_ok-answer.ensures.ok
+    c.requires.effect c.requires.passes c.requires.plain in
+    answer_closes c.args.session c.args.call c.args.effect.says c.args.core.now c.answer.new.core right c.in_ok-outcome.ensures.ok
 
-pub returns-in_default-clause-closed : goal.returns-in_default-clause-closed
-returns-in_default-clause-closed c =
+pub returns-in-None-clause-closed : goal.returns-in-None-clause-closed
+returns-in-None-clause-closed c =
     let right = update_right c.args.core.now.base c.args.session
     (past c.args.core.now) c.args.changes.now.changes c.requires.tied c.args.call c.args.effect c.requires.updating c.requires.granted c.requires.statement
-    c.requires.effect c.requires.passes in
-    answer_closes c.args.session c.args.call c.args.effect.says c.args.core.now c.answer.new.core right c.in_ok-answer.ensures.ok
+    c.requires.effect c.requires.passes c.requires.plain in
+    answer_closes c.args.session c.args.call c.args.effect.says c.args.core.now c.answer.new.core right c.in_ok-outcome.ensures.ok

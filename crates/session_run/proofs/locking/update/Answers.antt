@@ -1,5 +1,8 @@
 use Rattle.std.proofs.Common.{Some, refl, subst}
 use Rattle.session_core.specs.Kept.{past, AskEnds}
+use Rattle.session_core.specs.declared.event.Event.TheVariants.{Refused}
+use Rattle.session_run.specs.declared.outcome.Outcome.TheVariants.{LockHeld}
+use Rattle.session_run.proofs.Outcomes.{ends_with}
 use Rattle.session_run.proofs.Closing.{stays}
 use Rattle.session_run.proofs.Calling.{granted_here}
 use Rattle.session_run.proofs.Memory.{lacking}
@@ -27,3 +30,10 @@ returns-in-Err-NoMemory-clause-ready c =
     c.answer_unchanged-in-Err-NoMemory.new.core
     (subst (AskEnds c.args.session c.in-Ok.needed c.args.core.now c.ask.new.self) c.in-Err-NoMemory.field-0-is c.in-Err-NoMemory.ensures.refused)
     c.requires.ready.tied c.answer_unchanged-in-Err-NoMemory.ensures.ready
+
+pub returns-in-Err-Held-clause-outcome : goal.returns-in-Err-Held-clause-outcome
+returns-in-Err-Held-clause-outcome c =
+    rw c.in-Err-Held.field-0-is
+    (ends_with (Refused c.args.session c.in-Err-Held.name c.in-Err-Held.holder c.in-Ok.needed) (LockHeld c.in-Err-Held.name c.in-Err-Held.holder)
+    c.args.core.now c.ask.new.self
+    (subst (AskEnds c.args.session c.in-Ok.needed c.args.core.now c.ask.new.self) c.in-Err-Held.field-0-is c.in-Err-Held.ensures.refused).1 refl)

@@ -18,7 +18,7 @@ answer_unchanged-requires-clause-right c =
           (subst (λ call. refused_in (state c.args.session (past c.args.core.now)) (work_of call) ≡ None) c.in-Checkpoint.is c.requires.passes);
       settled = c.requires.ready.settled;
       says_so = refl;
-    })) refl refl
+    })) refl refl tt
 
 pub returns-in-Begin-clause-ready : goal.returns-in-Begin-clause-ready
 returns-in-Begin-clause-ready c =

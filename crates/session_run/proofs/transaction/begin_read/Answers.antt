@@ -14,8 +14,8 @@ answer_unchanged-requires-clause-right c = lacking c.begin_read.new.self.base c.
 pub returns-in-Ok-clause-ready : goal.returns-in-Ok-clause-ready
 returns-in-Ok-clause-ready c = λ changes tied.
     ready_behind c.args.session changes c.args.core.now c.begin_read.new.self
-    (events.Began c.args.session (kinds.Reading c.in-Ok.field-0)) c.in-Ok.ensures.ok refl tt c.requires.settled
-    (tied_began c.args.core.now.base c.args.session (past c.args.core.now) (kinds.Reading c.in-Ok.field-0) changes c.requires.idle tied)
+    (events.Began c.args.session (kinds.Reading c.in-Ok.number)) c.in-Ok.ensures.ok refl tt c.requires.settled
+    (tied_began c.args.core.now.base c.args.session (past c.args.core.now) (kinds.Reading c.in-Ok.number) changes c.requires.idle tied)
 
 pub returns-in-Err-clause-ready : goal.returns-in-Err-clause-ready
 returns-in-Err-clause-ready c =

@@ -20,7 +20,7 @@ answer_unchanged-requires-clause-right c =
       settled = c.requires.ready.settled;
       none_left = none_left c.args.core.now.base (past c.args.core.now) c.newest.result c.newest.ensures c.if-newest-eq18446744073709551615.true;
       says_so = refl;
-    })) refl refl
+    })) refl refl tt
 
 pub returns-then-newest-eq18446744073709551615-clause-ready : goal.returns-then-newest-eq18446744073709551615-clause-ready
 returns-then-newest-eq18446744073709551615-clause-ready c =

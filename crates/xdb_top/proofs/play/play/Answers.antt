@@ -1,4 +1,5 @@
 use Rattle.std.proofs.Common.{IsTrue, subst}
+use Rattle.xdb_top.specs.Typed.{AreTyped}
 use Rattle.xdb_top.proofs.Whole.{whole_where_ok, nothing_of_it, part_play}
 use Rattle.xdb_top.proofs.play.play.Goals as goal
 
@@ -7,10 +8,12 @@ returns-in_default-clause-part c = nothing_of_it c.args.script.now c.new-in_defa
 
 pub returns-clause-whole : goal.returns-clause-whole
 returns-clause-whole c = λ is.
-    whole_where_ok c.play_on.result c.args.script.now c.play_on.new.core c.close.result c.play_on.ensures.played c.close.ensures.legal c.close.ensures.journal
-    (subst IsTrue c.is_ok-is_whole.ensures.value is)
+    whole_where_ok c.play_on.result c.args.script.now c.play_on.new.core c.close-journal.result c.play_on.ensures.played
+    c.close-journal.ensures.legal c.close-journal.ensures.journal
+    c.typed.ensures (subst IsTrue c.is_ok-is_whole.ensures.value is)
 
 pub returns-clause-part : goal.returns-clause-part
 returns-clause-part c =
-    part_play c.args.script.now c.play_on.new.core c.close.ensures.legal c.play_on.ensures.base c.play_on.result c.close.result c.play_on.ensures.played
-    c.play_on.ensures.off c.close.ensures.journal
+    part_play c.args.script.now c.play_on.new.core c.close-journal.ensures.legal c.play_on.ensures.base
+    (subst AreTyped c.close-journal.ensures.journal c.typed.ensures) c.play_on.result c.close-journal.result c.play_on.ensures.played
+    c.play_on.ensures.off c.close-journal.ensures.journal
