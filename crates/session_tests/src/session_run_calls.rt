@@ -23,13 +23,15 @@ fn no_commit_number_is_left(rt: HostRuntime) -> Result<(), Fail> {
     let begun = session.call_on(&mut core, &text_of(alloc, "BEGIN")?)?;
     assert!(&rt; matches!(begun, Outcome::Began(BeginKind::Updating)));
     let refused = session.call_on(&mut core, &text_of(alloc, "COMMIT")?)?;
-    assert!(&rt; matches!(
-        refused,
-        Outcome::Error(Code::Spent {
-            kind: SpentKind::Commit,
-            number: u64::MAX,
-        }),
-    ));
+    assert!(&rt;
+        matches!(
+            refused,
+            Outcome::Error(Code::Spent {
+                kind: SpentKind::Commit,
+                number: u64::MAX,
+            }),
+        )
+    );
     session.leave_on(&mut core);
     assert_eq!(&rt; session.number(), 3);
     let events = core.close().into_vec();
