@@ -19,7 +19,7 @@ ghost use Rattle.session_run.specs.Tied.{IsTied, IsReady};
 use crate::answering::{answer, answer_unchanged};
 use crate::changes::Change;
 use crate::outcome::Outcome;
-use crate::statement::{Effect, run};
+use crate::statement::{Effect, effect_of};
 use doc_locks::AskEnd;
 use session_core::{Core, Says, State};
 use std::alloc::Global;
@@ -43,7 +43,7 @@ fn read(
     ensures outcome { IfOk result (λ outcome. EndsWith outcome core.new) }
     ensures err { OnErr result (core.new ≡ core.old) }
 {
-    match run(alloc, core.forest(session), changes, &call) {
+    match effect_of(alloc, core.forest(session), changes, &call) {
         Ok(effect) => answer(core, session, Some(call), effect.says),
         Err(_) => answer_unchanged(core, session, call, Says::Error(Code::NoMemory)),
     }
@@ -88,8 +88,8 @@ fn keep(
     }
 }
 
-// Runs a statement whose locks were granted, or that needs none.
-fn run_granted(
+// Closes a statement whose locks were granted, or that needs none, by the documents that it sees.
+fn close_by_documents(
     alloc: Global,
     core: &mut Core,
     session: u32,
@@ -110,7 +110,7 @@ fn run_granted(
     ensures err { OnErr result (core.new ≡ core.old) }
     ensures same { OnErr result (changes.new.changes ≡ changes.old.changes) }
 {
-    match run(alloc, core.forest(session), changes, &call) {
+    match effect_of(alloc, core.forest(session), changes, &call) {
         Ok(effect) => keep(core, session, changes, call, effect),
         Err(_) => answer_unchanged(core, session, call, Says::Error(Code::NoMemory)),
     }
@@ -139,10 +139,10 @@ fn update(
         return answer_unchanged(core, session, call, Says::Error(Code::NoMemory));
     };
     if needed.is_empty() {
-        return run_granted(alloc, core, session, changes, call);
+        return close_by_documents(alloc, core, session, changes, call);
     }
     match core.ask(session, &needed) {
-        Ok(()) => run_granted(alloc, core, session, changes, call),
+        Ok(()) => close_by_documents(alloc, core, session, changes, call),
         Err(AskEnd::Held { name, holder }) => Ok(Outcome::LockHeld(name, holder)),
         Err(AskEnd::NoMemory) => {
             answer_unchanged(core, session, call, Says::Error(Code::NoMemory))
@@ -150,8 +150,8 @@ fn update(
     }
 }
 
-/// Runs a statement that the state lets pass.
-pub(crate) fn run_statement(
+/// Closes a statement that the state lets pass, by the kind of its transaction.
+pub(crate) fn close_by_transaction(
     alloc: Global,
     core: &mut Core,
     session: u32,

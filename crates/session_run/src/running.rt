@@ -10,7 +10,7 @@ ghost use Rattle.session_run.specs.Outcomes.{EndsWith};
 ghost use Rattle.session_run.specs.Tied.{IsReady};
 
 use crate::answering::{answer, answer_unchanged};
-use crate::locking::run_statement;
+use crate::locking::close_by_transaction;
 use crate::outcome::Outcome;
 use crate::table::refusal;
 use crate::transaction::{begin, begin_read, finish};
@@ -20,8 +20,8 @@ use xml_model::DocChanges;
 use xq_ast::{Call, CallText, NoMemory};
 use xq_parse::parse_call;
 
-// Runs a call that the state lets pass.
-fn run_passed(
+// Closes a call that the state lets pass, by what it begins, ends or runs.
+fn close_by_kind(
     alloc: Global,
     core: &mut Core,
     session: u32,
@@ -48,12 +48,12 @@ fn run_passed(
             Ok(Outcome::RolledBack)
         }
         Call::Checkpoint => answer_unchanged(core, session, Call::Checkpoint, Says::Done),
-        statement => run_statement(alloc, core, session, changes, statement),
+        statement => close_by_transaction(alloc, core, session, changes, statement),
     }
 }
 
-/// Runs a call by the session's state.
-pub(crate) fn run_call(
+/// Closes a call by the session's state, which refuses it or lets it pass.
+pub(crate) fn close_by_state(
     alloc: Global,
     core: &mut Core,
     session: u32,
@@ -72,11 +72,11 @@ pub(crate) fn run_call(
     if let Some(code) = refusal(core.state(session), &call) {
         return answer_unchanged(core, session, call, Says::Error(code));
     }
-    run_passed(alloc, core, session, changes, call)
+    close_by_kind(alloc, core, session, changes, call)
 }
 
-/// Reads a call's text and runs the call.
-pub(crate) fn run_text(
+/// Closes a call by its text, which is a call or is refused.
+pub(crate) fn close_by_text(
     alloc: Global,
     core: &mut Core,
     session: u32,
@@ -92,7 +92,7 @@ pub(crate) fn run_text(
 {
     core.legal();
     match parse_call(alloc, text) {
-        Ok(call) => run_call(alloc, core, session, changes, call),
+        Ok(call) => close_by_state(alloc, core, session, changes, call),
         Err(end) => answer(core, session, None, Says::Error(end.code())),
     }
 }

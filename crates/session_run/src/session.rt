@@ -9,7 +9,7 @@ ghost use Rattle.session_run.specs.Outcomes.{EndsWith};
 ghost use Rattle.session_run.specs.Tied.{IsReady};
 
 use crate::outcome::Outcome;
-use crate::running::run_text;
+use crate::running::close_by_text;
 use session_core::{Core, State};
 use std::alloc::Global;
 use std::marker::Model;
@@ -67,7 +67,7 @@ impl Session {
         ensures err { OnErr result (IsUnclosed self.old.number call.now core.old core.new) }
         ensures same { OnErr result (self.new ≡ self.old) }
     {
-        let called = run_text(self.alloc, core, self.number, &mut self.changes, call);
+        let called = close_by_text(self.alloc, core, self.number, &mut self.changes, call);
         core.legal();
         called
     }

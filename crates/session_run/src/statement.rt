@@ -206,7 +206,7 @@ fn show(alloc: Global, base: &DocMap, changes: &DocChanges) -> Result<Effect, No
 
 /// What the call says over these documents with the changes laid over them, and what it changes.
 /// A call that is no statement is done and changes nothing.
-pub(crate) fn run(
+pub(crate) fn effect_of(
     alloc: Global,
     base: &DocMap,
     changes: &DocChanges,

@@ -16,8 +16,8 @@ returns-in_default-clause-ready c =
     stays c.answer_unchanged.result c.args.session c.args.changes.now.changes c.args.core.now c.args.core.now c.answer_unchanged.new.core refl
     c.requires.ready.tied c.answer_unchanged.ensures.ready
 
-pub run_granted-requires-in-Ok-ask-clause-tied : goal.run_granted-requires-in-Ok-ask-clause-tied
-run_granted-requires-in-Ok-ask-clause-tied c =
+pub close_by_documents-requires-in-Ok-ask-clause-tied : goal.close_by_documents-requires-in-Ok-ask-clause-tied
+close_by_documents-requires-in-Ok-ask-clause-tied c =
     (granted_here c.args.session c.args.changes.now.changes c.args.call c.args.core.now c.requires.ready c.requires.updating c.ask.new.self c.in-Ok.needed
     c.in-Ok.ensures c.in-Ok-ask.ensures.granted).tied
 

@@ -3,7 +3,7 @@ use Rattle.session_core.specs.Kept.{past}
 use Rattle.session_core.specs.Refusals.{refused_in, work_of}
 use Rattle.session_run.proofs.Memory.{refused_right}
 use Rattle.session_run.proofs.Closing.{stays}
-use Rattle.session_run.proofs.running.run_call.Goals as goal
+use Rattle.session_run.proofs.running.close_by_state.Goals as goal
 
 pub answer_unchanged-requires-clause-right : goal.answer_unchanged-requires-clause-right
 answer_unchanged-requires-clause-right c =

@@ -2,7 +2,7 @@ use Rattle.std.proofs.Common.{Some, refl}
 use Rattle.session_run.proofs.Closing.{stays}
 use Rattle.session_core.specs.Kept.{past}
 use Rattle.session_run.proofs.Memory.{lacking}
-use Rattle.session_run.proofs.locking.run_granted.Goals as goal
+use Rattle.session_run.proofs.locking.close_by_documents.Goals as goal
 
 pub answer_unchanged-requires-clause-right : goal.answer_unchanged-requires-clause-right
 answer_unchanged-requires-clause-right c = lacking c.args.core.now.base c.args.session (past c.args.core.now) (Some _)

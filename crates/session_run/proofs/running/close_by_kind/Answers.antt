@@ -8,7 +8,7 @@ use Rattle.session_core.specs.Refusals.{refused_in, work_of}
 use Rattle.session_run.proofs.Memory.{unrun_here}
 use Rattle.session_run.proofs.Closing.{stays}
 use Rattle.session_run.proofs.Calling.{checkpoints_idle}
-use Rattle.session_run.proofs.running.run_passed.Goals as goal
+use Rattle.session_run.proofs.running.close_by_kind.Goals as goal
 
 pub answer_unchanged-requires-clause-right : goal.answer_unchanged-requires-clause-right
 answer_unchanged-requires-clause-right c =

@@ -6,13 +6,13 @@ use Rattle.session_core.proofs.Beside.{none_in_doubt}
 use Rattle.session_run.specs.Answers.{answered}
 use Rattle.session_run.proofs.Closing.{on_ok, ready_unrun}
 use Rattle.session_run.proofs.Texts.{good_names, called_read, called_end, right_end}
-use Rattle.session_run.proofs.running.run_text.Goals as goal
+use Rattle.session_run.proofs.running.close_by_text.Goals as goal
 
-pub run_call-requires-clause-certain : goal.run_call-requires-clause-certain
-run_call-requires-clause-certain c = none_in_doubt c.args.core.now.base (past c.args.core.now) c.legal.ensures.settling c.requires.ready.settled c.args.session
+pub close_by_state-requires-clause-certain : goal.close_by_state-requires-clause-certain
+close_by_state-requires-clause-certain c = none_in_doubt c.args.core.now.base (past c.args.core.now) c.legal.ensures.settling c.requires.ready.settled c.args.session
 
-pub run_call-requires-clause-named : goal.run_call-requires-clause-named
-run_call-requires-clause-named c = good_names c.args.text.now c.in-Ok.call c.in-Ok.ensures.found
+pub close_by_state-requires-clause-named : goal.close_by_state-requires-clause-named
+close_by_state-requires-clause-named c = good_names c.args.text.now c.in-Ok.call c.in-Ok.ensures.found
 
 pub answer-requires-clause-right : goal.answer-requires-clause-right
 answer-requires-clause-right c =
@@ -22,8 +22,8 @@ answer-requires-clause-right c =
 
 pub returns-in-Ok-clause-closed : goal.returns-in-Ok-clause-closed
 returns-in-Ok-clause-closed c =
-    on_ok c.run_call.result (called_read c.args.session c.args.text.now c.in-Ok.call c.in-Ok.ensures.found c.args.core.now c.run_call.new.core)
-    c.run_call.ensures.closed
+    on_ok c.close_by_state.result (called_read c.args.session c.args.text.now c.in-Ok.call c.in-Ok.ensures.found c.args.core.now c.close_by_state.new.core)
+    c.close_by_state.ensures.closed
 
 pub returns-in-Err-clause-closed : goal.returns-in-Err-clause-closed
 returns-in-Err-clause-closed c =
