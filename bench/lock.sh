@@ -81,10 +81,10 @@ fn main(rt: HostRuntime) -> io::Result<()> {
         let each = SECTIONS / (threads as u32).max(1);
         let start = Instant::now(&rt)?;
         let made = under_history(&rt, alloc, threads, each);
-        let history = a_second(made, start.elapsed(&rt)?.as_micros() as u64);
+        let history = a_second(made, u64::try_from(start.elapsed(&rt)?.as_micros()).unwrap_or(u64::MAX));
         let start = Instant::now(&rt)?;
         let made = under_mutex(&rt, alloc, threads, each);
-        let mutex = a_second(made, start.elapsed(&rt)?.as_micros() as u64);
+        let mutex = a_second(made, u64::try_from(start.elapsed(&rt)?.as_micros()).unwrap_or(u64::MAX));
         println!(rt; "threads {threads}: history lock {history} sections a second, Mutex {mutex}")?;
     }
     Ok(())

@@ -1,5 +1,6 @@
 //! Sessions over documents in memory, with the journal of what happened.
 ghost use Rattle.std.specs.Prelude.{◌≡◌, ℕ, ◌+◌, ◌-◌, ◌<◌, List, [], ◌∷◌, ◌++◌, length, min, if◌then◌else◌, Some, None, IsTrue, IfOk, IfErr, OnOk, OnErr, slice_get, vec_capacity, ◌^◌};
+ghost use Rattle.std.specs.Option.{option_copied};
 ghost use Rattle.xml_model.specs.Needs.{needs as needs_of};
 ghost use Rattle.xq_ast.specs.declared.call.Call.{Call};
 ghost use Rattle.session_core.specs.States.{state as state_of, is_open, is_reading, in_doubt};
@@ -116,6 +117,14 @@ impl Core {
         ensures { result ≡ newest_number self.now.base.numbers (past self.now) }
     {
         self.newest
+    }
+
+    /// The newest event, if there is one: what a call was answered, with the lines of an answer. Takes
+    /// no memory.
+    pub fn last(&self) -> Option<&Event>
+        ensures { option_copied result ≡ slice_get self.now.journal (length self.now.journal - 1) }
+    {
+        self.journal.last()
     }
 
     /// Begins an updating transaction.

@@ -56,7 +56,8 @@ impl Session {
     }
 
     /// Makes one call, whose events are added to the journal, and answers what its closing event
-    /// says. `NoMemory` says that the call is not closed.
+    /// says; the lines of an answer stand in that event, which `Core::last` lends. `NoMemory` says
+    /// that the call is not closed.
     pub fn call_on(&mut self, core: &mut Core, call: &CallText) -> Result<Outcome, NoMemory>
         requires { IsReady self.old.number self.old.changes core.old }
         ensures ok { OnOk result (IsCalled self.old.number call.now core.old core.new) }

@@ -33,6 +33,7 @@ fn no_commit_number_is_left(rt: HostRuntime) -> Result<(), Fail> {
         )
     );
     session.leave_on(&mut core);
+    assert!(&rt; matches!(core.last(), Some(Event::Left(3))));
     assert_eq!(&rt; session.number(), 3);
     let events = core.close().into_vec();
     assert_eq!(&rt; events.len(), 3);

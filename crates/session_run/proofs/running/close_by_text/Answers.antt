@@ -9,7 +9,8 @@ use Rattle.session_run.proofs.Texts.{good_names, called_read, called_end, right_
 use Rattle.session_run.proofs.running.close_by_text.Goals as goal
 
 pub close_by_state-requires-clause-certain : goal.close_by_state-requires-clause-certain
-close_by_state-requires-clause-certain c = none_in_doubt c.args.core.now.base (past c.args.core.now) c.legal.ensures.settling c.requires.ready.settled c.args.session
+close_by_state-requires-clause-certain c =
+    none_in_doubt c.args.core.now.base (past c.args.core.now) c.legal.ensures.settling c.requires.ready.settled c.args.session
 
 pub close_by_state-requires-clause-named : goal.close_by_state-requires-clause-named
 close_by_state-requires-clause-named c = good_names c.args.text.now c.in-Ok.call c.in-Ok.ensures.found
