@@ -1,35 +1,10 @@
-//! What the program's own runs do not show: sources and sinks that fail, the journal beside the
-//! status, and inputs at their limits.
-ghost use Rattle.std.specs.Prelude.{None};
-
-use byte_edge::{Failed, MemSink, MemSource, Source};
-use script_text::{CALLS_MAX, ScriptRefusal};
+//! What the program's own runs do not show: sources and sinks that fail, and the journal beside the
+//! status.
+use byte_edge::{MemSink, MemSource};
 use std::alloc::Global;
 use std::process::Abort;
 use std::test::Fail;
-use xdb_top::{INPUT_BYTES_MAX, InputRefusal, TopEnd, TopFault, tool};
-use xq_ast::PyxRefusal;
-
-/// A source that makes bytes, all of one kind.
-#[derive(Drop)]
-struct Maker {
-    left: usize,
-}
-
-impl Source for Maker {
-    ghost use Rattle.std.specs.Prelude.{None};
-
-    ghost rest = { λ _. None };
-
-    ghost faults = { λ _. 0 };
-
-    fn take(&mut self, into: &mut [u8]) -> Result<usize, Failed> {
-        let count = self.left.min(into.len());
-        into[..count].fill(b'x');
-        self.left -= count;
-        Ok(count)
-    }
-}
+use xdb_top::{TopFault, tool};
 
 fn words_of(alloc: Global, words: &[&str]) -> Result<Vec<String>, Fail> {
     let mut all = Vec::new(alloc);
@@ -92,20 +67,7 @@ const NOTHING: Case<'static> = Case {
 };
 
 #[test]
-fn faulty_sources_sinks_and_command_lines(rt: HostRuntime) -> Result<(), Fail> {
-    let words: [&[&str]; 5] = [&[], &["PYX"], &["pyx", "pyx"], &["pyxx"], &["play", "1"]];
-    for words in words {
-        let fault = Some(TopFault::BadWords);
-        check_case(
-            &rt,
-            rt.alloc(),
-            Case {
-                words,
-                fault,
-                ..NOTHING
-            },
-        )?;
-    }
+fn faulty_sources_and_sinks(rt: HostRuntime) -> Result<(), Fail> {
     let rows = [
         PLAYED,
         WRITTEN,
@@ -136,56 +98,5 @@ fn faulty_sources_sinks_and_command_lines(rt: HostRuntime) -> Result<(), Fail> {
     for case in rows {
         check_case(&rt, rt.alloc(), case)?;
     }
-    Ok(())
-}
-
-fn refused(line: u64, why: InputRefusal) -> TopFault {
-    TopFault::BadInput { line, why }
-}
-
-#[test]
-fn input_at_its_limit(rt: HostRuntime) -> Result<(), Fail> {
-    let bad_line = refused(1, InputRefusal::Pyx(PyxRefusal::BadLine));
-    let bad_script = refused(1, InputRefusal::Script(ScriptRefusal::BadScript));
-    let rows = [
-        ("pyx", INPUT_BYTES_MAX, bad_line),
-        ("pyx", INPUT_BYTES_MAX + 1, TopFault::TooLarge),
-        ("play", INPUT_BYTES_MAX, bad_script),
-        ("play", INPUT_BYTES_MAX + 1, TopFault::TooLarge),
-    ];
-    for (word, left, want) in rows {
-        let words = words_of(rt.alloc(), &[word])?;
-        let mut sink = MemSink::of(rt.alloc(), Vec::new(rt.alloc()));
-        let end = tool(rt.alloc(), &words, &mut Maker { left }, &mut sink);
-        assert_eq!(rt; end.fault, Some(want), "{word} at {left}");
-        assert_eq!(rt; sink.bytes().len(), 0);
-    }
-    Ok(())
-}
-
-/// A script of one session whose calls are all COMMIT outside of a transaction: how it ends, and how
-/// many bytes are written.
-fn calls_played(alloc: Global, count: u64) -> Result<(TopEnd, usize), Fail> {
-    let words = words_of(alloc, &["play"])?;
-    let mut script = b"SESSION\n".to_vec(alloc)?;
-    for _call in 0..count {
-        script.extend_from_slice(b"COMMIT\n")?;
-    }
-    let mut source = MemSource::of(script, Vec::new(alloc));
-    let mut sink = MemSink::of(alloc, Vec::new(alloc));
-    let end = tool(alloc, &words, &mut source, &mut sink);
-    Ok((end, sink.bytes().len()))
-}
-
-#[test]
-fn calls_at_their_limit(rt: HostRuntime) -> Result<(), Fail> {
-    // Each line is "1 error NoTransaction" with its newline.
-    let (end, written) = calls_played(rt.alloc(), CALLS_MAX)?;
-    assert_eq!(&rt; end.fault, None);
-    assert_eq!(&rt; written, 1_048_576 * 22);
-    let (end, written) = calls_played(rt.alloc(), CALLS_MAX + 1)?;
-    let why = InputRefusal::Script(ScriptRefusal::TooManyCalls);
-    assert_eq!(&rt; end.fault, Some(refused(1_048_578, why)));
-    assert_eq!(&rt; written, 0);
     Ok(())
 }
