@@ -1,4 +1,4 @@
--- What is spelled is read again, whatever stands behind it.
+-- What is spelled is read again, whatever stands after it.
 use Rattle.std.proofs.Common.{◌≡◌, ℕ, suc, ◌+◌, ◌-◌, ◌^◌, ◌<◌, Bool, true, false, cond, ltb, List, [], ◌∷◌, ◌++◌, length, take, drop, Option, Some, None, Result, Ok, Err, refl, sym, ap, subst, ◌∙◌, append_assoc, arith}
 use Rattle.std.specs.Prelude.{nat_lt, ◌==◌, ◌&&◌, ◌||◌, is_some, IsTrue}
 use Rattle.std.specs.FinMap as map
@@ -76,7 +76,7 @@ module _ (commit : ℕ) (s : Store) (name : List ℕ) where
       ∙ ap (λ (b : Bool). Ok (record { space = e.space; clustered = b }, rest)) (form_back e.clustered)))))
 
   module _ (before : List LogName) where
-    -- a name behind its kind and its length
+    -- a name after its kind and its length
     behind_kind : (sets : Bool) (entry : Option DocEntry) (text rest : List ℕ) → IsTrue (is_name name) → IsTrue (is_next_name (last_in before) sets name)
         → (sets || is_some (entry_of name s.names)) ≡ true
         → entry_if sets commit s name text ≡ Ok (entry, rest)
@@ -238,7 +238,7 @@ record_again s c gate rest t =
     (names_are_housed (with_images no_image c.pages pages) c.names (length r1 - 16) t.names_housed)
     ∙ pages_are_housed c.pages (length r1 - 24 - names_length c.names) t.pages_housed)))))
 
--- behind a record stands a gate
+-- after a record stands a gate
 gate_behind : (cs : List Change) (end : List ℕ) → IsClosed end → (gate : ℕ) × (rest : List ℕ) × (flat_map record_of cs ++ end ≡ gate ∷ rest)
 gate_behind [] [] shut = absurd shut
 gate_behind [] (gate ∷ rest) shut = (gate, rest, refl)

@@ -14,7 +14,7 @@ joined : Result (ℕ × List ℕ) ℕ → List ℕ
 joined (Ok x) = x.0 ∷ x.1
 joined (Err n) = []
 
--- a byte that was read stands before what is behind it
+-- a byte that was read stands before what is after it
 pub byte_is : (bytes : List ℕ) (b : ℕ) (rest : List ℕ) → byte_at bytes ≡ Ok (b, rest) → bytes ≡ b ∷ rest
 unfolding joined
 byte_is [] b rest e = absurd (cc)

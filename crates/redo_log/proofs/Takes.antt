@@ -426,7 +426,7 @@ module _ (s : Store) (bytes : List ℕ) where
       (subst (λ (z : List LogName × List PageChange). Takes bytes (body_of (record { commit = commit.0.0; names = z.0; pages = z.1 })) pages.0.1)
       (λ k. (sym t2.1 k, sym t4.1 k)) counted)
 
--- what is read is spelled so, and a gate stands behind it
+-- what is read is spelled so, and a gate stands after it
 module _ (s : Store) (bytes : List ℕ) where
   -- a record once its length is right: each document has its page 0
   abbrev pub record_1 : ℕ × List ℕ → Change × List ℕ → Result (Change × List ℕ) ℕ
