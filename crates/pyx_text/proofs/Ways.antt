@@ -41,7 +41,6 @@ Leads-more slots name (suc steps) depth place found last at h more =
 abbrev pub Keeps : List ℕ → List ℕ → ℕ → Type 0
 Keeps slots new n = (j p : ℕ) → p * 4 ≤ j → j < p * 4 + 4 → p < get_or slots j 0 → get_or slots j 0 < n → get_or new j 0 ≡ get_or slots j 0
 
--- new slots that keep what the old ones lead on by lead a name by the same steps to the same place
 pub Leads-kept : (slots new name : List ℕ) (n : ℕ) → Keeps slots new n → (steps depth place found : ℕ) → found < n
     → Leads slots name steps depth place found → Leads new name steps depth place found
 Leads-kept slots new name n keeps zero depth place found lt h = h
@@ -126,7 +125,6 @@ Tied-more attrs a slots new long keeps t l = record {
   ];
 }
 
--- the four slots of a new place, which lead nowhere
 abbrev pub four : List ℕ
 four = 0 ∷ 0 ∷ 0 ∷ 0 ∷ []
 
@@ -189,7 +187,6 @@ steps_on attrs slots name depth place zero found within named leads other = absu
 steps_on attrs slots name depth place (suc steps) found within named leads other =
     record { steps = steps; found = found; within = within; named = named; leads = leads.1 }
 
--- such a name is led to its attribute from the next place of its way, one step deeper
 pub led_on : (attrs : List Attr) (slots name : List ℕ) (depth place : ℕ) → IsLed attrs slots name depth place → (name_at attrs place ≡ name → ⊥)
     → IsLed attrs slots name (depth + 1) (next_of slots name depth place)
 led_on attrs slots name depth place l other = steps_on attrs slots name depth place l.steps l.found l.within l.named l.leads other
@@ -202,7 +199,6 @@ steps_within attrs slots name depth place (suc steps) found within named leads o
     let le : next_of slots name depth place ≤ found = Leads-le slots name steps (depth + 1) (next_of slots name depth place) found leads.1 in
     (leads.0, omega (arith, le, within))
 
--- a name that is not at this place is led on to a later place, within the list
 pub led_within : (attrs : List Attr) (slots name : List ℕ) (depth place : ℕ) → IsLed attrs slots name depth place → (name_at attrs place ≡ name → ⊥)
     → (place < next_of slots name depth place) × (next_of slots name depth place < length attrs)
 led_within attrs slots name depth place l other = steps_within attrs slots name depth place l.steps l.found l.within l.named l.leads other

@@ -3,7 +3,6 @@ use Rattle.xml_model.specs.Trees.{has_attribute}
 use Rattle.pyx_text.specs.Ways.{Leads, IsLed}
 use Rattle.pyx_text.proofs.places.free_slot.Given as goal
 
--- so many steps led the name to this place, and if an attribute has it, they lead on to one
 abbrev pub invariant-loop-place : goal.invariant-loop-place
 invariant-loop-place l = record {
   inside : 0 < length l.attrs → l.place < length l.attrs;
@@ -12,6 +11,5 @@ invariant-loop-place l = record {
   onward : has_attribute l.name l.attrs ≡ true → ∥ IsLed l.attrs l.slots l.name l.depth l.place ∥₁;
 }
 
--- how many places are left
 abbrev pub decreases-loop-place : goal.decreases-loop-place
 decreases-loop-place l = length l.attrs - l.place
