@@ -1,16 +1,19 @@
 #!/usr/bin/env bash
 # Times `xdb . pyx` over documents of 64 MiB less one byte, with its peak memory, beside `cat` and, where it is
-# installed, `xmlstarlet pyx` over the same tree as XML. Run at the top of the repository.
+# installed, `xmlstarlet pyx` over the same tree as XML; and over one element of four million attributes, with its names
+# in order and shuffled. Run at the top of the repository.
 set -eu
 cd "$(dirname "$0")/.."
 folder=$(mktemp -d)
 trap 'rm -rf "$folder"' EXIT
 
 python3 - "$folder" <<'PY'
+import random
 import sys
 from xml.sax.saxutils import escape, quoteattr
 
 SIZE = 64 * 1024 * 1024 - 1
+ATTRIBUTES = 4_000_000
 folder = sys.argv[1]
 
 
@@ -42,8 +45,18 @@ def fill(pyx, xml, line, tree):
         out.write("<root>" + tree * count + text + "</root>")
 
 
+def attributes(pyx, numbers):
+    """One element with an attribute of each of these numbers."""
+    with open(pyx, "w") as out:
+        out.write("(a\n" + "".join("Ax%d v\n" % number for number in numbers) + ")a\n")
+
+
 nested(folder + "/nested.pyx", folder + "/nested.xml")
 mixed(folder + "/mixed.pyx", folder + "/mixed.xml")
+numbers = list(range(ATTRIBUTES))
+attributes(folder + "/in_order.pyx", numbers)
+random.Random(1).shuffle(numbers)
+attributes(folder + "/shuffled.pyx", numbers)
 PY
 
 ./xdb . pyx </dev/null   # builds the program where that is needed
@@ -61,12 +74,12 @@ print("%-40s %6.2f s  %7.0f MiB  status %d" % (" ".join(words)[-40:], took, peak
 PY
 }
 
-for name in nested mixed; do
+for name in nested mixed in_order shuffled; do
     bytes=$(wc -c <"$folder/$name.pyx")
     echo "$name: $bytes bytes"
     measure "$folder/$name.pyx" cat
     measure "$folder/$name.pyx" ./crates/xdb/out/xdb . pyx
-    if command -v xmlstarlet >/dev/null 2>&1; then
+    if [ -f "$folder/$name.xml" ] && command -v xmlstarlet >/dev/null 2>&1; then
         measure "$folder/$name.xml" xmlstarlet pyx
     fi
 done

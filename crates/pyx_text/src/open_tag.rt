@@ -4,14 +4,14 @@ ghost use Rattle.xml_model.specs.Trees.{has_attribute};
 ghost use Rattle.pyx_text.specs.Ways.{Tied};
 
 use crate::fault::PyxFault;
-use crate::places::{add_place, free_slot};
+use crate::places::Places;
 use crate::room::push_in_room;
 use std::alloc::Global;
 use xml_model::{Attr, Node, has_attribute};
 use xq_ast::Str;
 
-// The attributes that are looked through one by one. All others are found by the bits of their names,
-// so that many attributes of one element take no time that grows with their square.
+// The attributes that are looked through one by one. All others are found by their names' places, so that many
+// attributes of one element take no time that grows with their square.
 const FEW: usize = 16;
 
 /// An element that is open, with its attributes so far and the nodes before it in its list.
@@ -20,8 +20,8 @@ pub(crate) struct OpenTag {
     pub(crate) name: Str,
     pub(crate) attrs: Vec<Attr>,
     pub(crate) before: Vec<Node>,
-    slots: Vec<u32>,
-    ghost tied: { Tied (drop 16 attrs.items) slots.items },
+    places: Places,
+    ghost tied: { Tied (drop 16 attrs.items) places.heads places.cells.items },
 }
 
 impl OpenTag {
@@ -35,7 +35,7 @@ impl OpenTag {
             name,
             attrs: Vec::new(alloc),
             before,
-            slots: Vec::new(alloc),
+            places: Places::new(alloc),
         }
     }
 
@@ -46,8 +46,7 @@ impl OpenTag {
         if self.attrs.len() <= FEW {
             return has_attribute(&self.attrs, name);
         }
-        has_attribute(&self.attrs[..FEW], name)
-            || free_slot(&self.attrs[FEW..], &self.slots, name).is_none()
+        has_attribute(&self.attrs[..FEW], name) || self.places.has(&self.attrs[FEW..], name)
     }
 
     /// Adds an attribute. After an error nothing has changed.
@@ -63,7 +62,8 @@ impl OpenTag {
             push_in_room(&mut self.attrs, attr);
             return Ok(());
         }
-        add_place(&self.attrs[FEW..], &mut self.slots, attr.name.as_str())?;
+        self.places
+            .add(alloc, &self.attrs[FEW..], attr.name.as_str())?;
         push_in_room(&mut self.attrs, attr);
         Ok(())
     }

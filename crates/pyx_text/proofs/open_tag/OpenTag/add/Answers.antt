@@ -7,7 +7,7 @@ use Rattle.pyx_text.proofs.open_tag.OpenTag.add.Goals as goal
 
 pub invariant_of-self-then-len-lt-FEW : goal.invariant_of-self-then-len-lt-FEW
 invariant_of-self-then-len-lt-FEW c = record {
-  tied = subst (λ (l : List Attr). Tied l c.args.self.now.slots.items)
+  tied = subst (λ (l : List Attr). Tied l c.args.self.now.places.heads c.args.self.now.places.cells.items)
       (sym (ap (drop 16) (c.push_in_room.ensures.items ∙ ap (λ l. l ++ c.args.attr ∷ []) c.in_ok-reserve.ensures.items)
       ∙ few_more 16 c.args.self.now.attrs.items c.args.attr (omega (arith, c.if-len-lt-FEW.true, c.len.ensures, ap length c.in_ok-reserve.ensures.items))))
       c.args.self.now.tied;
@@ -15,10 +15,10 @@ invariant_of-self-then-len-lt-FEW c = record {
 
 pub invariant_of-self-2 : goal.invariant_of-self-2
 invariant_of-self-2 c = record {
-  tied = subst (λ (l : List Attr). Tied l c.add_place.new.slots.items)
+  tied = subst (λ (l : List Attr). Tied l c.add.new.self.heads c.add.new.self.cells.items)
       (ap (λ l. l ++ c.args.attr ∷ []) (to_end 16 c.deref.result.now ∙ ap (drop 16) (c.deref.ensures.value ∙ c.in_ok-reserve.ensures.items))
       ∙ sym (ap (drop 16) (c.push_in_room-2.ensures.items ∙ ap (λ l. l ++ c.args.attr ∷ []) c.in_ok-reserve.ensures.items)
       ∙ drop-append-le 16 c.args.self.now.attrs.items (c.args.attr ∷ [])
       (omega (arith, c.if-len-lt-FEW.false, c.len.ensures, ap length c.in_ok-reserve.ensures.items))))
-      (c.in_ok-add_place.ensures.ok c.args.attr (sym c.as_str.ensures));
+      (c.in_ok-add.ensures.ok c.args.attr (sym c.as_str.ensures));
 }
