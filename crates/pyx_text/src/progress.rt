@@ -1,6 +1,7 @@
 //! What has been read so far.
 ghost use Rattle.std.specs.Prelude.{◌≡◌, ◌≤◌};
 ghost use Rattle.xml_model.specs.Pyx as spec;
+ghost use Rattle.xml_model.specs.declared.limits.TheConstants.{NODES_MAX, TEXT_BYTES_MAX};
 
 use crate::edits::{add_attribute, add_characters, closes_innermost, has_already, texts_added};
 use crate::fault::PyxFault;
@@ -21,8 +22,8 @@ pub(crate) struct Progress {
     nodes: u64,
     bytes: u64,
     lines: u64,
-    ghost few_nodes: { nodes ≤ 4194304 },
-    ghost few_bytes: { bytes ≤ 268435456 },
+    ghost few_nodes: { nodes ≤ NODES_MAX },
+    ghost few_bytes: { bytes ≤ TEXT_BYTES_MAX },
 }
 
 impl Progress {
