@@ -81,9 +81,11 @@ broke_waiting bytes a b all front later rose = record {
 pub sends_as : {T E : Type 0} (r : Result T E) (a b : Stage) (bytes more : List ℕ) → bytes ≡ more → Sends r bytes a b → Sends r more a b
 sends_as r a b bytes more same s = let P : List ℕ → Type 0 = λ l. Sends r l a b in subst P same s
 
+-- a failure while some bytes were sent is one while any equal bytes were sent
 pub broke_as : {a b : Stage} (bytes more : List ℕ) → bytes ≡ more → Broke bytes a b → Broke more a b
 broke_as {a} {b} bytes more same s = let P : List ℕ → Type 0 = λ l. Broke l a b in subst P same s
 
+-- where some bytes were sent, any equal bytes were sent
 pub sent_as : {a b : Stage} (bytes more : List ℕ) → bytes ≡ more → Sent bytes a b → Sent more a b
 sent_as {a} {b} bytes more same s = let P : List ℕ → Type 0 = λ l. Sent l a b in subst P same s
 
@@ -102,10 +104,12 @@ module _ {A : Type 0} (f : List A → List ℕ) (g : A → List ℕ) (together :
   one_more : (xs : List A) (i : ℕ) (d : A) → i < length xs → f (take (i + 1) xs) ≡ f (take i xs) ++ g (get_or xs i d)
   one_more xs i d within = ap f (take_more xs i d within) ∙ (together (take i xs) (get_or xs i d ∷ []) ∙ ap (λ l. f (take i xs) ++ l) (alone (get_or xs i d)))
 
+  -- the first i items were sent, and then the item at place i: so the first i + 1 were
   pub sent_next : {a b c : Stage} (xs : List A) (i : ℕ) (d x : A) → i < length xs → x ≡ get_or xs i d → Sent (f (take i xs)) a b → Sent (g x) b c
       → Sent (f (take (i + 1) xs)) a c
   sent_next xs i d x within at s t = sent_as _ _ (ap (λ y. f (take i xs) ++ g y) at ∙ sym (one_more xs i d within)) (sent_then s t)
 
+  -- the first i items were sent, and the sending of the item at place i failed: so that of all the items failed
   pub broke_next : {a b c : Stage} (xs : List A) (i : ℕ) (d x : A) → i < length xs → x ≡ get_or xs i d → Sent (f (take i xs)) a b → Broke (g x) b c
       → Broke (f xs) a c
   broke_next xs i d x within at s t =

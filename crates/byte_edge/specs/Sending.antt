@@ -12,7 +12,7 @@ pub record Stage : Type 0 where
 abbrev pub stage : Option (List ℕ) → ℕ → List ℕ → Stage
 stage written faults waiting = record { written = written; faults = faults; waiting = waiting }
 
--- the bytes went behind those that waited: the first of both were written, and the others wait
+-- the bytes went after those that waited: the first of both were written, and the others wait
 pub record Sent (bytes : List ℕ) (old new : Stage) : Type 0 where
   pub put : List ℕ
   pub written : new.written ≡ append_known old.written put

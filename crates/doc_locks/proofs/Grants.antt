@@ -44,6 +44,7 @@ drop-at xs i x is =
     drop-cons xs i x within ∙ (λ j. get_or_from_slice_get xs i x x is j ∷ drop (sym (add-one i) j) xs)
 
 module _ (es : List (ℕ × Names)) (session : ℕ) (need : Need) where
+  -- this session holds a lock of another's that is in conflict with the need
   abbrev pub blocked : ℕ → Bool
   blocked = is_blocked_by (map_of es) session need
 
@@ -70,7 +71,7 @@ module _ (es : List (ℕ × Names)) (session : ℕ) (need : Need) where
     least = is_least blocked (keys_of es) (blocked_among es session need) h (sym is);
   }
 
--- a need that is in conflict, behind free ones
+-- a need that is in conflict, after free ones
 pub first_conflict : (t : Locks) (session : ℕ) (needs : List Need) (place holder : ℕ) (need : Need) → slice_get needs place ≡ Some need
     → All (IsFree t session) (take place needs) → IsLeastHolder t session need holder → IsFirstConflict t session needs place holder
 first_conflict t session needs place holder need is before least =

@@ -102,14 +102,17 @@ module _ (test : ℕ → Bool) where
 
   -- where only sessions among these pass, the least of these is the least of all
   module _ (ks : List ℕ) (only : (h : ℕ) → test h ≡ true → list_any (nat_eq h) ks ≡ true) where
+    -- where none is found, no session passes
     pub all_fail : least_in ks None ≡ None → (h : ℕ) → test h ≡ false
     all_fail is h = elim (test h) as (λ v. test h ≡ v → v ≡ false) [
       | true ↦ λ e. sym e ∙ fails_among ks h (none_passes ks None is).1 (only h e)
       | false ↦ λ _. refl
     ] refl
 
+    -- the session that is found passes
     pub passes : (h : ℕ) → least_in ks None ≡ Some h → test h ≡ true
     passes h is = found_passes ks None (λ x e. cc) h is
 
+    -- the session that is found is at most any other that passes
     pub is_least : (h : ℕ) → least_in ks None ≡ Some h → (other : ℕ) → test other ≡ true → h ≤ other
     is_least h is other there = above_among ks h other (found_least ks None h is).1 (only other there) there

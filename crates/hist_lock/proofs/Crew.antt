@@ -35,6 +35,7 @@ pub moves_one : {A B : Type 0} (f : A → B) (so_far now : List B) (left after :
 moves_one f so_far now left after x all is items more =
     ap (λ (l : List _). l ++ map f after) more ∙ (append_assoc so_far (f x ∷ []) (map f after) ∙ (ap (λ (l : List _). so_far ++ map f l) (sym items) ∙ is))
 
+-- what holds of all the items of a list holds of all but the first
 pub All_rest : {A : Type 0} (P : A → Type 0) (left after : List A) (x : A) → left ≡ x ∷ after → All P left → All P after
 All_rest P left after x items all k d inside = subst (λ (l : List _). All P l) items all (suc k) d (omega arith)
 

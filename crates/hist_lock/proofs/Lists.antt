@@ -5,9 +5,11 @@ use Rattle.std.specs.Prelude.{if◌then◌else◌}
 use Rattle.hist_lock.specs.Story.{Begins, events_of, AllOf}
 
 module _ {E : Type 0} where
+  -- a list begins with itself
   pub begins_same : (log : List E) → Begins log log
   begins_same log = ([], sym (append-nil log))
 
+  -- a list still begins with what it began with after events are appended to it
   pub begins_more : (log seen new : List E) → Begins log seen → Begins (log ++ new) seen
   begins_more log seen new b = (b.0 ++ new, ap (λ (l : List E). l ++ new) b.1 ∙ append_assoc seen b.0 new)
 
@@ -15,6 +17,7 @@ module _ {E : Type 0} where
   pub begins_on : (log mid seen : List E) → Begins log mid → Begins mid seen → Begins log seen
   begins_on log mid seen b c = subst (λ (l : List E). Begins l seen) (sym b.1) (begins_more mid seen b.0 c)
 
+  -- the events of a session in two lists in turn are those in the first, and then those in the second
   pub events_of-append : (session : E → ℕ) (by : ℕ) (xs ys : List E) → events_of session by (xs ++ ys) ≡ events_of session by xs ++ events_of session by ys
   events_of-append session by [] ys = refl
   events_of-append session by (x ∷ xs) ys = step (eqb (session x) by) (events_of-append session by xs ys)
@@ -30,6 +33,7 @@ module _ {E : Type 0} where
   events_of_others session by id [] all n = refl
   events_of_others session by id (x ∷ xs) all n = rw (ne_eqb (session x) by (λ e. n (sym e ∙ all.0))) (events_of_others session by id xs all.1 n)
 
+  -- in a list whose events are all of one session, that session's events are the whole list
   pub events_of_own : (session : E → ℕ) (id : ℕ) (xs : List E) → AllOf session id xs → events_of session id xs ≡ xs
   events_of_own session id [] all = refl
   events_of_own session id (x ∷ xs) all = rw (eq-eqb (session x) id all.0) (ap (λ (l : List E). x ∷ l) (events_of_own session id xs all.1))

@@ -33,6 +33,7 @@ one_held n e = by_test (eqb n 0) (λ no is. true≢false (sym (ap (λ (m : ℕ).
     by_test true f is = absurd (omega (arith, is))
     by_test false f is = f refl is
 
+-- 2 is not 0, whatever the word held
 pub one_waits : (n : ℕ) → ◌≡◌ {A = ℕ} 2 0 → ⊥
 one_waits n e = absurd (omega (arith, e))
 
@@ -231,6 +232,7 @@ module _ {T E O : Type 0} (events : T → List E) (session : E → ℕ) (origin 
         } in
         subst (λ (z : List (View E O)). Rule record { words = ws; homes = s.homes; views = z }) (sym (set_again s.views id me.0 at)) held
 
+    -- a live pass with empty hands may try to take the turn: then the value with the whole list is in its hands, or nothing has changed for it
     pub takes_turn : (slots id : ℕ) (me : M) (st : Step (Option T)) → me.0.live ≡ true → me.1 ≡ []
         → Allows Rule slots id me 1 next (taken events session origin st me)
     takes_turn slots id me st l none_held s r long at small = ⊎_elim
@@ -288,6 +290,7 @@ module _ {T E O : Type 0} (events : T → List E) (session : E → ℕ) (origin 
   set_at (x ∷ xs) zero v w e = refl
   set_at (x ∷ xs) (suc i) v w e = set_at xs i v w e
 
+  -- a pass that is inside with its value, to which k new events of its own were added, may add k to the count of events
   pub raises_count : (slots id : ℕ) (me : M) (x : T) (new : List E) (k : ℕ) → me.0.live ≡ true → me.0.inside ≡ true → me.1 ≡ (0, Some x) ∷ []
       → events x ≡ me.0.seen ++ new → AllOf session me.0.id new
       → length (events x) < 2 ^ 64 → k ≡ length new
@@ -337,6 +340,7 @@ module _ {T E O : Type 0} (events : T → List E) (session : E → ℕ) (origin 
       counted log new all k grown is small = let e : length all ≡ length log + k = ap length grown
           ∙ (length-append log new ∙ ap (λ (n : ℕ). length log + n) (sym is)) in omega arith
 
+  -- a pass that is inside may give its value back, once it has seen all the events of it
   pub frees_turn : (slots id : ℕ) (me : M) (x : T) → me.0.live ≡ true → me.0.inside ≡ true → me.1 ≡ (0, Some x) ∷ [] → events x ≡ me.0.seen
       → origin x ≡ me.0.origin
       → Allows Rule slots id me 1 (λ _. 0) (freed events session origin (step slots 1 0 0 none) me)
@@ -377,7 +381,7 @@ module _ {T E O : Type 0} (events : T → List E) (session : E → ℕ) (origin 
       off true n = absurd (n refl)
       off false n = refl
 
-  -- what holds of each view and of a new one behind them
+  -- what holds of each view and of a new one after them
   each_snoc : (P : ℕ → View E O → Type 0) (vs : List (View E O)) (w : View E O) → ((j : ℕ) → P j w) → ((j : ℕ) (u : View E O) → get_elem? vs j ≡ some u → P j u)
       → (j : ℕ) (u : View E O) → get_elem? (vs ++ w ∷ []) j ≡ some u → P j u
   each_snoc P vs w new old j u e = ⊎_elim (old j u) (λ (t : w ≡ u). subst (P j) t (new j)) (at_snoc vs w u j e)
@@ -412,6 +416,7 @@ module _ {T E O : Type 0} (events : T → List E) (session : E → ℕ) (origin 
           (λ (h : IsHeld events session origin r.log s). ap (λ (z : List ℕ). set z 0 (get_or z 0 0)) h.words ∙ sym h.words)
           r.phase
 
+  -- the opener's pass may be split while it is outside, and the rule holds of both halves
   pub splits_pass : (id : ℕ) (v : View E O) → v.live ≡ true → v.id ≡ 0 → v.inside ≡ false → Splits Rule id v (parted v) (newcomer v)
   splits_pass id v l first out s r at =
       let me = r.each id v at l in
@@ -547,6 +552,7 @@ module _ {T E O : Type 0} (events : T → List E) (session : E → ℕ) (origin 
       (at_set vs id j (joined v w) u t.1))
       (at_set (set vs id (joined v w)) other j (gone nowhere) u e)
 
+  -- the opener's pass may be joined with another while both are outside, and the rule holds of what is left
   pub joins_pass : (id : ℕ) (v : View E O) (other : ℕ) (w : View E O) (nowhere : O) → v.live ≡ true → w.live ≡ true → v.id ≡ 0 → v.inside ≡ false
       → w.inside ≡ false
       → Joins Rule id v other w (joined v w) (gone nowhere)

@@ -20,6 +20,10 @@ pub record Known (E O : Type 0) : Type 0 where
   pub made : ℕ
   pub kept : List (Kept E)
 
+-- the most passes that are split from an opener's: their numbers have 32 bits
+abbrev pub most_passes : ℕ
+most_passes = 4294967295
+
 module _ {E O : Type 0} where
   abbrev pub known_of : TableId → View E O → Known E O
   known_of lock v = record { lock = lock; id = v.id; origin = v.origin; seen = v.seen; mine = v.mine; inside = v.inside; made = v.made; kept = v.kept }

@@ -3,7 +3,7 @@ ghost use Rattle.std.specs.Prelude.{◌≡◌, ◌+◌, ◌^◌, ◌<◌, ◌++�
 ghost use Rattle.hist_lock.specs.Story.{Begins, events_of, AllOf};
 ghost use Rattle.hist_lock.specs.Views.{entered, added, left};
 ghost use Rattle.hist_lock.specs.Turns.{Gained};
-ghost use Rattle.hist_lock.specs.Passes.{opening_pass, parting_pass, joining_pass, AllJoined, ClosedAs};
+ghost use Rattle.hist_lock.specs.Passes.{opening_pass, parting_pass, joining_pass, most_passes, AllJoined, ClosedAs};
 ghost use Rattle.hist_lock.specs.Holding.{value_of};
 
 use crate::held::Held;
@@ -168,7 +168,7 @@ impl<T: Storied> HistLock<T> {
         requires lock { opener.old.lock ≡ self.now }
         requires opener { opener.old.id ≡ 0 }
         requires outside { opener.old.inside ≡ false }
-        requires room { opener.old.made < 4294967295 }
+        requires room { opener.old.made < most_passes }
         ensures opener { opener.new ≡ record opener.old { made = opener.old.made + 1 } }
         ensures new { result ≡ parting_pass opener.old }
         ensures unused { events_of T.session result.id result.seen ≡ [] }

@@ -40,6 +40,7 @@ below_longer (x ∷ front) y ys = byte_order-same x front (front ++ y ∷ ys) �
 pub below_at : (front : List ℕ) (x y : ℕ) (xs ys : List ℕ) → x < y → IsBelow (front ++ x ∷ xs) (front ++ y ∷ ys)
 below_at front x y xs ys h = byte_order-front front (x ∷ xs) (y ∷ ys) ∙ below_by_byte x y xs ys h
 
+-- what is below a list that is below a third is below the third
 pub below_trans : (xs ys zs : List ℕ) → IsBelow xs ys → IsBelow ys zs → IsBelow xs zs
 below_trans xs ys zs = nat_list_cmp_total.trans xs ys zs
 

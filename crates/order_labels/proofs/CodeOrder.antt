@@ -13,6 +13,7 @@ use Rattle.order_labels.proofs.DigitLemmas.{digits_rise, digits_fall, length-dig
 abbrev pub raised : ℕ → ℕ
 raised d = d + 2
 
+-- a digit in the code of a number below 0
 abbrev pub lowered : ℕ → ℕ
 lowered d = 255 - d
 

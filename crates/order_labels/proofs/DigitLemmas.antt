@@ -51,7 +51,7 @@ pub digits-first : (n i : ℕ) → 0 < n → digits n i ≡ (i / 254 ^ (n - 1)) 
 digits-first zero i p = absurd (omega arith)
 digits-first (suc n) i p = rw sub-one refl
 
--- the highest digit and then those of the remainder are all digits, behind what is there
+-- the highest digit and then those of the remainder are all digits, after what is there
 pub digits_pushed : (f : ℕ → ℕ) (out : List ℕ) (n i : ℕ) → 0 < n
     → out ++ f (i / 254 ^ (n - 1)) ∷ [] ++ map f (digits (n - 1) (i % 254 ^ (n - 1))) ≡ out ++ map f (digits n i)
 digits_pushed f out n i p =

@@ -8,6 +8,7 @@ use Rattle.order_labels.specs.KeyValue.{IsFraction}
 use Rattle.order_labels.specs.LabelOrder.{IsBelow}
 use Rattle.order_labels.proofs.ByteOrder.{below_at, below_front}
 
+-- a byte that a fraction may have
 abbrev pub InRange : ℕ → Type 0
 InRange b = (2 ≤ b) × (b ≤ 255)
 

@@ -12,7 +12,7 @@ use Rattle.order_labels.proofs.ByteOrder.{byte_order-front, below_by_byte, below
 use Rattle.order_labels.proofs.FractionLemmas.{InRange, split_last}
 use Rattle.order_labels.proofs.CodeBytes.{code_in_range}
 
--- Codes in order stay in order with the byte 1 and anything behind them, since their own bytes are above 1.
+-- Codes in order stay in order with the byte 1 and anything after them, since their own bytes are above 1.
 closed_codes : (a b x y : List ℕ) → All InRange b → IsBelow a b → IsBelow (a ++ 1 ∷ x) (b ++ 1 ∷ y)
 closed_codes [] [] x y r h = absurd cc
 closed_codes [] (d ∷ b) x y r h = below_by_byte 1 d x (b ++ 1 ∷ y) (omega (arith, (All-head InRange d b r).0))
@@ -21,7 +21,7 @@ closed_codes (c ∷ a) (d ∷ b) x y r h =
     below_by_heads c d (a ++ 1 ∷ x) (b ++ 1 ∷ y)
     (with_rests c d (IsBelow a b) (IsBelow (a ++ 1 ∷ x) (b ++ 1 ∷ y)) (closed_codes a b x y (All-tail InRange d b r)) (heads c d a b h))
 
--- a label behind which something follows, with the parts in another grouping
+-- a label with something after it, with the parts in another grouping
 child_label-append : (parent : List ℕ) (k : KeyValue) (x : List ℕ) → child_label parent k ++ x ≡ parent ++ (code k ++ 1 ∷ x)
 child_label-append parent k x = append_assoc (parent ++ code k) (1 ∷ []) x ∙ append_assoc parent (code k) (1 ∷ x)
 
@@ -48,7 +48,7 @@ unfolding last_of
 last_of-push d [] y = refl
 last_of-push d (x ∷ xs) y = last_of-push x xs y
 
--- the last byte of two lists one behind the other
+-- the last byte of two lists one after the other
 last_of-append : (d : ℕ) (xs ys : List ℕ) → last_of d (xs ++ ys) ≡ last_of (last_of d xs) ys
 unfolding last_of
 last_of-append d [] ys = refl

@@ -21,6 +21,7 @@ overlaid old at (b ∷ bs) some =
     ap (λ (z : List ℕ × List ℕ). z.0 ++ (b ∷ bs) ++ z.1)
     (λ i. (take-padded old at (at + length (b ∷ bs)) 0 (omega arith) i, drop-padded old (at + length (b ∷ bs)) 0 i))
 
+-- the file was made long enough with bytes 255, and then n of them were written in its range
 pub filled_in : (old : List ℕ) (at n : ℕ) → 0 < n
     → take at (old ++ replicate (at + n - length old) 255) ++ replicate n 255 ++ drop (at + n) (old ++ replicate (at + n - length old) 255) ≡ filled old at n
 filled_in old at zero some = absurd (omega arith)

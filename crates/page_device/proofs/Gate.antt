@@ -12,6 +12,7 @@ use Rattle.page_device.proofs.Runs.{bytes_of-with_bytes, others_from, others_fro
 
 -- over plain lists: a front, a gate, and what stands behind it
 module _ (front : List ℕ) (gate : ℕ) (back : List ℕ) (at : ℕ) (long : length front ≡ at) where
+  -- the file: the front, the gate and the back
   abbrev pub file_of : List ℕ
   file_of = front ++ gate ∷ back
 
@@ -41,6 +42,7 @@ module _ (front : List ℕ) (gate : ℕ) (back : List ℕ) (at : ℕ) (long : le
       ∙ (torn.before ∙ (ap (λ (k : ℕ). take k file_of) whole ∙ through_of)) in
       sym (take-append-drop (at + 1) c) ∙ (ap (λ (l : List ℕ). l ++ drop (at + 1) c) start ∙ append_assoc front (gate ∷ []) (drop (at + 1) c))
 
+  -- a write of the body right after the gate leaves the front and the gate, and then the body with what stood after it
   pub written_behind : (body : List ℕ) → overlay file_of (at + 1) body ≡ front ++ gate ∷ behind at body file_of
   written_behind body =
       let rest = drop (at + 1 + length body) file_of in
@@ -57,6 +59,7 @@ module _ (front : List ℕ) (gate : ℕ) (back : List ℕ) (at : ℕ) (long : le
       ∙ ap (λ (l : List ℕ). get_or c at 0 ∷ l) (torn.after ∙ back_of) in
       sym (take-append-drop at c) ∙ (ap (λ (l : List ℕ). l ++ drop at c) start ∙ ap (λ (l : List ℕ). front ++ l) rest)
 
+  -- a write of 1 at the gate's place opens the gate and changes nothing else
   pub written_gate : overlay file_of at (1 ∷ []) ≡ front ++ 1 ∷ back
   written_gate =
       overlay-inside file_of at (1 ∷ []) (omega (arith, length-file))
@@ -82,6 +85,7 @@ module _ (file : Which) (at : ℕ) (body : List ℕ) (c : Image) (old : Image �
   abbrev back : List ℕ
   back = behind at body (bytes_of c file)
 
+  -- the front is as long as the gate's place says
   pub front_long : length front ≡ at
   front_long = omega (arith, r.long, length-take at (bytes_of c file))
 
@@ -115,13 +119,16 @@ module _ (file : Which) (at : ℕ) (body : List ℕ) (c : Image) (old : Image �
         (subst (λ (b : List ℕ). Torn at 1 b (bytes_of i file)) (only part.was part.is_old ∙ middle_is) part.torn.torn);
   }
 
+  -- what is read after the write of the body and then of the gate has the body behind an open gate
   pub gated_is : overlay (bytes_of (with_bytes c file middle) file) at (1 ∷ []) ≡ gated file at body c
   gated_is = ap (λ (b : List ℕ). overlay b at (1 ∷ [])) (bytes_of-with_bytes c file middle ∙ middle_is)
       ∙ written_gate front (r.each c here).gate back at front_long
 
+  -- an image from before the gate's write lacks the body, and its other files are those of an older image
   pub any_before : (i : Image) → InPart file (at + 1) (length body) old i → AtAnyMoment file at body c old i
   any_before i part = record { file_is = inl (lacks i part); others = others_from file (at + 1) (length body) old i part }
 
+  -- an image from the gate's write on has the body, and its other files are those of an older image
   pub any_after : (mid : Image → Type 0) → FileIs file middle mid → Each mid (InPart file (at + 1) (length body) old) → (i : Image) → InPart file at 1 mid i
       → AtAnyMoment file at body c old i
   any_after mid only all i part = record {
@@ -133,14 +140,17 @@ module _ (file : Which) (at : ℕ) (body : List ℕ) (c : Image) (old : Image �
   pub rests_again : (new : Image → Type 0) (d : Image) → new d → Each new (InPart file (at + 1) (length body) old) → IsAtRest file at d new
   rests_again new d is all = rests file at d new front front_long is (λ i left. (lacks i (all i left)).closed)
 
+  -- where each image has the body, the body is in doubt: only its gate may differ
   pub in_doubt : (new : Image → Type 0) → Each new (HasBody file at body c) → IsInDoubt file at body new
   in_doubt new all = record { front = front; rest = drop (at + 1 + length body) (bytes_of c file); long = front_long; each = all }
 
 -- over a body in doubt, as it is read
 module _ (file : Which) (at : ℕ) (body : List ℕ) (c : Image) (old : Image → Type 0) (here : old c) (r : IsInDoubt file at body old) where
+  -- the gate as it is read
   abbrev pub gate_of : ℕ
   gate_of = (r.each c here).gate
 
+  -- the file as it is read is the front that all images share, the gate, the body and the rest
   pub doubted_is : bytes_of c file ≡ r.front ++ gate_of ∷ (body ++ r.rest)
   doubted_is = (r.each c here).is
 
@@ -156,6 +166,7 @@ module _ (file : Which) (at : ℕ) (body : List ℕ) (c : Image) (old : Image �
   pub gate_is : get_or (bytes_of c file) at 0 ≡ gate_of
   gate_is = ap (λ (l : List ℕ). get_or l at 0) doubted_is ∙ get_or_at r.front gate_of (body ++ r.rest) 0 at r.long
 
+  -- the file as it is read has the body
   pub whole_is : HasBody file at body c c
   whole_is = record {
     gate = gate_of;

@@ -19,11 +19,13 @@ use Rattle.page_device.specs.MemoryLaws.{torn_same, torn_overlay, marked-push, r
 run_more : (d : Disk) (ms : List Done) (m : Done) → run d (ms ++ m ∷ []) ≡ step (run d ms) m
 run_more d ms m = run-append d ms (m ∷ [])
 
+-- a record with one write more makes the disk after that write
 pub disk_wrote : (first : Image) (ms ms' : List Done) (file : Which) (at : ℕ) (bytes : List ℕ) → Writes file at bytes ms ms'
     → disk_after first ms' ≡ after_write (disk_after first ms) file at bytes
 disk_wrote first ms ms' file at bytes w = ap (disk_after first) w.joined
     ∙ (run_more _ ms (Wrote file at w.copy) ∙ ap (after_write (disk_after first ms) file at) w.same)
 
+-- a record with one sync more makes the disk after that sync
 pub disk_synced : (first : Image) (ms ms' : List Done) (file : Which) → ms' ≡ ms ++ Synced file ∷ []
     → disk_after first ms' ≡ after_sync (disk_after first ms) file
 disk_synced first ms ms' file joined = ap (disk_after first) joined ∙ run_more _ ms (Synced file)
@@ -41,6 +43,7 @@ held_by-after_write d LogB at bytes =
     ap (λ (l : List ℕ). record { now = now_of (after_write d LogB at bytes); synced = synced_of d; ones = with_bytes (ones_of d) LogB l })
     (marked-push d.log_b.synced d.log_b.writes _)
 
+-- the versions of a disk after a sync are the versions before it, after that sync
 pub held_by-after_sync : (d : Disk) (file : Which) → held_by (after_sync d file) ≡ held_after_sync (held_by d) file
 held_by-after_sync d Slots = refl
 held_by-after_sync d LogA = refl
@@ -54,6 +57,7 @@ grown_le long at (suc n) = omega arith
 overlay_bounded : (old : List ℕ) (at : ℕ) (bytes : List ℕ) → at + length bytes ≤ LONGEST → length old ≤ LONGEST → length (overlay old at bytes) ≤ LONGEST
 overlay_bounded old at bytes fits le = omega (arith, (torn_overlay old at bytes).no_longer, grown_le (length old) at (length bytes))
 
+-- no file becomes too long by a write that ends within the longest length
 pub bounded_wrote : (d : Disk) (file : Which) (at : ℕ) (bytes : List ℕ) → at + length bytes ≤ LONGEST → IsBounded (now_of d)
     → IsBounded (now_of (after_write d file at bytes))
 bounded_wrote d Slots at bytes fits b Slots = overlay_bounded d.slots.now at bytes fits (b Slots)
@@ -66,11 +70,13 @@ bounded_wrote d LogB at bytes fits b Slots = b Slots
 bounded_wrote d LogB at bytes fits b LogA = b LogA
 bounded_wrote d LogB at bytes fits b LogB = overlay_bounded d.log_b.now at bytes fits (b LogB)
 
+-- a sync does not change what is read
 pub now_synced : (d : Disk) (file : Which) → now_of (after_sync d file) ≡ now_of d
 now_synced d Slots = refl
 now_synced d LogA = refl
 now_synced d LogB = refl
 
+-- an image stays the same when a file is given the bytes that it has
 pub with_own : (c : Image) (file : Which) → c ≡ with_bytes c file (bytes_of c file)
 with_own c Slots = refl
 with_own c LogA = refl
@@ -176,70 +182,88 @@ elapses_same f ms P = record { later = omega arith; nothing_else = λ t c le lef
 
 -- after a write that joined the record
 module _ (file : Which) (at : ℕ) (bytes : List ℕ) (f f' : Image) (ms ms' : List Done) (first : f' ≡ f) (w : Writes file at bytes ms ms') where
+  -- the disk is the one from before, after this write
   pub wrote_disk : disk_after f' ms' ≡ after_write (disk_after f ms) file at bytes
   wrote_disk = ap (λ (z : Image). disk_after z ms') first ∙ disk_wrote f ms ms' file at bytes w
 
+  -- what is read is as before, with the bytes written over the file
   pub wrote_now : now_of (disk_after f' ms') ≡ with_bytes (now_of (disk_after f ms)) file (overlay (bytes_of (now_of (disk_after f ms)) file) at bytes)
   wrote_now = ap now_of wrote_disk ∙ now_wrote (disk_after f ms) file at bytes
 
+  -- each image is one from before, with this write done in part, and as long as before or as it is read
   pub wrote_crash : Follows (TornImage file at (length bytes) (Some (now_of (disk_after f' ms')))) (IsImage (disk_after f ms)) (IsImage (disk_after f' ms'))
   wrote_crash = subst (λ (d : Disk). Follows (TornImage file at (length bytes) (Some (now_of d))) (IsImage (disk_after f ms)) (IsImage d)) (sym wrote_disk)
       (crash_wrote (disk_after f ms) file at bytes)
 
+  -- what a crash could leave of the other files, it can leave still
   pub wrote_others : KeepsOthers file (IsImage (disk_after f ms)) (IsImage (disk_after f' ms'))
   wrote_others = subst (λ (d : Disk). KeepsOthers file (IsImage (disk_after f ms)) (IsImage d)) (sym wrote_disk)
       (others_wrote (disk_after f ms) file at bytes (subst IsWholeDisk wrote_disk (whole_after f' ms')))
 
+  -- a crash since any earlier moment leaves what it left before the write, or an image from after it
   pub wrote_time : Elapses (length ms) (length ms') (WasImage f ms) (WasImage f' ms') (IsImage (disk_after f' ms'))
   wrote_time = subst (λ (z : Image × List Done). Elapses (length ms) (length z.1) (WasImage f ms) (WasImage z.0 z.1) (IsImage (disk_after z.0 z.1)))
       (λ i. (sym first i, sym w.joined i)) (elapses_more f ms (Wrote file at w.copy))
 
 -- after a sync that joined it
 module _ (file : Which) (f f' : Image) (ms ms' : List Done) (first : f' ≡ f) (joined : ms' ≡ ms ++ Synced file ∷ []) where
+  -- the disk is the one from before, after this sync
   pub synced_disk : disk_after f' ms' ≡ after_sync (disk_after f ms) file
   synced_disk = ap (λ (z : Image). disk_after z ms') first ∙ disk_synced f ms ms' file joined
 
+  -- what is read is as before
   pub synced_now : now_of (disk_after f' ms') ≡ now_of (disk_after f ms)
   synced_now = ap now_of synced_disk ∙ now_synced (disk_after f ms) file
 
+  -- each image was one before the sync
   pub synced_crash : Shrinks (IsImage (disk_after f ms)) (IsImage (disk_after f' ms'))
   synced_crash = subst (λ (d : Disk). Shrinks (IsImage (disk_after f ms)) (IsImage d)) (sym synced_disk)
       (crash_synced (disk_after f ms) file (whole_after f ms))
 
+  -- what a crash could leave of the other files, it can leave still
   pub synced_others : KeepsOthers file (IsImage (disk_after f ms)) (IsImage (disk_after f' ms'))
   synced_others = subst (λ (d : Disk). KeepsOthers file (IsImage (disk_after f ms)) (IsImage d)) (sym synced_disk) (others_synced (disk_after f ms) file)
 
+  -- each image has the file as it is read
   pub synced_durable : FileIs file (bytes_of (now_of (disk_after f ms)) file) (IsImage (disk_after f' ms'))
   synced_durable = subst (λ (d : Disk). FileIs file (bytes_of (now_of (disk_after f ms)) file) (IsImage d)) (sym synced_disk)
       (durable_synced (disk_after f ms) file)
 
+  -- a crash since any earlier moment leaves what it left before the sync, or an image from after it
   pub synced_time : Elapses (length ms) (length ms') (WasImage f ms) (WasImage f' ms') (IsImage (disk_after f' ms'))
   synced_time = subst (λ (z : Image × List Done). Elapses (length ms) (length z.1) (WasImage f ms) (WasImage z.0 z.1) (IsImage (disk_after z.0 z.1)))
       (λ i. (sym first i, sym joined i)) (elapses_more f ms (Synced file))
 
 -- after a call that changed nothing
 module _ (f f' : Image) (ms ms' : List Done) (first : f' ≡ f) (calls : ms' ≡ ms) where
+  -- the disk is the one from before
   pub same_disk : disk_after f' ms' ≡ disk_after f ms
   same_disk = ap (λ (z : Image × List Done). disk_after z.0 z.1) (λ i. (first i, calls i))
 
+  -- what is read is as before
   pub same_now : now_of (disk_after f' ms') ≡ now_of (disk_after f ms)
   same_now = ap now_of same_disk
 
+  -- the images are those from before
   pub same_images : Same (IsImage (disk_after f ms)) (IsImage (disk_after f' ms'))
   same_images = subst (λ (d : Disk). Same (IsImage (disk_after f ms)) (IsImage d)) (sym same_disk) (λ c is. is, λ c is. is)
 
+  -- a crash since any earlier moment leaves what it left before the call
   pub same_time : Elapses (length ms) (length ms') (WasImage f ms) (WasImage f' ms') (IsImage (disk_after f' ms'))
   same_time = subst (λ (z : Image × List Done). Elapses (length ms) (length z.1) (WasImage f ms) (WasImage z.0 z.1) (IsImage (disk_after f' ms')))
       (λ i. (sym first i, sym calls i)) (elapses_same f ms (IsImage (disk_after f' ms')))
 
+  -- what a crash could leave of the other files, it can leave still
   pub same_others : (file : Which) → KeepsOthers file (IsImage (disk_after f ms)) (IsImage (disk_after f' ms'))
   same_others file = subst (λ (d : Disk). KeepsOthers file (IsImage (disk_after f ms)) (IsImage d)) (sym same_disk) (λ c is. (c, is, with_own c file))
 
+  -- each image is one from before in which a write was done in part: here, not at all
   pub same_crash : (file : Which) (at n : ℕ)
       → Follows (TornImage file at n (Some (now_of (disk_after f' ms')))) (IsImage (disk_after f ms)) (IsImage (disk_after f' ms'))
   same_crash file at n = subst (λ (d : Disk). Follows (TornImage file at n (Some (now_of d))) (IsImage (disk_after f ms)) (IsImage d)) (sym same_disk)
       (λ c is. (c, is, record { write = torn_stays file at n c; long = inl refl }))
 
+  -- what is read is what was read before, with a write done in part: here, not at all
   pub same_torn : (file : Which) (at n : ℕ)
       → (d : Image) × (◌≡◌ {A = Option Image} (Some (now_of (disk_after f' ms'))) (Some d)) × TornIn file at n (now_of (disk_after f ms)) d
   same_torn file at n = (
@@ -249,6 +273,7 @@ module _ (f f' : Image) (ms ms' : List Done) (first : f' ≡ f) (calls : ms' ≡
         (torn_stays file at n (now_of (disk_after f ms))),
   )
 
+  -- in what is read the other files are as before
   pub same_file : (file : Which)
       → (d : Image) × (◌≡◌ {A = Option Image} (Some (now_of (disk_after f' ms'))) (Some d)) × SameOthers file (now_of (disk_after f ms)) d
   same_file file = (
@@ -263,10 +288,12 @@ pub either : {T E : Type 0} (r : Result T E) (A B : Type 0) → OnOk r A → OnE
 either (Ok v) A B ok err = inl ok
 either (Err e) A B ok err = inr err
 
+-- what follows from A holds of each Ok answer, where A does
 pub on_ok : {T E : Type 0} (r : Result T E) (A C : Type 0) → (A → C) → OnOk r A → OnOk r C
 on_ok (Ok v) A C f ok = f ok
 on_ok (Err e) A C f ok = tt
 
+-- what follows from B holds of each Err answer, where B does
 pub on_err : {T E : Type 0} (r : Result T E) (B C : Type 0) → (B → C) → OnErr r B → OnErr r C
 on_err (Ok v) B C f err = tt
 on_err (Err e) B C f err = f err

@@ -46,9 +46,13 @@ pub record Elapses (before now : ℕ) (past since : ℕ → Image → Type 0) (i
   pub nothing_else : (t : ℕ) (c : Image) → t ≤ before → since t c → past t c ⊎ images c
   pub keeps : (t : ℕ) (c : Image) → t ≤ before → past t c → since t c
 
+-- the last value of a count: 64 bits hold no more
+abbrev pub last_count : ℕ
+last_count = 18446744073709551615
+
 -- the count rose, or stands at its last value
 abbrev pub Rose : ℕ → ℕ → Type 0
-Rose before now = (before < now) ⊎ (18446744073709551615 ≤ now)
+Rose before now = (before < now) ⊎ (last_count ≤ now)
 
 -- the count does not fall, and Failed comes only where it rose
 pub record HasCause {T : Type 0} (before now : ℕ) (result : Result T Failed) : Type 0 where

@@ -57,6 +57,7 @@ module _ (old : List ℕ) (at gap : ℕ) (bytes : List ℕ) (n : ℕ) (same : le
   after_spliced : drop (at + n) spliced ≡ drop (at + n) old
   after_spliced = drop_at (take at padded ++ bytes) (drop (at + n) old) (at + n) (omega (arith, same, length-append (take at padded) bytes, length-front))
 
+-- a write makes the file as long as `grown` says
 pub length-overlay : (old : List ℕ) (at : ℕ) (bytes : List ℕ) → length (overlay old at bytes) ≡ grown (length old) at (length bytes)
 length-overlay old at [] = refl
 length-overlay old at (b ∷ bs) = length-spliced old at 0 (b ∷ bs) (length (b ∷ bs)) refl
@@ -89,11 +90,13 @@ pub reaches_more : (base : List ℕ) (ws : List Extent) (w : Extent) (mid c : Li
 reaches_more base [] w mid c is tears = (c, subst (λ (b : List ℕ). Tears w b c) is tears, refl)
 reaches_more base (v ∷ ws) w mid c r tears = (r.0, r.1, reaches_more r.0 ws w mid c r.2 tears)
 
+-- what these writes and one more can leave, the last write can leave of what the others did
 pub reaches_less : (base : List ℕ) (ws : List Extent) (w : Extent) (c : List ℕ) → Reaches base (ws ++ w ∷ []) c
     → (mid : List ℕ) × Reaches base ws mid × Tears w mid c
 reaches_less base [] w c r = (base, refl, subst (λ (d : List ℕ). Tears w base d) (sym r.2) r.1)
 reaches_less base (v ∷ ws) w c r = let t = reaches_less r.0 ws w c r.2 in (t.0, (r.0, r.1, t.1), t.2)
 
+-- one write more fills its range with bytes 255
 pub marked-push : (base : List ℕ) (ws : List Extent) (w : Extent) → marked base (ws ++ w ∷ []) ≡ filled (marked base ws) w.at w.count
 marked-push base [] w = refl
 marked-push base (v ∷ ws) w = marked-push (filled base v.at v.count) ws w
@@ -142,6 +145,7 @@ module _ (k : Kept) (at : ℕ) (bytes : List ℕ) (whole : IsWhole k) where
     no_longer = no_longer_wrote;
   }
 
+-- each of the three files is whole
 pub record IsWholeDisk (d : Disk) : Type 0 where
   pub slots : IsWhole d.slots
   pub log_a : IsWhole d.log_a
@@ -159,6 +163,7 @@ whole_run : (d : Disk) (ms : List Done) → IsWholeDisk d → IsWholeDisk (run d
 whole_run d [] w = w
 whole_run d (m ∷ ms) w = whole_run (step d m) ms (whole_step d m w)
 
+-- each disk that is made by a record of calls is whole
 pub whole_after : (first : Image) (ms : List Done) → IsWholeDisk (disk_after first ms)
 whole_after first ms = whole_run (opened first) ms record {
   slots = whole_at_rest first.slots;
@@ -202,13 +207,16 @@ grows_run d [] = record { slots = omega arith; log_a = omega arith; log_b = omeg
 grows_run d (m ∷ ms) = let one = grows_step d m in let more = grows_run (step d m) ms in
     record { slots = omega (arith, one.slots, more.slots); log_a = omega (arith, one.log_a, more.log_a); log_b = omega (arith, one.log_b, more.log_b) }
 
+-- two lists of calls in turn make the disk that both together make
 pub run-append : (d : Disk) (ms ns : List Done) → run d (ms ++ ns) ≡ run (run d ms) ns
 run-append d [] ns = refl
 run-append d (m ∷ ms) ns = run-append (step d m) ms ns
 
+-- the contents that are told are an image
 pub told_image : (first : Image) (ms : List Done) (c : Image) → Some (now_of (disk_after first ms)) ≡ Some c → IsImage (disk_after first ms) c
 told_image first ms c is = let same : now_of (disk_after first ms) ≡ c = cc is in subst (IsImage (disk_after first ms)) same (now_image first ms)
 
+-- an image of now is an image since any moment so far
 pub counts_now_of : (first : Image) (ms : List Done) (t : ℕ) (c : Image) → t ≤ length ms → IsImage (disk_after first ms) c → WasImage first ms t c
 counts_now_of first ms t c le is =
     record {
@@ -219,9 +227,11 @@ counts_now_of first ms t c le is =
           subst (λ (l : List Done). IsImage (disk_after first l) c) (sym (take_all (length ms) ms (omega arith))) is;
     }
 
+-- an image since the last moment is an image of now
 pub only_now_of : (first : Image) (ms : List Done) (c : Image) → WasImage first ms (length ms) c → IsImage (disk_after first ms) c
 only_now_of first ms c w = let a : length ms ≤ w.moment = w.from in subst (λ (l : List Done). IsImage (disk_after first l) c) (take_all w.moment ms a) w.is
 
+-- an image since a later moment is an image since an earlier one
 pub later_less_of : (first : Image) (ms : List Done) (t u : ℕ) (c : Image) → t ≤ u → WasImage first ms u c → WasImage first ms t c
 later_less_of first ms t u c le w = let a : u ≤ w.moment = w.from in record { moment = w.moment; from = omega (arith, le, a); to = w.to; is = w.is }
 
@@ -231,6 +241,7 @@ bounded_by d e c g le b Slots = omega (arith, g.slots, le Slots, b Slots)
 bounded_by d e c g le b LogA = omega (arith, g.log_a, le LogA, b LogA)
 bounded_by d e c g le b LogB = omega (arith, g.log_b, le LogB, b LogB)
 
+-- no image since any moment is too long, where what is read now is not
 pub bounded_of : (first : Image) (ms : List Done) (t : ℕ) (c : Image) → IsBounded (now_of (disk_after first ms)) → WasImage first ms t c → IsBounded c
 bounded_of first ms t c b w =
     let early = take w.moment ms in

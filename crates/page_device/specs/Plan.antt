@@ -1,6 +1,7 @@
 -- Which calls of a device in memory are to fail.
 use Rattle.std.specs.Prelude.{◌≡◌, ◌⊎◌, ℕ, Option, ◌+◌, ◌-◌, min, Some, Any, List}
 use Rattle.std.specs.Option.{option_map}
+use Rattle.page_device.specs.Device.{last_count}
 use Rattle.page_device.specs.declared.plan.CallKind.{CallKind}
 use Rattle.page_device.specs.declared.plan.CallKind.TheVariants.{Read, Write, Sync, Len}
 use Rattle.page_device.specs.declared.plan.Counts.{Counts}
@@ -22,7 +23,7 @@ with_count c Len n = record c { lens = n }
 
 -- one more, up to the last number
 abbrev pub counted : ℕ → ℕ
-counted n = min (n + 1) 18446744073709551615
+counted n = min (n + 1) last_count
 
 -- the next call of this kind fails: no calls are left, or the list names it by its kind and number
 abbrev pub Fails : CallKind → Plan → Type 0

@@ -3,6 +3,7 @@ use Rattle.std.proofs.Common.{◌≡◌, ◌≢◌, ℕ, List, [], ◌∷◌, fa
 use Rattle.xml_model.specs.Pyx.{form, no_form}
 use Rattle.pyx_text.proofs.Escapes.{nat_eq-differ}
 
+-- a line that begins with none of the five marks has no form
 pub form_other : (line : List ℕ) → ((rest : List ℕ) → line ≢ 40 ∷ rest) → ((rest : List ℕ) → line ≢ 41 ∷ rest) → ((rest : List ℕ) → line ≢ 65 ∷ rest)
     → ((rest : List ℕ) → line ≢ 45 ∷ rest) → ((rest : List ℕ) → line ≢ 63 ∷ rest) → form line ≡ no_form
 form_other [] b e a c i = refl

@@ -11,6 +11,7 @@ lacks_first c b bs lacks = lacks 0 (omega arith)
 pub lacks_rest : (c b : ℕ) (bs : List ℕ) → Lacks c (b ∷ bs) → Lacks c bs
 lacks_rest c b bs lacks i h = let less : suc i < length (b ∷ bs) = omega arith in lacks (suc i) less
 
+-- two lists in a row are replaced one by one
 pub replaced-append : (f : ℕ → List ℕ) (xs ys : List ℕ) → replaced f (xs ++ ys) ≡ replaced f xs ++ replaced f ys
 replaced-append f [] ys = refl
 replaced-append f (x ∷ xs) ys = ap (λ r. f x ++ r) (replaced-append f xs ys) ∙ sym (append_assoc (f x) (replaced f xs) (replaced f ys))
@@ -26,7 +27,7 @@ pub replaced-itself : (xs : List ℕ) → replaced (λ b. b ∷ []) xs ≡ xs
 replaced-itself [] = refl
 replaced-itself (x ∷ xs) = ap (λ r. x ∷ r) (replaced-itself xs)
 
--- what a cut list is replaced by: what stands before c by g, then c, then what stands behind it
+-- what a cut list is replaced by: what stands before c by g, then c, then what stands after it
 pub replaced-cut : (f g : ℕ → List ℕ) (c : ℕ) → ((b : ℕ) → b ≢ c → f b ≡ g b) → (bytes before behind : List ℕ) → IsCut c bytes before behind
     → replaced f bytes ≡ replaced g before ++ (f c ++ replaced f behind)
 replaced-cut f g c same bytes before behind cut =

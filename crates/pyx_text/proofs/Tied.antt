@@ -1,4 +1,4 @@
--- The names of the attributes behind the first sixteen.
+-- The names of the attributes after the first sixteen.
 use Rattle.std.proofs.Common.{◌≡◌, ℕ, ◌<◌, ◌≤◌, Bool, true, false, ◌||◌, List, [], ◌∷◌, ◌++◌, take, drop, length, refl, ap, sym, ◌∙◌, length-append, length-drop, ◌-◌, arith}
 use Rattle.std.proofs.lemmas.List.{drop_all}
 use Rattle.std.proofs.Math.Seq.{take-length}

@@ -122,7 +122,7 @@ pub(crate) fn add_characters(here: &mut Vec<Node>, value: Str) -> Result<(), Pyx
     }
 }
 
-/// Puts a node back with a text behind it.
+/// Puts a node back with a text after it.
 fn push_both(here: &mut Vec<Node>, node: Node, value: Str)
     requires { vec_len here.old + 2 ≤ vec_capacity here.old }
     ensures { here.new.items ≡ here.old.items ++ node ∷ nodes.Text value ∷ [] }

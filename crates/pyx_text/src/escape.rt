@@ -7,7 +7,7 @@ ghost use Rattle.pyx_text.specs.Replacing.{replaced, tab, line_or_tab};
 use std::alloc::Global;
 use xq_ast::{NoMemory, Str};
 
-/// What stands before the first `mark`, and what behind it.
+/// What stands before the first `mark`, and what after it.
 fn cut(text: &str, mark: char) -> Option<(&str, &str)>
     requires { mark < 128 }
     ensures { MatchOption result (Lacks mark text.now) (λ x. IsCut mark text.now x.0.now x.1.now) }
@@ -15,7 +15,7 @@ fn cut(text: &str, mark: char) -> Option<(&str, &str)>
     text.split_once(mark)
 }
 
-/// What stands behind the mark, where the text begins with it.
+/// What stands after the mark, where the text begins with it.
 pub(crate) fn behind(text: &str, mark: char) -> Option<&str>
     requires { mark < 128 }
     ensures { MatchOption result ((rest : List ℕ) → text.now ≢ mark ∷ rest) (λ x. text.now ≡ mark ∷ x.now) }

@@ -9,7 +9,7 @@ use crate::progress::Progress;
 use std::alloc::Global;
 use xq_ast::PyxRefusal;
 
-/// A name, and the text behind the first space after it.
+/// A name, and the text after the first space that follows it.
 #[derive(Drop)]
 struct Named<'a> {
     name: &'a str,

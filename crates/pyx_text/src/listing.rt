@@ -34,7 +34,7 @@ fn characters_of(alloc: Global, value: &Str) -> Result<Str, NoMemory>
     Ok(line)
 }
 
-// Adds what stands behind an instruction's target.
+// Adds what stands after an instruction's target.
 fn push_behind(line: &mut Str, value: &Str) -> Result<(), NoMemory>
     ensures { OnOk result (line.new ≡ line.old ++ behind_target value.now) }
 {

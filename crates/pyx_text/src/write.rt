@@ -66,7 +66,7 @@ fn send_mark<W: Sink>(
     send_bytes(to, pending, name.as_bytes())
 }
 
-// A value behind a mark or a space, to the line's end.
+// A value after a mark or a space, to the line's end.
 fn send_rest<W: Sink>(
     to: &mut W,
     pending: &mut Pending,
@@ -97,7 +97,7 @@ fn send_tag<W: Sink>(
     send_byte(to, pending, b'\n')
 }
 
-// What stands behind an instruction's target, to the line's end.
+// What stands after an instruction's target, to the line's end.
 fn send_behind<W: Sink>(to: &mut W, pending: &mut Pending, value: &Str) -> Result<(), WriteFault>
     ensures { Sends result (behind_target value.now ++ 10 ∷ [])
         (stage (W.written to.old) (W.faults to.old) pending.old)

@@ -1,4 +1,4 @@
--- What is spelled is read again, whatever stands behind it.
+-- What is spelled is read again, whatever stands after it.
 use Rattle.std.proofs.Common.{◌≡◌, ℕ, suc, ◌+◌, ◌-◌, ◌^◌, ◌<◌, Bool, true, false, cond, ltb, List, [], ◌∷◌, ◌++◌, length, take, drop, Option, Some, None, Result, Ok, Err, refl, sym, ap, subst, ◌∙◌, append_assoc, arith}
 use Rattle.std.specs.Prelude.{nat_lt, ◌==◌, ◌&&◌, ◌||◌, is_some, IsTrue}
 use Rattle.std.specs.FinMap as map
@@ -76,7 +76,7 @@ module _ (commit : ℕ) (s : Store) (name : List ℕ) where
       ∙ ap (λ (b : Bool). Ok (record { space = e.space; clustered = b }, rest)) (form_back e.clustered)))))
 
   module _ (before : List LogName) where
-    -- a name behind its kind and its length
+    -- a name after its kind and its length
     behind_kind : (sets : Bool) (entry : Option DocEntry) (text rest : List ℕ) → IsTrue (is_name name) → IsTrue (is_next_name (last_in before) sets name)
         → (sets || is_some (entry_of name s.names)) ≡ true
         → entry_if sets commit s name text ≡ Ok (entry, rest)
@@ -196,10 +196,12 @@ module _ (s : Store) (c : Change) (t : IsTaken s c) where
       ∙ bind_is (pages_at (length c.pages) [] (after_names c.names s) r4) (body_1 s bytes commit names) (c.pages, rest)
       (pages_again c.pages [] (after_names c.names s) rest t.pages))))))
 
+-- where both tests hold, the first does
 pub first_true : (a b : Bool) → (a && b) ≡ true → a ≡ true
 first_true true b e = refl
 first_true false b e = e
 
+-- where both tests hold, the second does
 pub second_true : (a b : Bool) → (a && b) ≡ true → b ≡ true
 second_true true b e = e
 second_true false b e = absurd cc
@@ -216,6 +218,7 @@ pages_are_housed (c ∷ cs) left h =
     bind_is (check (is_no_head c) left) (λ housed. pages_housed cs (left - length (page_change c))) tt (check_is _ _ (first_true _ _ h))
     ∙ pages_are_housed cs (left - length (page_change c)) (second_true _ _ h)
 
+-- a change that the store takes, spelled as a record before some gate, is read again from its length on, up to that gate
 pub record_again : (s : Store) (c : Change) (gate : ℕ) (rest : List ℕ) → IsTaken s c → record_at s (drop 1 (record_of c) ++ gate ∷ rest) ≡ Ok (c, gate ∷ rest)
 unfolding record_at
 record_again s c gate rest t =
@@ -235,12 +238,13 @@ record_again s c gate rest t =
     (names_are_housed (with_images no_image c.pages pages) c.names (length r1 - 16) t.names_housed)
     ∙ pages_are_housed c.pages (length r1 - 24 - names_length c.names) t.pages_housed)))))
 
--- behind a record stands a gate
+-- after a record stands a gate
 gate_behind : (cs : List Change) (end : List ℕ) → IsClosed end → (gate : ℕ) × (rest : List ℕ) × (flat_map record_of cs ++ end ≡ gate ∷ rest)
 gate_behind [] [] shut = absurd shut
 gate_behind [] (gate ∷ rest) shut = (gate, rest, refl)
 gate_behind (c ∷ cs) end shut = (1, ((number (length (body_of c)) ++ body_of c) ++ flat_map record_of cs) ++ end, refl)
 
+-- changes that follow each other, spelled as records up to a closed gate, are these records
 pub records_again : (cs : List Change) (s : Store) (end : List ℕ) → AreTaken s cs → IsClosed end → AreRecords s cs (flat_map record_of cs ++ end) end
 records_again [] s end t shut = (refl, shut)
 records_again (c ∷ cs) s end t shut =

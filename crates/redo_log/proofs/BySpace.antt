@@ -49,6 +49,7 @@ module _ (last : Option PageChange) (spaces : Spaces) (bytes : List ℕ) where
   through (Ok c) = by_commit c
   through (Err n) = refl
 
+  -- reading a page's place by its space alone gives what reading it field by field gives
   pub by_space_is : id_by_space last spaces bytes ≡ id_at last spaces bytes
   unfolding id_at id_by_space
   by_space_is = through (number_at bytes)

@@ -13,9 +13,11 @@ use Rattle.redo_log.specs.Taken.{AreTaken}
 use Rattle.redo_log.specs.Scan.{Scans, store_before}
 use Rattle.redo_log.proofs.Takes.{rest_is}
 
+-- the place at this byte of this file
 abbrev pub place_of : Which → ℕ → LogEnd
 place_of file at = record { file = file; at = at }
 
+-- Records that were read from a place on, spelled so and taken, with the end where the bytes that are left begin, are what a scan answers.
 pub scans : (file : Which) (at : ℕ) (base : LogBase) (c : Image) (s : Scanned) (bytes rest : List ℕ) → bytes ≡ drop at (bytes_of c file)
     → s.end ≡ place_of file (at + (length bytes - length rest))
     → AreRecords (store_before base) s.changes bytes rest → bytes ≡ flat_map record_of s.changes ++ rest → AreTaken (store_before base) s.changes

@@ -12,20 +12,24 @@ use Rattle.redo_log.specs.Append.{IsAtRest, recorded, IsInDoubt, Settles, next_e
 
 -- the next gate is closed behind a record, whatever the record's own gate is
 module _ (file : Which) (front : List ℕ) (gate : ℕ) (body rest : List ℕ) where
+  -- the bytes before the next gate: the front, the record's gate, the body's length and the body
   abbrev pub through : List ℕ
   through = front ++ gate ∷ (number (length body) ++ body)
 
   regrouped : front ++ gate ∷ (tail_of body ++ rest) ≡ through ++ 0 ∷ rest
   regrouped = simp append_assoc
 
+  -- up to the next gate there are the bytes of the front, and as many as the record takes after its own gate with the next one
   pub length-through : length through ≡ length front + length (tail_of body)
   length-through = simp length-append (omega arith)
 
+  -- an image that has the record has a closed gate behind its body
   pub next_closed : (i : Image) → bytes_of i file ≡ front ++ gate ∷ (tail_of body ++ rest) → Before file through i
   next_closed i is = record { gate = 0; shut = λ e. omega arith; rest = rest; is = is ∙ regrouped }
 
 -- after Ok the log may be appended to behind the record
 module _ (end : LogEnd) (body : List ℕ) (c : Image) (old : Image → Type 0) (here : old c) (r : IsAtRest end c old) where
+  -- where each image has the record with its gate open, the log is at rest at the next gate
   pub rests_next : (next : LogEnd) (new : Image → Type 0) (d : Image) → next.file ≡ end.file → next.at ≡ end.at + length (tail_of body) → new d
       → FileIs end.file (recorded end body c) new → IsAtRest next d new
   rests_next next new d file_is at_is is only =
@@ -57,6 +61,7 @@ module _ (end : LogEnd) (body : List ℕ) (c : Image) (old : Image → Type 0) (
           is = s.synced i is ∙ file_is;
         })
 
+    -- where the gate of a record in doubt is settled, the log's place is the next gate or the old one by the answer, and the log is at rest there
     pub settles : (sure : Bool) (next : LogEnd) → next ≡ (if sure then next_end end body else end) → IsSettled end.file end.at c new sure
         → Settles end next body c new sure
     settles sure next moved s = record {

@@ -20,6 +20,7 @@ module _ {A : Type 0} where
   find-by_bytes [] q = refl
   find-by_bytes (e ∷ es) q = ap (cond (eq_by_cmp (slice_cmp nat_cmp) q (string_bytes e.0)) (Some e.1)) (find-by_bytes es q)
 
+  -- the map by the bytes of its keys that a tree of texts stands for
   abbrev pub names_of : BTreeMap (String A) DocEntry → Names
   names_of m = finite.from_entries (by_bytes m.entries)
 
@@ -35,11 +36,13 @@ module _ {A : Type 0} where
       ∙ (ap (λ (b : Bool). cond b w (tree.get_by_text m q)) (sym (is_eq-slice_cmp bs q) ∙ (eq_by_cmp_equiv nat_list_cmp_total).symm bs q)
       ∙ ap (cond (eq_by_cmp (slice_cmp nat_cmp) q bs) w) (sym (get-names_of m q))))
 
+  -- an insertion into the tree is one into the map, at the key's bytes
   pub names_of-insert : (m n : BTreeMap (String A) DocEntry) (bs : List ℕ) (e : DocEntry)
       → UpdatesBy string_cmp (λ k. slice_cmp nat_cmp bs (string_bytes k)) m n (Some e) → names_of n ≡ finite.insert (names_of m) bs e
   names_of-insert m n bs e u = finite.same_map nat_list_cmp_total (finite.slice_cmp-IsAntisymmetric finite.nat_cmp-IsAntisymmetric) _ _
       (λ q. after_update m n bs (Some e) u q ∙ sym (finite.get-insert nat_list_cmp_total (names_of m) bs e q))
 
+  -- a removal from the tree is one from the map, at the key's bytes
   pub names_of-remove : (m n : BTreeMap (String A) DocEntry) (bs : List ℕ) → UpdatesBy string_cmp (λ k. slice_cmp nat_cmp bs (string_bytes k)) m n None
       → names_of n ≡ finite.remove (names_of m) bs
   names_of-remove m n bs u = finite.same_map nat_list_cmp_total (finite.slice_cmp-IsAntisymmetric finite.nat_cmp-IsAntisymmetric) _ _

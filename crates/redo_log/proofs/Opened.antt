@@ -6,6 +6,7 @@ use Rattle.std.specs.List.{list_all}
 use Rattle.std.specs.Int.{w64, from_be_bytes}
 use Rattle.std.proofs.lemmas.Bool.{eqb-true}
 use Rattle.std.proofs.lemmas.List.{append-nil, length-append}
+use Rattle.xq_ast.specs.declared.limits.TheConstants.{DOCUMENT_NAME_BYTES_MAX}
 use Rattle.page_bytes.specs.declared.ids.DocEntry.{DocEntry}
 use Rattle.page_bytes.specs.declared.ids.PageId.{PageId}
 use Rattle.page_bytes.specs.declared.lists.PageChange.{PageChange}
@@ -283,7 +284,7 @@ records_taken (c ∷ cs) s bytes end fits r =
     let t = record_takes s r.0 (c, r.1) (λ i. behind (suc i)) r.3 in
     (record_taken s r.0 (c, r.1) (λ i. behind (suc i)) r.3, records_taken cs (after c s) r.1 end t.0.rest_fits r.4)
 
--- one record more may be made behind records that were
+-- one record more may be made after records that were
 pub records_go_on : (cs : List Change) (s : Store) (c : Change) → AreTaken s cs → IsTaken (after_all cs s) c → AreTaken s (cs ++ c ∷ [])
 records_go_on [] s c t one = (one, tt)
 records_go_on (d ∷ cs) s c t one = (t.0, records_go_on cs (after d s) c t.1 one)
@@ -328,11 +329,12 @@ records_are_sure (c ∷ cs) (d ∷ ds) s bytes end left r q =
 
 -- ---- names
 
-all_short : (commit : ℕ) (done : List LogName) (s : Store) (ns : List LogName) → AreNamesTaken commit done s ns → All (λ n. length n.name ≤ 255) ns
+all_short : (commit : ℕ) (done : List LogName) (s : Store) (ns : List LogName) → AreNamesTaken commit done s ns
+    → All (λ n. length n.name ≤ DOCUMENT_NAME_BYTES_MAX) ns
 all_short commit done s [] t k d lt = absurd (omega arith)
 all_short commit done s (n ∷ ns) t zero d lt = t.0.long
 all_short commit done s (n ∷ ns) t (suc k) d lt = all_short commit (done ++ n ∷ []) (after_name n s) ns t.1 k d (omega arith)
 
 -- a name that is taken is short
-pub names_are_short : (s : Store) (c : Change) → IsTaken s c → All (λ n. length n.name ≤ 255) c.names
+pub names_are_short : (s : Store) (c : Change) → IsTaken s c → All (λ n. length n.name ≤ DOCUMENT_NAME_BYTES_MAX) c.names
 names_are_short s c t = all_short c.commit [] s c.names t.names

@@ -186,5 +186,6 @@ names_keep : (commit : ℕ) (done : List LogName) (s : Store) (ns : List LogName
 names_keep commit done s [] own t = own
 names_keep commit done s (n ∷ ns) own t = names_keep commit (done ++ n ∷ []) (after_name n s) ns (name_keeps commit s n.name n.entry own t.0.entry) t.1
 
+-- a change that the store takes leaves each document a space of its own, and no other space in use
 pub spaces_stay_own : (s : Store) (c : Change) → AreOwn s.names s.spaces → IsTaken s c → AreOwn (after c s).names (after c s).spaces
 spaces_stay_own s c own t = names_keep c.commit [] s c.names own t.names

@@ -20,6 +20,7 @@ use Rattle.redo_log.specs.Store.{entry_of, has_space, has_commit, after_name, af
 use Rattle.redo_log.specs.Reading.{◌>>=◌, IsBytes, last_in, check, is_name, is_next_name, is_commit_of, is_space_of, is_next_commit, is_next_space, is_next_page, all_housed, number_in, number_at, byte_at, bytes_at, entry_at, entry_if, name_at, names_at, id_at, image_if, page_at, pages_at, body_at, record_at, AreRecords}
 use Rattle.redo_log.proofs.Scans.{byte_is}
 
+-- what is left of bytes is bytes
 pub IsBytes-drop : (n : ℕ) (bytes : List ℕ) → IsBytes bytes → IsBytes (drop n bytes)
 IsBytes-drop n bytes h i = rw get_or-drop (h (n + i))
 
@@ -40,6 +41,7 @@ pub check_ok : (b : Bool) (n : ℕ) (u : Unit {0}) → check b n ≡ Ok u → b 
 check_ok true n u e = refl
 check_ok false n u e = absurd cc
 
+-- a test that gave an answer was false, and the answer is what it guards
 pub guard_ok : {A : Type 0} (b : Bool) (d : ℕ) (x y : A) → cond b (Err d) (Ok x) ≡ Ok y → (b ≡ false) × (x ≡ y)
 guard_ok true d x y e = absurd cc
 guard_ok false d x y e = (refl, cc)
@@ -47,6 +49,7 @@ guard_ok false d x y e = (refl, cc)
 abbrev done : {A : Type 0} → A → Result A ℕ
 done x = Ok x
 
+-- equal answers have equal values
 pub ok_is : {A : Type 0} (x y : A) → done x ≡ done y → x ≡ y
 ok_is x y e = cc
 
@@ -55,11 +58,13 @@ pub record Takes (bytes text rest : List ℕ) : Type 0 where
   pub parts : bytes ≡ text ++ rest
   pub rest_fits : IsBytes rest
 
+-- what two readers take in turn is taken together
 pub takes-then : (a x b y c : List ℕ) → Takes a x b → Takes b y c → Takes a (x ++ y) c
 takes-then a x b y c p q = record { parts = p.parts ∙ ap (λ (t : List ℕ). x ++ t) q.parts ∙ sym (append_assoc x y c); rest_fits = q.rest_fits }
 
 -- ---- fields
 
+-- a number that is read is spelled in the eight bytes that were taken
 pub number_takes : (bytes : List ℕ) (n : ℕ) (rest : List ℕ) → IsBytes bytes → number_at bytes ≡ Ok (n, rest) → Takes bytes (number n) rest
 unfolding number number_in
 number_takes bytes n rest fits e =
@@ -75,9 +80,11 @@ number_takes bytes n rest fits e =
           subst IsBytes rest-is (IsBytes-drop 8 bytes fits);
     }
 
+-- a byte that is read is the byte that was taken
 pub byte_takes : (bytes : List ℕ) (b : ℕ) (rest : List ℕ) → IsBytes bytes → byte_at bytes ≡ Ok (b, rest) → Takes bytes (b ∷ []) rest
 byte_takes bytes b rest fits e = let is = byte_is bytes b rest e in record { parts = is; rest_fits = λ i. subst IsBytes is fits (suc i) }
 
+-- where n bytes are read, they are the n bytes that were taken
 pub bytes_take : (n : ℕ) (bytes text rest : List ℕ) → IsBytes bytes → bytes_at n bytes ≡ Ok (text, rest) → Takes bytes text rest × (length text ≡ n)
 bytes_take n bytes text rest fits e =
     let g = guard_ok (ltb (length bytes) n) (length bytes) (take n bytes, drop n bytes) (text, rest) e in
@@ -100,24 +107,31 @@ form_is (suc zero) lt = refl
 form_is (suc (suc b)) lt = absurd (omega (arith, ltb-true _ _ lt))
 
 module _ (commit : ℕ) (s : Store) (name bytes : List ℕ) where
+  -- the space of a commit and an ordinal that were read
   abbrev pub space_in : ℕ × List ℕ → ℕ × List ℕ → Space
   space_in c o = record { commit = c.0; ordinal = o.0 }
 
+  -- a set's entry once its form is read: the form is 0 or 1
   abbrev pub entry_1 : ℕ × List ℕ → ℕ × List ℕ → ℕ × List ℕ → Result (DocEntry × List ℕ) ℕ
   entry_1 c o form = check (nat_lt form.0 2) (length o.1) >>= λ known. Ok (record { space = space_in c o; clustered = form.0 == 1 }, form.1)
 
+  -- a set's entry from its form on
   abbrev pub entry_2 : ℕ × List ℕ → ℕ × List ℕ → Result (DocEntry × List ℕ) ℕ
   entry_2 c o = byte_at o.1 >>= entry_1 c o
 
+  -- a set's entry once its ordinal is read: the space is the name's own, or new
   abbrev pub entry_3 : ℕ × List ℕ → ℕ × List ℕ → Result (DocEntry × List ℕ) ℕ
   entry_3 c o = check (is_space_of (entry_of name s.names) s.spaces (space_in c o)) (length bytes) >>= λ own. entry_2 c o
 
+  -- a set's entry from its ordinal on
   abbrev pub entry_4 : ℕ × List ℕ → Result (DocEntry × List ℕ) ℕ
   entry_4 c = number_at c.1 >>= entry_3 c
 
+  -- a set's entry once its commit is read: it is the record's, or the one that the name's space has
   abbrev pub entry_5 : ℕ × List ℕ → Result (DocEntry × List ℕ) ℕ
   entry_5 c = check (is_commit_of (entry_of name s.names) commit c.0) (length bytes) >>= λ came. entry_4 c
 
+  -- an entry that is read is spelled in what was taken: its space, and its form
   pub entry_takes : (x : DocEntry × List ℕ) → IsBytes bytes → entry_at commit s name bytes ≡ Ok x
       → Takes bytes (space_bytes x.0.space ++ form_byte x.0.clustered ∷ []) x.1
   unfolding entry_at
@@ -158,30 +172,39 @@ entry_if_takes true commit s name bytes x fits e =
     )
 
 module _ (commit : ℕ) (before : List LogName) (s : Store) (bytes : List ℕ) where
+  -- a change of a name once its entry is read
   abbrev pub name_1 : ℕ × List ℕ → List ℕ × List ℕ → Option DocEntry × List ℕ → Result (LogName × List ℕ) ℕ
   name_1 kind name entry = Ok (record { name = name.0; entry = entry.0 }, entry.1)
 
+  -- a change of a name from its entry on
   abbrev pub name_2 : ℕ × List ℕ → List ℕ × List ℕ → Result (LogName × List ℕ) ℕ
   name_2 kind name = entry_if (kind.0 == 1) commit s name.0 name.1 >>= name_1 kind name
 
+  -- a change of a name once the name is in order: a name that is dropped is there
   abbrev pub name_3 : ℕ × List ℕ → List ℕ × List ℕ → Result (LogName × List ℕ) ℕ
   name_3 kind name = check (kind.0 == 1 || is_some (entry_of name.0 s.names)) (length kind.1) >>= λ there. name_2 kind name
 
+  -- a change of a name once its text is right: it comes after the one before it
   abbrev pub name_4 : ℕ × List ℕ → List ℕ × List ℕ → Result (LogName × List ℕ) ℕ
   name_4 kind name = check (is_next_name (last_in before) (kind.0 == 1) name.0) (length kind.1) >>= λ next. name_3 kind name
 
+  -- a change of a name once its bytes are read: they are a name
   abbrev pub name_5 : ℕ × List ℕ → List ℕ × List ℕ → Result (LogName × List ℕ) ℕ
   name_5 kind name = check (is_name name.0) (length kind.1) >>= λ good. name_4 kind name
 
+  -- a change of a name once its length is read: so many bytes follow
   abbrev pub name_6 : ℕ × List ℕ → ℕ × List ℕ → Result (LogName × List ℕ) ℕ
   name_6 kind long = bytes_at long.0 long.1 >>= name_5 kind
 
+  -- a change of a name from its length on
   abbrev pub name_7 : ℕ × List ℕ → Result (LogName × List ℕ) ℕ
   name_7 kind = byte_at kind.1 >>= name_6 kind
 
+  -- a change of a name once its kind is read: it is 0 or 1
   abbrev pub name_8 : ℕ × List ℕ → Result (LogName × List ℕ) ℕ
   name_8 kind = check (nat_lt kind.0 2) (length bytes) >>= λ known. name_7 kind
 
+  -- a change of a name that is read is spelled in what was taken
   pub name_takes : (x : LogName × List ℕ) → IsBytes bytes → name_at commit before s bytes ≡ Ok x → Takes bytes (name_change x.0) x.1
   unfolding name_at
   name_takes x fits e =
@@ -207,6 +230,7 @@ module _ (commit : ℕ) (before : List LogName) (s : Store) (bytes : List ℕ) w
       (ap (λ (k : ℕ). k ∷ (name_bytes name.0.0 ++ t3.0)) (sym (form_is kind.0.0 (check_ok (nat_lt kind.0.0 2) (length bytes) known.0 known.1)))
       ∙ sym t3.2) all)
 
+-- n changes of names that are read, after those that were done, are spelled in what was taken
 pub names_take : (commit n : ℕ) (done : List LogName) (s : Store) (bytes : List ℕ) (x : List LogName × List ℕ) → IsBytes bytes
     → names_at commit n done s bytes ≡ Ok x
     → (more : List LogName) × (x.0 ≡ done ++ more) × (length more ≡ n) × Takes bytes (flat_map name_change more) x.1
@@ -230,27 +254,35 @@ names_take commit (suc n) done s bytes x fits e =
 -- ---- pages
 
 module _ (last : Option PageChange) (spaces : Spaces) (bytes : List ℕ) where
+  -- the place of a commit, an ordinal and a number that were read
   abbrev pub id_in : ℕ × List ℕ → ℕ × List ℕ → ℕ × List ℕ → PageId
   id_in c o n = record { space = record { commit = c.0; ordinal = o.0 }; number = n.0 }
 
+  -- a page's place once its number is read: it is above the one before it
   abbrev pub id_1 : ℕ × List ℕ → ℕ × List ℕ → ℕ × List ℕ → Result (PageId × List ℕ) ℕ
   id_1 c o n = check (is_next_page last (id_in c o n)) (length bytes) >>= λ next. Ok (id_in c o n, n.1)
 
+  -- a page's place from its number on
   abbrev pub id_2 : ℕ × List ℕ → ℕ × List ℕ → Result (PageId × List ℕ) ℕ
   id_2 c o = number_at o.1 >>= id_1 c o
 
+  -- the space is not below that of the page before, and is a document's
   abbrev pub is_own : ℕ × List ℕ → ℕ × List ℕ → Bool
   is_own c o = is_next_space last (record { commit = c.0; ordinal = o.0 }) && has_space spaces (record { commit = c.0; ordinal = o.0 })
 
+  -- a page's place once its ordinal is read: its space is in order and a document's
   abbrev pub id_3 : ℕ × List ℕ → ℕ × List ℕ → Result (PageId × List ℕ) ℕ
   id_3 c o = check (is_own c o) (length bytes) >>= λ own. id_2 c o
 
+  -- a page's place from its ordinal on
   abbrev pub id_4 : ℕ × List ℕ → Result (PageId × List ℕ) ℕ
   id_4 c = number_at c.1 >>= id_3 c
 
+  -- a page's place once its commit is read: it is in order, and some document's space has it
   abbrev pub id_5 : ℕ × List ℕ → Result (PageId × List ℕ) ℕ
   id_5 c = check (is_next_commit last c.0 && has_commit spaces c.0) (length bytes) >>= λ came. id_4 c
 
+  -- a page's place that is read is spelled in what was taken
   pub id_takes : (x : PageId × List ℕ) → IsBytes bytes → id_at last spaces bytes ≡ Ok x → Takes bytes (space_bytes x.0.space ++ number x.0.number) x.1
   unfolding id_at
   id_takes x fits e =
@@ -278,21 +310,27 @@ image_takes true bytes x fits e =
     (d.0.0, (bytes_take 4096 bytes d.0.0 d.0.1 fits d.1).0, refl)
 
 module _ (before : List PageChange) (s : Store) (bytes : List ℕ) where
+  -- a change of a page once its image is read
   abbrev pub page_1 : PageId × List ℕ → Option (List ℕ) × List ℕ → Result (PageChange × List ℕ) ℕ
   page_1 id image = Ok (record { id = id.0; page = image.0 }, image.1)
 
+  -- a change of a page from its image on
   abbrev pub page_2 : PageId × List ℕ → ℕ × List ℕ → Result (PageChange × List ℕ) ℕ
   page_2 id kind = image_if (kind.0 == 1) kind.1 >>= page_1 id
 
+  -- a change of a page once its kind is known: a page that is gone was there
   abbrev pub page_3 : PageId × List ℕ → ℕ × List ℕ → Result (PageChange × List ℕ) ℕ
   page_3 id kind = check (kind.0 == 1 || map.contains_key s.pages id.0) (length bytes) >>= λ there. page_2 id kind
 
+  -- a change of a page once its kind is read: it is 0 or 1
   abbrev pub page_4 : PageId × List ℕ → ℕ × List ℕ → Result (PageChange × List ℕ) ℕ
   page_4 id kind = check (nat_lt kind.0 2) (length id.1) >>= λ known. page_3 id kind
 
+  -- a change of a page from its kind on
   abbrev pub page_5 : PageId × List ℕ → Result (PageChange × List ℕ) ℕ
   page_5 id = byte_at id.1 >>= page_4 id
 
+  -- a change of a page that is read is spelled in what was taken
   pub page_takes : (x : PageChange × List ℕ) → IsBytes bytes → page_at before s bytes ≡ Ok x → Takes bytes (page_change x.0) x.1
   unfolding page_at
   page_takes x fits e =
@@ -312,6 +350,7 @@ module _ (before : List PageChange) (s : Store) (bytes : List ℕ) where
       let made : PageChange × List ℕ = (record { id = id.0.0; page = image.0.0 }, image.0.1) in
       subst (λ (y : PageChange × List ℕ). Takes bytes (page_change y.0) y.1) (ok_is made x image.2) all
 
+-- n changes of pages that are read, after those that were done, are spelled in what was taken
 pub pages_take : (n : ℕ) (done : List PageChange) (s : Store) (bytes : List ℕ) (x : List PageChange × List ℕ) → IsBytes bytes → pages_at n done s bytes ≡ Ok x
     → (more : List PageChange) × (x.0 ≡ done ++ more) × (length more ≡ n) × Takes bytes (flat_map page_change more) x.1
 unfolding pages_at
@@ -334,24 +373,31 @@ pages_take (suc n) done s bytes x fits e =
 -- ---- records
 
 module _ (s : Store) (bytes : List ℕ) where
+  -- a body once its pages are read
   abbrev pub body_1 : ℕ × List ℕ → List LogName × List ℕ → List PageChange × List ℕ → Result (Change × List ℕ) ℕ
   body_1 commit names pages = Ok (record { commit = commit.0; names = names.0; pages = pages.0 }, pages.1)
 
+  -- a body from its pages on
   abbrev pub body_2 : ℕ × List ℕ → List LogName × List ℕ → ℕ × List ℕ → Result (Change × List ℕ) ℕ
   body_2 commit names paged = pages_at paged.0 [] (after_names names.0 s) paged.1 >>= body_1 commit names
 
+  -- a body from the count of its pages on
   abbrev pub body_3 : ℕ × List ℕ → List LogName × List ℕ → Result (Change × List ℕ) ℕ
   body_3 commit names = number_at names.1 >>= body_2 commit names
 
+  -- a body from its names on
   abbrev pub body_4 : ℕ × List ℕ → ℕ × List ℕ → Result (Change × List ℕ) ℕ
   body_4 commit named = names_at commit.0 named.0 [] s named.1 >>= body_3 commit
 
+  -- a body from the count of its names on
   abbrev pub body_5 : ℕ × List ℕ → Result (Change × List ℕ) ℕ
   body_5 commit = number_at commit.1 >>= body_4 commit
 
+  -- a body once its commit is read: it is the next one
   abbrev pub body_6 : ℕ × List ℕ → Result (Change × List ℕ) ℕ
   body_6 commit = check (commit.0 == s.commit + 1) (length bytes) >>= λ next. body_5 commit
 
+  -- a body that is read is spelled in what was taken
   pub body_takes : (x : Change × List ℕ) → IsBytes bytes → body_at s bytes ≡ Ok x → Takes bytes (body_of x.0) x.1
   unfolding body_at
   body_takes x fits e =
@@ -380,20 +426,25 @@ module _ (s : Store) (bytes : List ℕ) where
       (subst (λ (z : List LogName × List PageChange). Takes bytes (body_of (record { commit = commit.0.0; names = z.0; pages = z.1 })) pages.0.1)
       (λ k. (sym t2.1 k, sym t4.1 k)) counted)
 
--- what is read is spelled so, and a gate stands behind it
+-- what is read is spelled so, and a gate stands after it
 module _ (s : Store) (bytes : List ℕ) where
+  -- a record once its length is right: each document has its page 0
   abbrev pub record_1 : ℕ × List ℕ → Change × List ℕ → Result (Change × List ℕ) ℕ
   record_1 long body = all_housed body.0 (after_names body.0.names s).pages (length long.1) >>= λ housed. Ok body
 
+  -- a record once a gate follows: the length is the body's
   abbrev pub record_2 : ℕ × List ℕ → Change × List ℕ → Result (Change × List ℕ) ℕ
   record_2 long body = check (long.0 + length body.1 == length long.1) (length bytes) >>= λ exact. record_1 long body
 
+  -- a record once its body is read: a gate follows
   abbrev pub record_3 : ℕ × List ℕ → Change × List ℕ → Result (Change × List ℕ) ℕ
   record_3 long body = check (nat_lt 0 (length body.1)) 0 >>= λ gate. record_2 long body
 
+  -- a record from its body on
   abbrev pub record_4 : ℕ × List ℕ → Result (Change × List ℕ) ℕ
   record_4 long = body_at s long.1 >>= record_3 long
 
+  -- a record that is read is spelled in what was taken, its length first, and something is left after it
   pub record_takes : (x : Change × List ℕ) → IsBytes bytes → record_at s bytes ≡ Ok x
       → Takes bytes (number (length (body_of x.0)) ++ body_of x.0) x.1 × (0 < length x.1)
   unfolding record_at
@@ -427,6 +478,7 @@ pub rest_is : (bytes front rest : List ℕ) → bytes ≡ front ++ rest → drop
 rest_is bytes front rest is = ap (drop (length bytes - length rest)) is
     ∙ drop_at front rest (length bytes - length rest) (omega (arith, ap length is, length-append front rest))
 
+-- a record that is read behind an open gate is spelled there, and the rest stands after it
 pub record_spelled : (s : Store) (bytes : List ℕ) (c : Change) (rest : List ℕ) → IsBytes bytes → record_at s bytes ≡ Ok (c, rest)
     → 1 ∷ bytes ≡ record_of c ++ rest
 record_spelled s bytes c rest fits e = ap (λ (l : List ℕ). 1 ∷ l) (record_takes s bytes (c, rest) fits e).0.parts

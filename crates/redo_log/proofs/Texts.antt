@@ -5,6 +5,7 @@ use Rattle.redo_log.specs.Reading.{is_name}
 use Rattle.std.specs.Str.{is_utf8}
 use Rattle.std.proofs.lemmas.Str.{IsUtf8-from_is_utf8}
 
+-- where bytes are not UTF-8, the test for it is false
 pub no_text : (bytes : List ℕ) → (IsUtf8 bytes → ⊥) → false ≡ is_utf8 bytes
 no_text bytes not = by_test (is_utf8 bytes) (λ is. absurd (not (IsUtf8-from_is_utf8 bytes is)))
   where

@@ -9,6 +9,7 @@ use Rattle.std.specs.Cmp.Lexicographic.{slice_cmp}
 use Rattle.std.specs.declared.cmp.Ordering.{Ordering}
 use Rattle.std.specs.declared.cmp.Ordering.TheVariants.{Less, Equal, Greater}
 use Rattle.std.specs.FinMap as map
+use Rattle.page_bytes.specs.declared.page.TheConstants.{PAGE_BYTES}
 use Rattle.page_bytes.specs.declared.ids.Space.{Space}
 use Rattle.page_bytes.specs.declared.ids.PageId.{PageId}
 use Rattle.page_bytes.specs.declared.ids.DocEntry.{DocEntry}
@@ -95,7 +96,7 @@ entry_if true commit s name bytes = do
   e ← entry_at commit s name bytes
   Ok (Some e.0, e.1)
 
--- One change of a name, behind those that are done. A wrong name is named by its length.
+-- One change of a name, after those that are done. A wrong name is named by its length.
 unfoldable pub name_at : ℕ → List LogName → Store → List ℕ → Result (LogName × List ℕ) ℕ
 name_at commit done s bytes = do
   kind ← byte_at bytes
@@ -108,7 +109,7 @@ name_at commit done s bytes = do
   entry ← entry_if (kind.0 == 1) commit s name.0 name.1
   Ok (record { name = name.0; entry = entry.0 }, entry.1)
 
--- So many more changes of names, behind those that are done. The store is as these leave it.
+-- So many more changes of names, after those that are done. The store is as these leave it.
 unfoldable pub names_at : ℕ → ℕ → List LogName → Store → List ℕ → Result (List LogName × List ℕ) ℕ
 names_at commit zero done s bytes = Ok (done, bytes)
 names_at commit (suc n) done s bytes = do
@@ -158,10 +159,10 @@ id_by_space last spaces bytes = do
 abbrev pub image_if : Bool → List ℕ → Result (Option (List ℕ) × List ℕ) ℕ
 image_if false bytes = Ok (None, bytes)
 image_if true bytes = do
-  page ← bytes_at 4096 bytes
+  page ← bytes_at PAGE_BYTES bytes
   Ok (Some page.0, page.1)
 
--- One page, behind those that are done. A page that is gone was there.
+-- One page, after those that are done. A page that is gone was there.
 unfoldable pub page_at : List PageChange → Store → List ℕ → Result (PageChange × List ℕ) ℕ
 page_at done s bytes = do
   id ← id_at (last_in done) s.spaces bytes

@@ -47,7 +47,7 @@ image_bytes (Some page) = 1 ∷ page
 abbrev pub page_change : PageChange → List ℕ
 page_change c = id_bytes c.id ++ image_bytes c.page
 
--- the commit, the changes of names behind their count, the pages behind theirs
+-- the commit, the changes of names after their count, the pages after theirs
 abbrev pub body_of : Change → List ℕ
 body_of c = number c.commit ++ number (length c.names) ++ flat_map name_change c.names ++ number (length c.pages) ++ flat_map page_change c.pages
 

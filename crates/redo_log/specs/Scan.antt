@@ -25,7 +25,7 @@ pub record Scans (file : Which) (at : ℕ) (base : LogBase) (c : Image) (s : Sca
   pub spelled : drop at (bytes_of c file) ≡ flat_map record_of s.changes ++ drop s.end.at (bytes_of c file)
   pub taken : AreTaken (store_before base) s.changes
 
--- the first wrong field behind the records that are right
+-- the first wrong field after the records that are right
 pub record IsNoStore (file : Which) (at : ℕ) (base : LogBase) (c : Image) (wrong : ℕ) : Type 0 where
   pub changes : List Change
   pub left : ℕ

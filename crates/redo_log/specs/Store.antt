@@ -112,7 +112,7 @@ with_pages c s = record { commit = c.commit; names = s.names; spaces = s.spaces;
 abbrev pub after : Change → Store → Store
 after c s = with_pages c (after_names c.names s)
 
--- what the record behind these stands on
+-- what the record after these stands on
 abbrev pub after_all : List Change → Store → Store
 after_all [] s = s
 after_all (c ∷ cs) s = after_all cs (after c s)

@@ -2,6 +2,8 @@
 use Rattle.std.specs.Prelude.{◌≡◌, ℕ, ◌+◌, ◌<◌, ◌≤◌, ◌^◌, IsTrue, List, [], ◌∷◌, ◌++◌, length, Option, Some, None, is_some, true}
 use Rattle.std.specs.List.{list_all}
 use Rattle.std.specs.FinMap as map
+use Rattle.xq_ast.specs.declared.limits.TheConstants.{DOCUMENT_NAME_BYTES_MAX}
+use Rattle.page_bytes.specs.declared.page.TheConstants.{PAGE_BYTES}
 use Rattle.page_bytes.specs.declared.ids.Space.{Space}
 use Rattle.page_bytes.specs.declared.ids.DocEntry.{DocEntry}
 use Rattle.page_bytes.specs.Known.{Spaces}
@@ -30,7 +32,7 @@ IsEntryTaken commit s name (Some e) =
 
 pub record IsNameTaken (commit : ℕ) (done : List LogName) (s : Store) (n : LogName) : Type 0 where
   pub name : IsTrue (is_name n.name)
-  pub long : length n.name ≤ 255
+  pub long : length n.name ≤ DOCUMENT_NAME_BYTES_MAX
   pub next : IsTrue (is_next_name (last_in done) (is_some n.entry) n.name)
   pub entry : IsEntryTaken commit s n.name n.entry
 
@@ -41,7 +43,7 @@ AreNamesTaken commit done s (n ∷ ns) = IsNameTaken commit done s n × AreNames
 -- a page that is gone was there; an image has 4,096 bytes
 abbrev pub IsImageTaken : Store → PageId → Option (List ℕ) → Type 0
 IsImageTaken s id None = IsTrue (map.contains_key s.pages id)
-IsImageTaken s id (Some page) = length page ≡ 4096
+IsImageTaken s id (Some page) = length page ≡ PAGE_BYTES
 
 pub record IsPageTaken (done : List PageChange) (s : Store) (c : PageChange) : Type 0 where
   pub commit : c.id.space.commit < 2 ^ 64

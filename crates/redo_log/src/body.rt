@@ -1,6 +1,7 @@
 //! A record's bytes, made before it is appended.
 ghost use Rattle.std.specs.Prelude.{◌≡◌, ◌≤◌, ◌++◌, ◌∷◌, [], Option, Some, All, List, ℕ, length, drop, IfOk, OnOk};
 ghost use Rattle.std.specs.List.{flat_map};
+ghost use Rattle.xq_ast.specs.declared.limits.TheConstants.{DOCUMENT_NAME_BYTES_MAX};
 ghost use Rattle.page_bytes.specs.declared.ids.DocEntry.{DocEntry};
 ghost use Rattle.redo_log.specs.Record.{number, name_bytes, space_bytes, form_byte, entry_bytes, id_bytes, named_bytes, name_change, page_change, body_of, tail_of};
 
@@ -39,7 +40,7 @@ impl LogBody {
 
 /// The record of a change.
 pub fn build(alloc: Global, change: &Change) -> Result<LogBody, NoMemory>
-    requires { All (λ n. length n.name ≤ 255) change.now.names }
+    requires { All (λ n. length n.name ≤ DOCUMENT_NAME_BYTES_MAX) change.now.names }
     ensures { IfOk result (λ b. b ≡ body_of change.now) }
 {
     let mut tail = Vec::new(alloc);
@@ -60,7 +61,7 @@ fn set_length(tail: &mut Vec<u8>, long: u64)
 }
 
 fn push_body(out: &mut Vec<u8>, change: &Change) -> Result<(), NoMemory>
-    requires { All (λ n. length n.name ≤ 255) change.now.names }
+    requires { All (λ n. length n.name ≤ DOCUMENT_NAME_BYTES_MAX) change.now.names }
     ensures { OnOk result (out.new.items ≡ out.old.items ++ body_of change.now) }
 {
     let names = change.names.as_slice();
@@ -73,7 +74,7 @@ fn push_body(out: &mut Vec<u8>, change: &Change) -> Result<(), NoMemory>
 }
 
 fn push_names(out: &mut Vec<u8>, names: &[LogName]) -> Result<(), NoMemory>
-    requires { All (λ n. length n.name ≤ 255) names.now }
+    requires { All (λ n. length n.name ≤ DOCUMENT_NAME_BYTES_MAX) names.now }
     ensures { OnOk result (out.new.items ≡ out.old.items ++ flat_map name_change names.now) }
 {
     for change in names {
@@ -83,7 +84,7 @@ fn push_names(out: &mut Vec<u8>, names: &[LogName]) -> Result<(), NoMemory>
 }
 
 fn push_name(out: &mut Vec<u8>, change: &LogName) -> Result<(), NoMemory>
-    requires { length change.now.name ≤ 255 }
+    requires { length change.now.name ≤ DOCUMENT_NAME_BYTES_MAX }
     ensures { OnOk result (out.new.items ≡ out.old.items ++ name_change change.now) }
 {
     match &change.entry {
@@ -101,7 +102,7 @@ fn push_name(out: &mut Vec<u8>, change: &LogName) -> Result<(), NoMemory>
 
 /// Writes a name: its length in one byte, and its bytes.
 pub fn push_text(out: &mut Vec<u8>, name: &Str) -> Result<(), NoMemory>
-    requires { length name.now ≤ 255 }
+    requires { length name.now ≤ DOCUMENT_NAME_BYTES_MAX }
     ensures { OnOk result (out.new.items ≡ out.old.items ++ name_bytes name.now) }
 {
     let bytes = name.as_bytes();

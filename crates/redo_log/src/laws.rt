@@ -1,6 +1,7 @@
 //! The laws between the bytes of a record and its reading, and those by which a store that was read is carried on.
 ghost use Rattle.std.specs.Prelude.{◌≡◌, ◌≤◌, ℕ, List, All, [], ◌++◌, ◌∷◌, Ok, drop, length};
 ghost use Rattle.std.specs.List.{flat_map};
+ghost use Rattle.xq_ast.specs.declared.limits.TheConstants.{DOCUMENT_NAME_BYTES_MAX};
 ghost use Rattle.page_bytes.specs.Known.{PageIds, PageMap};
 ghost use Rattle.redo_log.specs.declared.change.Change.{Change};
 ghost use Rattle.redo_log.specs.declared.store.Store.{Store};
@@ -19,14 +20,14 @@ pub fn record_laws()
     ensures all { (cs : List Change) (s : Store) (end : List ℕ) → AreTaken s cs → IsClosed end → AreRecords s cs (flat_map record_of cs ++ end) end }
 {}
 
-/// A store takes the records that it reads, and one more behind them if it takes that one then. What bytes are records of
+/// A store takes the records that it reads, and one more after them if it takes that one then. What bytes are records of
 /// is one list of changes with one end, and they are refused nowhere. A name that is taken is as short as `build` asks.
 pub fn scan_laws()
     ensures taken { (cs : List Change) (s : Store) (bytes end : List ℕ) → IsBytes bytes → AreRecords s cs bytes end → AreTaken s cs }
     ensures goes_on { (cs : List Change) (s : Store) (c : Change) → AreTaken s cs → IsTaken (after_all cs s) c → AreTaken s (cs ++ c ∷ []) }
     ensures one { (cs ds : List Change) (s : Store) (bytes end fin : List ℕ) → AreRecords s cs bytes end → AreRecords s ds bytes fin → (cs ≡ ds) × (end ≡ fin) }
     ensures sure { (cs ds : List Change) (s : Store) (bytes end : List ℕ) (left : ℕ) → AreRecords s cs bytes end → IsRefused s ds bytes left → ⊥ }
-    ensures short { (s : Store) (c : Change) → IsTaken s c → All (λ n. length n.name ≤ 255) c.names }
+    ensures short { (s : Store) (c : Change) → IsTaken s c → All (λ n. length n.name ≤ DOCUMENT_NAME_BYTES_MAX) c.names }
 {}
 
 /// The pages that are there, and the images of pages, are two maps of which a record makes the same: the pages that are

@@ -8,7 +8,7 @@ use crate::fault::ReadEnd;
 use crate::fields::{byte_at, bytes_at, check, number_at};
 use crate::space_table::SpaceTable;
 use crate::store::Store;
-use page_bytes::{Draft, NoMemory, Page, PageChange, PageId, Space};
+use page_bytes::{Draft, NoMemory, PAGE_BYTES, Page, PageChange, PageId, Space};
 use std::alloc::Global;
 use std::cmp::Ordering;
 
@@ -60,7 +60,7 @@ fn id_at<'a>(
     id_by_space(done, spaces, bytes)
 }
 
-// Whether the commit may be a space's. Where an ordinal stands behind it, the space decides, and no space is walked.
+// Whether the commit may be a space's. Where an ordinal stands after it, the space decides, and no space is walked.
 fn may_be_commit(spaces: &SpaceTable, commit: u64, behind: &[u8]) -> bool
     ensures { result ≡ (nat_le 8 (length behind.now) || has_commit spaces.now commit) }
 {
@@ -91,7 +91,7 @@ fn id_by_space<'a>(
 }
 
 fn page_of(alloc: Global, bytes: &[u8]) -> Result<Page, NoMemory>
-    requires { length bytes.now ≡ 4096 }
+    requires { length bytes.now ≡ PAGE_BYTES }
     ensures { IfOk result (λ p. p ≡ bytes.now) }
 {
     let mut draft = Draft::zero(alloc)?;
@@ -106,7 +106,7 @@ fn image_if(alloc: Global, is_there: bool, bytes: &[u8]) -> Result<(Option<Page>
     if !is_there {
         return Ok((None, bytes));
     }
-    let (page, rest) = bytes_at(4096, bytes)?;
+    let (page, rest) = bytes_at(PAGE_BYTES, bytes)?;
     Ok((Some(page_of(alloc, page)?), rest))
 }
 

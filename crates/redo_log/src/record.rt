@@ -81,7 +81,7 @@ fn pages_housed(pages: &[PageChange], left: usize) -> Result<(), ReadEnd>
     Ok(())
 }
 
-// How many bytes are left behind these changes of names.
+// How many bytes are left after these changes of names.
 fn behind_names(names: &[LogName], left: usize) -> usize
     ensures { result ≡ left - names_length names.now }
 {

@@ -19,6 +19,7 @@ use Rattle.script_text.proofs.ScriptLines.{text_is_text}
 abbrev pub at : ℕ → Reading → Reading
 at n r = record r { lines = n }
 
+-- where a line is read, the lines after it are read from what it leaves
 pub step_ok : (s : ℕ) (line : Line) (behind : List Line) (r q : Reading) → read_line s line behind (at (next_line r.lines) r) ≡ Ok q
     → after s (line ∷ behind) r ≡ after s behind q
 step_ok s line behind r q e = ap (λ x. at_line (next_line r.lines) x >>= after s behind) e
@@ -30,9 +31,11 @@ ascii_cons : (b : ℕ) (bs : List ℕ) → b < 128 → IsAscii bs → IsAscii (b
 ascii_cons b bs small rest zero = small
 ascii_cons b bs small rest (suc i) = rest i
 
+-- a dot is a text
 pub dot_text : is_text (codes ".") ≡ true
 dot_text = text_is_text (codes ".") (IsUtf8-from_ascii (codes ".") (ascii_cons 46 [] (lit< tt) ascii_nil))
 
+-- the word SESSION is a text
 pub session_text : is_text (codes "SESSION") ≡ true
 session_text =
     text_is_text (codes "SESSION") (IsUtf8-from_ascii (codes "SESSION")
@@ -40,6 +43,7 @@ session_text =
     (ascii_cons 69 (codes "SSION") (lit< tt) (ascii_cons 83 (codes "SION") (lit< tt) (ascii_cons 83 (codes "ION") (lit< tt)
     (ascii_cons 73 (codes "ON") (lit< tt) (ascii_cons 79 (codes "N") (lit< tt) (ascii_cons 78 [] (lit< tt) ascii_nil))))))))
 
+-- the word ORDER is UTF-8
 pub order_utf8 : IsUtf8 (codes "ORDER")
 order_utf8 =
     IsUtf8-from_ascii (codes "ORDER")
@@ -47,6 +51,7 @@ order_utf8 =
     (ascii_cons 82 (codes "DER") (lit< tt)
     (ascii_cons 68 (codes "ER") (lit< tt) (ascii_cons 69 (codes "R") (lit< tt) (ascii_cons 82 [] (lit< tt) ascii_nil)))))
 
+-- numbers with spaces before them are UTF-8
 pub spaced_utf8 : (most : ℕ) (ns : List ℕ) → most < 2 ^ 64 → AreNumbers most ns → IsUtf8 (spaced ns)
 spaced_utf8 most [] small ok = IsUtf8-nil
 spaced_utf8 most (n ∷ ns) small ok =

@@ -86,6 +86,7 @@ rows_missed words m rows.Doubt = m.1.1.1.1.1.1.1.1.1.1.0
 rows_missed words m rows.Settled = m.1.1.1.1.1.1.1.1.1.1.1.0
 rows_missed words m rows.Left = m.1.1.1.1.1.1.1.1.1.1.1.1.0
 
+-- a number of 32 bits is one of 64
 pub sessions_fit : (s : ℕ) → s < 2 ^ 32 → s < 2 ^ 64
 sessions_fit s small = omega arith
 
@@ -98,11 +99,13 @@ line_once s t a b x y p q e =
     let row = row_once a b x y parts.1 in
     (decimal_injective s t (sessions_fit s p) (sessions_fit t q) parts.0, row.0, row.1)
 
--- ---- lines behind an event
+-- ---- lines after an event
 
+-- the text of lines is the first line, a newline and the text of the others
 pub line_open : (line : Line) (more : List Line) (rest : List ℕ) → text_of (line ∷ more) ++ rest ≡ line ++ 10 ∷ (text_of more ++ rest)
 line_open line more rest = append_assoc line (10 ∷ text_of more) rest
 
+-- a text begins with so many lines in one way alone
 pub lines_once : (ls ms : List Line) (x y : List ℕ) → AreLines ls → AreLines ms → length ls ≡ length ms → text_of ls ++ x ≡ text_of ms ++ y
     → (ls ≡ ms) × (x ≡ y)
 lines_once [] [] x y p q same e = (refl, e)
@@ -152,7 +155,7 @@ lines_end count all ls rest whole so less plain lines more same are e =
 
 -- ---- an event by its row
 
--- events without lines behind them
+-- events without lines after them
 no_lines_one : (made other a b : Event) (x y : List ℕ) → lines_behind made ≡ [] → lines_behind other ≡ [] → made ≡ other → a ≡ made → b ≡ other
     → text_of (lines_behind a) ++ x ≡ text_of (lines_behind b) ++ y → (a ≡ b) × (x ≡ y)
 no_lines_one made other a b x y none empty same p q e =
@@ -285,6 +288,7 @@ answer_row s call (says.Error code) small is = record {
 }
 answer_row s call _ small is = absurd is
 
+-- each event that is printed has a row
 pub printed_row : (e : Event) → IsPrinted e → HasRow e
 printed_row (Began s Updating) p =
     record { row = rows.BeganUpdate; session = s; rest = []; small = p.0; lines = refl; is = (refl, refl); one_line = nothing; behind = tt }
@@ -383,7 +387,7 @@ start_is_one_line s row rest small one =
     one_line_append (decimal s) (codes " " ++ (row_word row ++ rest)) (one_line_decimal s (sessions_fit s small))
     (one_line_append (codes " ") (row_word row ++ rest) (one_line_simple (codes " ") refl) (one_line_append (row_word row) rest (one_line_word row) one))
 
--- what stands behind the row's words of a plain line is plain
+-- what stands after the row's words of a plain line is plain
 pub rest_is_plain : (s : ℕ) (row : Row) (rest : List ℕ) → IsPlain (line_of s (row_word row ++ rest)) → IsPlain rest
 rest_is_plain s row rest plain = (plain_parts (row_word row) rest (plain_parts (decimal s) (codes " " ++ (row_word row ++ rest)) plain).1.1).1
 
@@ -416,6 +420,7 @@ as_read row s rest own made e p q shown = subst (λ v. IsReadAs row s rest v) (s
 unmarked_event : (s : ℕ) (code : Code) → HasNoMark code → told (answer_event s (says.Error code)) ≡ answer_event s (says.Error code)
 unmarked_event s code h = ap (λ c. answer_event s (says.Error c)) (unmarked code h)
 
+-- what is read from a plain line by its row is a printed event whose text this is
 pub row_read : (row : Row) (s : ℕ) (rest : List ℕ) (e : Event) → IsSession s → IsPlain rest → IsRow row s rest e → IsReadAs row s rest e
 row_read rows.BeganUpdate s rest e small plain is =
     whole_read rows.BeganUpdate s rest (Began s Updating) e is (record { printed = (small, tt); same = refl; lines = refl })
@@ -453,12 +458,14 @@ row_read rows.Left s rest e small plain is = whole_read rows.Left s rest (Left s
 
 -- ---- texts that no row tells
 
+-- an answer's row tells no event where the lines that it counts do not follow
 pub answer_missing : (s count : ℕ) (digits behind : List ℕ) → count < 2 ^ 64 → decimal count ≡ digits → ReadsLines None count behind
     → (e : Event) (more : List ℕ) → IsRow rows.Answer s digits e → text_of (lines_behind e) ++ more ≢ behind
 answer_missing s count digits behind small is none e more row same =
     let count_is : length row.0 ≡ count = decimal_injective (length row.0) count row.2 small (row.3 ∙ sym is) in
     none row.0 more count_is row.1 (sym (lines_of_answer s row.0 e more row.4) ∙ same)
 
+-- a refusal's row tells no event where no holder stands after the name
 pub holder_missing : (s : ℕ) (name rest whole : List ℕ) → quoted name ++ rest ≡ whole → begins_quoted rest ≡ false
     → ((digits : List ℕ) → rest ≢ codes " by " ++ digits)
     → (e : Event) → IsRow rows.Refused s whole e → ⊥
@@ -466,6 +473,7 @@ holder_missing s name rest whole is other none e row =
     let parts = quoted_one row.0 name (codes " by " ++ decimal row.1) rest refl other (row.4 ∙ sym is) in
     none (decimal row.1) (sym parts.1)
 
+-- a refusal's row tells no event where what stands as the holder is no session's number
 pub no_holder : (s : ℕ) (name rest digits whole : List ℕ) → quoted name ++ rest ≡ whole → begins_quoted rest ≡ false → rest ≡ codes " by " ++ digits
     → ((holder : ℕ) → IsSession holder → decimal holder ≢ digits) → (e : Event) → IsRow rows.Refused s whole e → ⊥
 no_holder s name rest digits whole is other by none e row =

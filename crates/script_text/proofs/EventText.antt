@@ -11,23 +11,28 @@ use Rattle.script_text.specs.declared.journals.pieces.Piece.{Piece}
 use Rattle.script_text.specs.Pieces.{piece_text, pieces_text, others_text}
 use Rattle.script_text.specs.JournalText.{doubled, need_text, needs_text, line_of, answer_lines, event_lines, journal_lines, text}
 
+-- the text of two lists of lines is the text of the first and then that of the second
 pub text_of-append : (xs ys : List Line) → text_of (xs ++ ys) ≡ text_of xs ++ text_of ys
 text_of-append [] ys = refl
 text_of-append (x ∷ xs) ys = ap (λ r. x ++ 10 ∷ r) (text_of-append xs ys) ∙ sym (append_assoc x (10 ∷ text_of xs) (text_of ys))
 
+-- the text of two lists of pieces is the text of the first and then that of the second
 pub pieces_text-append : (xs ys : List Piece) → pieces_text (xs ++ ys) ≡ pieces_text xs ++ pieces_text ys
 pieces_text-append [] ys = refl
 pieces_text-append (x ∷ xs) ys = ap (λ r. piece_text x ++ r) (pieces_text-append xs ys) ∙ sym (append_assoc (piece_text x) (pieces_text xs) (pieces_text ys))
 
+-- the text of one piece alone is that piece's text
 pub pieces_text-one : (p : Piece) → pieces_text (p ∷ []) ≡ piece_text p
 pieces_text-one p = append-nil (piece_text p)
 
+-- the text of two journals in a row is the text of the first and then that of the second
 pub text-append : (xs ys : List Event) → text (xs ++ ys) ≡ text xs ++ text ys
 text-append [] ys = refl
 text-append (x ∷ xs) ys =
     text_of-append (event_lines x) (journal_lines (xs ++ ys)) ∙ (ap (λ r. text_of (event_lines x) ++ r) (text-append xs ys)
     ∙ (sym (append_assoc (text_of (event_lines x)) (text xs) (text ys)) ∙ ap (λ r. r ++ text ys) (sym (text_of-append (event_lines x) (journal_lines xs)))))
 
+-- the text of one event alone is that of its lines
 pub text-one : (e : Event) → text (e ∷ []) ≡ text_of (event_lines e)
 text-one e = ap text_of (append-nil (event_lines e))
 
@@ -35,6 +40,7 @@ text-one e = ap text_of (append-nil (event_lines e))
 abbrev pub doubled_byte : ℕ → List ℕ
 doubled_byte b = doubled (b ∷ [])
 
+-- doubling the quotes of two texts in a row doubles those of each
 pub doubled-append : (xs ys : List ℕ) → doubled (xs ++ ys) ≡ doubled xs ++ doubled ys
 doubled-append [] ys = refl
 doubled-append (b ∷ bs) ys = by_test (nat_eq b 39) (doubled-append bs ys)
@@ -44,11 +50,13 @@ doubled-append (b ∷ bs) ys = by_test (nat_eq b 39) (doubled-append bs ys)
     by_test true e = ap (λ r. b ∷ b ∷ r) e
     by_test false e = ap (λ r. b ∷ r) e
 
+-- the text of two lists of further needs is the text of the first and then that of the second
 pub others_text-append : (xs ys : List Need) → others_text (xs ++ ys) ≡ others_text xs ++ others_text ys
 others_text-append [] ys = refl
 others_text-append (x ∷ xs) ys =
     ap (λ r. (codes ", " ++ need_text x) ++ r) (others_text-append xs ys) ∙ sym (append_assoc (codes ", " ++ need_text x) (others_text xs) (others_text ys))
 
+-- a further need alone is a comma, a space and its text
 pub others_text-one : (n : Need) → others_text (n ∷ []) ≡ codes ", " ++ need_text n
 others_text-one n = append-nil (codes ", " ++ need_text n)
 
@@ -57,12 +65,12 @@ pub needs_text-cons : (n : Need) (ns : List Need) → needs_text (n ∷ ns) ≡ 
 needs_text-cons n [] = sym (append-nil (need_text n))
 needs_text-cons n (m ∷ more) = ap (λ r. need_text n ++ (codes ", " ++ r)) (needs_text-cons m more)
 
--- a line in three parts: the session and the first words, what stands behind them, and its end
+-- a line in three parts: the session and the first words, what stands after them, and its end
 pub line_parts : (n session : ℕ) (words behind : List ℕ) → n ≡ session
     → (decimal n ++ (words ++ [])) ++ (behind ++ 10 ∷ []) ≡ (decimal session ++ (words ++ behind)) ++ 10 ∷ []
 line_parts n session words behind e = rw e (simp (append_assoc, append-nil {A = ℕ}))
 
--- all behind the first
+-- all after the first
 tail_all : (n : Need) (ns : List Need) → take (length (n ∷ ns) - 1) ns ≡ ns
 tail_all n ns = grind (arith, common_steps)
 

@@ -27,10 +27,12 @@ use Rattle.script_text.proofs.EventText.{doubled-append}
 
 -- ---- without a newline
 
+-- two plain texts in a row are plain
 pub plain_append : (xs ys : List ℕ) → IsPlain xs → IsPlain ys → IsPlain (xs ++ ys)
 plain_append [] ys p q = q
 plain_append (x ∷ xs) ys p q = (p.0, plain_append xs ys p.1 q)
 
+-- the two parts of a plain text are plain
 pub plain_parts : (xs ys : List ℕ) → IsPlain (xs ++ ys) → IsPlain xs × IsPlain ys
 plain_parts [] ys p = (tt, p)
 plain_parts (x ∷ xs) ys p = let rest = plain_parts xs ys p.1 in ((p.0, rest.0), rest.1)
@@ -61,6 +63,7 @@ plain_by_test : (t : Bool) (b : ℕ) (r : List ℕ) → nat_eq b 10 ≡ false �
 plain_by_test true b r p q = (p, (p, q))
 plain_by_test false b r p q = (p, q)
 
+-- a plain name is plain with its quotes doubled
 pub plain_doubled : (name : List ℕ) → IsPlain name → IsPlain (doubled name)
 plain_doubled [] p = tt
 plain_doubled (b ∷ bs) p = plain_by_test (nat_eq b 39) b (doubled bs) p.0 (plain_doubled bs p.1)
@@ -74,6 +77,7 @@ pub doubled_plain : (name : List ℕ) → IsPlain (doubled name) → IsPlain nam
 doubled_plain [] p = tt
 doubled_plain (b ∷ bs) p = let both = test_plain (nat_eq b 39) b (doubled bs) p in (both.0, doubled_plain bs both.1)
 
+-- the test of two numbers that differ is false
 pub not_eq : (a b : ℕ) → a ≢ b → nat_eq a b ≡ false
 not_eq a b ne = grind (arith, ne)
 
@@ -120,6 +124,7 @@ utf8_doubled name u = (doubled u.0, (scalars_doubled u.0 u.1.0, encodes_doubled 
 
 -- ---- one line
 
+-- two texts of one line, one after the other, are one line
 pub one_line_append : (xs ys : List ℕ) → IsOneLine xs → IsOneLine ys → IsOneLine (xs ++ ys)
 one_line_append xs ys p q = (IsUtf8-append xs ys p.0 q.0, plain_append xs ys p.1 q.1)
 
@@ -147,6 +152,7 @@ simple_ascii (b ∷ bs) h zero =
     grind (arith, first)
 simple_ascii (b ∷ bs) h (suc i) = simple_ascii bs (and_parts _ _ h).1 i
 
+-- ASCII without a newline is one line
 pub one_line_simple : (bs : List ℕ) → is_simple bs ≡ true → IsOneLine bs
 one_line_simple bs h = (IsUtf8-from_ascii bs (simple_ascii bs h), simple_plain bs h)
 
@@ -157,9 +163,11 @@ own = numerals_by_value (AllDigits 10) tells_digits
 digits_lack : (n c : ℕ) → n < 2 ^ 64 → (IsInRange 48 57 c → ⊥) → (i : ℕ) → i < length (decimal n) → get_or (decimal n) i 0 ≢ c
 digits_lack n c small out = not_in_digits own (decimal n) c (decimal_is_IsNumeral n small).0.1 out
 
+-- a number of 64 bits in decimal is one line
 pub one_line_decimal : (n : ℕ) → n < 2 ^ 64 → IsOneLine (decimal n)
 one_line_decimal n small = (IsUtf8-from_ascii (decimal n) (IsAscii-decimal n small), plain_by_index (decimal n) (digits_lack n 10 small (λ h. omega arith)))
 
+-- a name of one line between quotes is one line
 pub one_line_quoted : (name : List ℕ) → IsOneLine name → IsOneLine (quoted name)
 one_line_quoted name p =
     one_line_append (39 ∷ []) (doubled name ++ 39 ∷ []) (one_line_simple (39 ∷ []) refl)
@@ -172,6 +180,7 @@ one_line_mode X = one_line_simple (codes " X") refl
 one_line_need : (n : Need) → IsOneLine n.name → IsOneLine (need_text n)
 one_line_need n p = one_line_append (quoted n.name) (codes " " ++ mode_text n.mode) (one_line_quoted n.name p) (one_line_mode n.mode)
 
+-- the text of needs whose names are of one line is one line
 pub one_line_needs : (ns : List Need) → HaveNames ns → IsOneLine (needs_text ns)
 one_line_needs [] p = one_line_simple [] refl
 one_line_needs (n ∷ []) p = one_line_need n p.0
@@ -179,6 +188,7 @@ one_line_needs (n ∷ m ∷ more) p =
     one_line_append (need_text n) (codes ", " ++ needs_text (m ∷ more)) (one_line_need n p.0)
     (one_line_append (codes ", ") (needs_text (m ∷ more)) (one_line_simple (codes ", ") refl) (one_line_needs (m ∷ more) p.1))
 
+-- the word that says whether a commit stands is one line
 pub one_line_stands : (stands : Bool) → IsOneLine (stands_text stands)
 one_line_stands true = one_line_simple (codes "yes") refl
 one_line_stands false = one_line_simple (codes "no") refl
@@ -205,6 +215,7 @@ one_line_kind kinds.Log = one_line_simple _ refl
 spaced_number : (n : ℕ) → n < 2 ^ 64 → IsOneLine (codes " " ++ decimal n)
 spaced_number n small = one_line_append (codes " ") (decimal n) (one_line_simple (codes " ") refl) (one_line_decimal n small)
 
+-- the text of a code whose numbers are in range is one line
 pub one_line_code : (code : Code) → InRange code → IsOneLine (code_text code)
 one_line_code (Pyx why line) small =
     one_line_append (codes "Pyx ") (refusal_name why ++ (codes " " ++ decimal line)) (one_line_simple _ refl)
@@ -260,5 +271,6 @@ lines_utf8 (line ∷ more) are = IsUtf8-append line (10 ∷ text_of more) are.0.
     newline_utf8 : IsUtf8 (10 ∷ [])
     newline_utf8 = IsUtf8-from_ascii (10 ∷ []) newline_ascii
 
+-- a quote is UTF-8
 pub quote_utf8 : IsUtf8 (39 ∷ [])
 quote_utf8 = (one_line_simple (39 ∷ []) refl).0

@@ -29,6 +29,7 @@ pub split_words-one : (text : List ℕ) → has_space text ≡ false → split_w
 split_words-one [] none = refl
 split_words-one (b ∷ bs) none = let parts = neither (nat_eq b 32) (has_space bs) none in rw parts.0 (ap (in_front b) (split_words-one bs parts.1))
 
+-- what is not true is false
 pub not_true : (t : Bool) → (t ≡ true → ⊥) → t ≡ false
 not_true true no_way = absurd (no_way refl)
 not_true false no_way = refl
@@ -61,14 +62,17 @@ named_none (suc m) word none =
     rw (other_bytes (decimal (suc m)) word (none (suc m) (omega arith) (omega arith)))
     (named_none m word (λ n some within. let less : n ≤ suc m = omega arith in none n some less))
 
+-- a word that no number is written as names none
 pub no_number_named : (most : ℕ) (word : List ℕ) → most < 2 ^ 64 → ((n : ℕ) → n < 2 ^ 64 → decimal n ≢ word) → number_named most word ≡ None
 no_number_named most word small none = named_none most word (λ n some within. let few : n < 2 ^ 64 = omega arith in none n few)
 
+-- a word that is written as 0 names none
 pub zero_named : (most n : ℕ) (word : List ℕ) → most < 2 ^ 64 → decimal n ≡ word → n ≡ 0 → number_named most word ≡ None
 zero_named most n word small e is =
     named_none most word (λ m some within written.
     let same : m ≡ n = decimal_injective m n (omega arith) (omega arith) (written ∙ sym e) in absurd (omega arith))
 
+-- a word that is written as a number past the last names none
 pub past_named : (most n : ℕ) (word : List ℕ) → most < 2 ^ 64 → n < 2 ^ 64 → decimal n ≡ word → most < n → number_named most word ≡ None
 past_named most n word small few e past =
     named_none most word (λ m some within written.

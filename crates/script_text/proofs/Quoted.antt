@@ -72,12 +72,13 @@ unquoted_is (b ∷ c ∷ more) = by_test (nat_eq b 39) (nat_eq c 39) refl refl (
 pub quoted_open : (name rest : List ℕ) → quoted name ++ rest ≡ 39 ∷ (doubled name ++ 39 ∷ rest)
 quoted_open name rest = ap (λ r. 39 ∷ r) (append_assoc (doubled name) (39 ∷ []) rest)
 
+-- a name that was read stands between quotes at the beginning, and no quote begins the rest
 pub quoted_found : (bytes name rest : List ℕ) → unquoted bytes ≡ Some (name, rest) → (quoted name ++ rest ≡ 39 ∷ bytes) × (begins_quoted rest ≡ false)
 quoted_found bytes name rest e =
     let is : IsUnquoted bytes (Some (name, rest)) = subst (IsUnquoted bytes) e (unquoted_is bytes) in
     (quoted_open name rest ∙ ap (λ r. 39 ∷ r) is.0, is.1)
 
--- what no name is read from does not stand behind an opening quote
+-- what no name is read from does not stand after an opening quote
 pub quoted_missing : (bytes name rest : List ℕ) → unquoted bytes ≡ None → begins_quoted rest ≡ false → quoted name ++ rest ≡ 39 ∷ bytes → ⊥
 quoted_missing bytes name rest none other e =
     let tails : 39 ∷ (doubled name ++ 39 ∷ rest) ≡ 39 ∷ bytes = sym (quoted_open name rest) ∙ e in
@@ -117,6 +118,7 @@ unquoted_cut (b ∷ bs) more none =
     let parts = neither (nat_eq b 39) (has_quote bs) none in
     unquoted_other b (bs ++ 39 ∷ more) parts.0 ∙ (ap (in_name b) (unquoted_cut bs more parts.1) ∙ in_behind b bs (unquoted (39 ∷ more)))
 
+-- from bytes without a quote no name is read
 pub unquoted_none : (bytes : List ℕ) → has_quote bytes ≡ false → unquoted bytes ≡ None
 unquoted_none [] none = refl
 unquoted_none (b ∷ bs) none =
@@ -129,7 +131,7 @@ behind_twice name before None = refl
 behind_twice name before (Some found) =
     ap (λ n. Some (n, found.1)) (sym (append_assoc name before (39 ∷ found.0)) ∙ sym (append_assoc (name ++ before) (39 ∷ []) found.0))
 
--- a name goes on behind two quotes
+-- a name goes on after two quotes
 pub name_goes_on : (name rest before next whole : List ℕ) → rest ≡ before ++ 39 ∷ (39 ∷ next) → has_quote before ≡ false
     → behind_name name (unquoted rest) ≡ unquoted whole
     → behind_name ((name ++ before) ++ 39 ∷ []) (unquoted next) ≡ unquoted whole
@@ -149,9 +151,11 @@ name_ends name rest before next whole is none other e =
 pub name_is_open : (name rest whole : List ℕ) → has_quote rest ≡ false → behind_name name (unquoted rest) ≡ unquoted whole → unquoted whole ≡ None
 name_is_open name rest whole none e = sym e ∙ ap (behind_name name) (unquoted_none rest none)
 
+-- with nothing read so far, a name is what is read from the whole
 pub name_begins : (whole : List ℕ) → behind_name [] (unquoted whole) ≡ unquoted whole
 name_begins whole = sym (behind_nothing (unquoted whole))
 
+-- bytes that do not start with a quote do not begin as a quoted name does
 pub no_quote_first : (bytes : List ℕ) → ((rest : List ℕ) → bytes ≢ 39 ∷ rest) → begins_quoted bytes ≡ false
 no_quote_first [] none = refl
 no_quote_first (b ∷ more) none = not_true (nat_eq b 39) (λ test. none more (ap (λ x. x ∷ more) (sym (is_quote b test))))
@@ -180,6 +184,7 @@ mode_one S X x y e = absurd (other_letter 83 88 x y refl e)
 mode_one X S x y e = absurd (other_letter 88 83 x y refl e)
 mode_one X X x y e = (refl, cc)
 
+-- a need is a name between quotes, a space and a mode
 pub need_open : (n : Need) (rest : List ℕ) → need_text n ++ rest ≡ quoted n.name ++ (codes " " ++ (mode_text n.mode ++ rest))
 need_open n rest = append_assoc (quoted n.name) (codes " " ++ mode_text n.mode) rest
 
@@ -204,7 +209,7 @@ others_tails : (n m : Need) (ns ms : List Need) (rest : List ℕ) → others_tex
 others_tails n m ns ms rest e =
     append_cancel_left (codes ", ") (need_text n ++ (others_text ns ++ rest)) (need_text m ++ others_text ms) (sym (others_open n ns rest) ∙ e)
 
--- what stands behind the first needs of a list are its others
+-- what stands after the first needs of a list are its others
 others_split : (ns ms : List Need) (rest : List ℕ) → others_text ns ++ rest ≡ others_text ms → (ks : List Need) × (others_text ks ≡ rest) × (ms ≡ ns ++ ks)
 others_split [] ms rest e = (ms, sym e, refl)
 others_split (n ∷ ns) [] rest e = let clash : 44 ∷ 32 ∷ (need_text n ++ (others_text ns ++ rest)) ≡ [] = sym (others_open n ns rest) ∙ e in cc
@@ -214,6 +219,7 @@ others_split (n ∷ ns) (m ∷ ms) rest e =
     let more = others_split ns ms rest one.1 in
     (more.0, more.1, ap (λ x. x ∷ ms) (sym one.0) ∙ ap (λ l. n ∷ l) more.2)
 
+-- needs that begin with these are these and some others, whose text is the rest
 pub needs_split : (ns ms : List Need) (rest : List ℕ) → 0 < length ns → needs_text ns ++ rest ≡ needs_text ms
     → (ks : List Need) × (others_text ks ≡ rest) × (ms ≡ ns ++ ks)
 needs_split [] ms rest some e = absurd (omega arith)
@@ -240,13 +246,14 @@ needs_one ns ms some e =
     no_others [] e = refl
     no_others (k ∷ ks) e = cc
 
--- a need behind others
+-- a need after others
 pub needs_text-more : (ns : List Need) (n : Need) → 0 < length ns → needs_text (ns ++ n ∷ []) ≡ needs_text ns ++ (codes ", " ++ need_text n)
 needs_text-more [] n some = absurd (omega arith)
 needs_text-more (m ∷ ns) n some =
     needs_text-cons m (ns ++ n ∷ []) ∙ (ap (λ r. need_text m ++ r) (others_text-append ns (n ∷ []) ∙ ap (λ r. others_text ns ++ r) (others_text-one n))
     ∙ (sym (append_assoc (need_text m) (others_text ns) (codes ", " ++ need_text n)) ∙ ap (λ r. r ++ (codes ", " ++ need_text n)) (sym (needs_text-cons m ns))))
 
+-- names in UTF-8 and one more in UTF-8 are all in UTF-8
 pub AreUtf8-more : (ns : List Need) (n : Need) → AreUtf8 ns → AreUtf8 (n ∷ []) → AreUtf8 (ns ++ n ∷ [])
 AreUtf8-more [] n are one = one
 AreUtf8-more (m ∷ ns) n are one = (are.0, AreUtf8-more ns n are.1 one)
@@ -260,7 +267,7 @@ needs_go_on ns n rest more next whole some e is one =
     ∙ (append_assoc (needs_text ns) (codes ", " ++ need_text n) next
     ∙ (ap (λ r. needs_text ns ++ (codes ", " ++ r)) one ∙ (ap (λ r. needs_text ns ++ r) (sym is) ∙ e)))
 
--- behind a comma stands no need
+-- after a comma stands no need
 pub needs_stop : (ns : List Need) (rest more whole : List ℕ) → 0 < length ns → needs_text ns ++ rest ≡ whole → rest ≡ codes ", " ++ more
     → ((n : Need) (next : List ℕ) → need_text n ++ next ≢ more) → (ms : List Need) → needs_text ms ≢ whole
 needs_stop ns rest more whole some e is none ms same =
@@ -271,7 +278,7 @@ needs_stop ns rest more whole some e is none ms same =
     by_others [] e = cc
     by_others (k ∷ ks) e = let tails : need_text k ++ others_text ks ≡ more = cc in none k (others_text ks) tails
 
--- behind a need stands something else than a comma
+-- after a need stands something else than a comma
 pub needs_end : (ns : List Need) (rest whole : List ℕ) → 0 < length ns → needs_text ns ++ rest ≡ whole → ((more : List ℕ) → rest ≢ codes ", " ++ more)
     → rest ≢ []
     → (ms : List Need) → needs_text ms ≢ whole
@@ -296,13 +303,13 @@ quoted_from_name (Some found) rest whole is read =
     let both = quoted_found rest found.name found.rest.now read.1 in
     (read.0, both.0 ∙ sym is, both.1)
 
--- a name behind a quote is a name between quotes
+-- a name after a quote is a name between quotes
 pub quoted_read : (r : Result (Option NameText) NoMemory) (rest whole : List ℕ) → whole ≡ 39 ∷ rest → IfOk r (λ found. ReadsName found rest)
     → IfOk r (λ found. ReadsQuoted found whole)
 quoted_read (Ok found) rest whole is read = quoted_from_name found rest whole is read
 quoted_read (Err e) rest whole is read = tt
 
--- behind a name stands no mode
+-- after a name stands no mode
 pub no_mode : (name rest whole : List ℕ) → quoted name ++ rest ≡ whole → begins_quoted rest ≡ false
     → ((mode : LockMode) (more : List ℕ) → codes " " ++ (mode_text mode ++ more) ≢ rest)
     → (need : Need) (more : List ℕ) → need_text need ++ more ≢ whole

@@ -16,7 +16,7 @@ whole_at bytes i h e =
     let d : drop i bytes ≡ get_or bytes i 0 ∷ drop (i + 1) bytes = rw add-one (drop-cons bytes i 0 h) in
     sym (take-append-drop i bytes) ∙ (ap (λ l. take i bytes ++ l) d ∙ ap (λ b. take i bytes ++ b ∷ drop (i + 1) bytes) e)
 
--- all behind an index
+-- all after an index
 behind_all : (bytes : List ℕ) (i : ℕ) → take (length bytes - i) (drop i bytes) ≡ drop i bytes
 behind_all bytes i = take_all (length bytes - i) (drop i bytes) (omega (arith, length-drop i bytes))
 

@@ -27,7 +27,7 @@ call_line s line behind r t utf8 is outside begun few opens ended =
     ∙ (ap (λ x. if x && not (has_end behind) then Err LoadOpen else Ok (opened x line r)) opens
     ∙ ap (λ x. if x then Err LoadOpen else Ok (opened t line r)) ended)))
 
--- a reading inside of a LOAD, and one behind a call
+-- a reading inside of a LOAD, and one after a call
 abbrev loading : Reading → CallText → Reading
 loading b c = record b { last = Some c; in_load = true }
 
@@ -196,6 +196,7 @@ not_zero n = grind arith
 sessions_so_far : (q : Reading) → (q.begun == 0) ≡ false → sessions_of q ≡ q.ended ++ (q.calls ++ option_to_list q.last) ∷ []
 sessions_so_far q begun = ap (λ t. if t then q.ended else q.ended ++ (q.calls ++ option_to_list q.last) ∷ []) begun
 
+-- sessions that are spelled by the rules are read, with their calls and their part of the order, as far as the limits go
 pub sessions_read : (s : ℕ) (ss : List SessionPart) (r : Reading) → s < 2 ^ 64 → AreSessions s ss → r.in_load ≡ false → r.begun + length ss ≤ SESSIONS_MAX
     → r.count + calls_in ss ≤ CALLS_MAX
     → (q : Reading) × (after s (lines_of_sessions ss) r ≡ Ok q) × (sessions_of q ≡ sessions_of r ++ sessions_spelled ss)

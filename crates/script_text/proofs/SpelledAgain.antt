@@ -158,6 +158,7 @@ read_with s before ss counted asides calls few_sessions few_calls =
     ap (λ k. after k (lines_of_script before ss) start >>= (λ r. Ok (script_of r))) counted
     ∙ gives n (lines_of_script before ss) before ss read.0 (first.1 ∙ read.1) read.2 read.3
 
+-- a script that is spelled by the rules, whatever lines beside its calls, is read as it was spelled
 pub spelled_is_read : IsReadAgain
 spelled_is_read before ss ok =
     let counted = none_beside (length ss) before (lines_of_sessions ss) ok.asides ∙ sessions_counted (length ss) ss ok.calls in

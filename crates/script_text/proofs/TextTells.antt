@@ -116,6 +116,7 @@ no_journal_of (r ∷ rs) (j ∷ js) rest p q e some none =
     let first = event_once r j (text rs ++ rest) (text js) p.0 q.0 (sym (text_left r rs rest) ∙ (e ∙ text-cons j js)) in
     no_journal_of rs js rest p.1 q.1 first.1 some none
 
+-- where no event follows what was read, and something is left, the whole is the text of no journal
 pub nothing_told : (read : List Event) (rest whole : List ℕ) → ArePrinted read → text read ++ rest ≡ whole → rest ≢ []
     → ((e : Event) (more : List ℕ) → IsPrinted e → text_of (event_lines e) ++ more ≢ rest) → TellNothing whole
 nothing_told read rest whole p is some none journal q e = no_journal_of read journal rest p q (is ∙ sym e) some none

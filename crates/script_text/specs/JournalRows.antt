@@ -1,4 +1,4 @@
--- The table of a journal's lines, row by row: the words behind the session's number, and what follows them.
+-- The table of a journal's lines, row by row: the words after the session's number, and what follows them.
 use Rattle.std.specs.Prelude.{◌≡◌, ◌≢◌, ℕ, ◌<◌, ◌^◌, Bool, List, [], ◌∷◌, ◌++◌, length, codes, IsUtf8, None}
 use Rattle.std.specs.Fmt.{decimal}
 use Rattle.xq_ast.specs.CodeText.{code_text, InRange, HasNoMark, no_mark}
@@ -43,7 +43,7 @@ abbrev pub says_behind : Says → List Line
 says_behind (says.Lines all) = all
 says_behind _ = []
 
--- the lines behind the first line of an event
+-- the lines after the first line of an event
 abbrev pub lines_behind : Event → List Line
 lines_behind (Answered s reply) = says_behind reply.says
 lines_behind _ = []

@@ -18,7 +18,7 @@ abbrev pub in_name : ℕ → Option (List ℕ × List ℕ) → Option (List ℕ 
 in_name b None = None
 in_name b (Some found) = Some (b ∷ found.0, found.1)
 
--- the name whose quotes stand twice, up to the quote that ends it, and what stands behind
+-- the name whose quotes stand twice, up to the quote that ends it, and what stands after
 abbrev pub unquoted : List ℕ → Option (List ℕ × List ℕ)
 unquoted [] = None
 unquoted (b ∷ []) = if b == 39 then Some ([], []) else None
@@ -33,7 +33,7 @@ abbrev pub has_quote : List ℕ → Bool
 has_quote [] = false
 has_quote (b ∷ more) = b == 39 || has_quote more
 
--- the bytes are what stands before their first quote, the quote, and what stands behind it
+-- the bytes are what stands before their first quote, the quote, and what stands after it
 pub record IsCutName (bytes before behind : List ℕ) : Type 0 where
   pub whole : bytes ≡ before ++ 39 ∷ behind
   pub first : has_quote before ≡ false
@@ -42,7 +42,7 @@ abbrev pub begins_quoted : List ℕ → Bool
 begins_quoted [] = false
 begins_quoted (b ∷ more) = b == 39
 
--- the name behind an opening quote
+-- the name after an opening quote
 abbrev pub ReadsName : Option NameText → List ℕ → Type 0
 ReadsName (Some found) bytes = IsUtf8 found.name × (unquoted bytes ≡ Some (found.name, found.rest.now))
 ReadsName None bytes = unquoted bytes ≡ None
@@ -74,7 +74,7 @@ abbrev pub ReadsRow : Option Event → Row → ℕ → List ℕ → Type 0
 ReadsRow (Some e) row session rest = IsRow row session rest e
 ReadsRow None row session rest = (e : Event) → IsRow row session rest e → ⊥
 
--- the same with the lines behind its first line
+-- the same with the lines after its first line
 abbrev pub ReadsBehind : Option EventText → Row → ℕ → List ℕ → List ℕ → Type 0
 ReadsBehind (Some found) row session rest behind = IsRow row session rest found.event × (text_of (lines_behind found.event) ++ found.rest.now ≡ behind)
 ReadsBehind None row session rest behind = (e : Event) (more : List ℕ) → IsRow row session rest e → text_of (lines_behind e) ++ more ≢ behind

@@ -1,4 +1,4 @@
--- The text of a journal: one line an event, and behind an answer its lines.
+-- The text of a journal: one line an event, and after an answer its lines.
 use Rattle.std.specs.Prelude.{ℕ, ◌<◌, ◌^◌, ◌==◌, None, Bool, true, false, if◌then◌else◌, List, [], ◌∷◌, ◌++◌, length, codes, IsUtf8}
 use Rattle.std.specs.Fmt.{decimal}
 use Rattle.xq_ast.specs.CodeText.{code_text, InRange, no_mark, without_mark}

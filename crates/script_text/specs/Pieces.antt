@@ -11,12 +11,12 @@ piece_text (Words words) = words.now
 piece_text (Number n) = decimal n
 piece_text (Doubled words) = doubled words.now
 
--- the parts one behind another
+-- the parts one after another
 abbrev pub pieces_text : List Piece → List ℕ
 pieces_text [] = []
 pieces_text (p ∷ ps) = piece_text p ++ pieces_text ps
 
--- needs that stand behind a first one
+-- needs that stand after a first one
 abbrev pub others_text : List Need → List ℕ
 others_text [] = []
 others_text (n ∷ ns) = (codes ", " ++ need_text n) ++ others_text ns

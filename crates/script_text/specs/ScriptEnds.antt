@@ -28,7 +28,7 @@ Stops (Ok x) new defined = defined ≡ Ok new
 Stops (Err (stops.Refused why)) new defined = defined ≡ Err why
 Stops (Err stops.NoMemory) new defined = Unit {0}
 
--- a list with more numbers behind it, where they are numbers
+-- a list with more numbers after it, where they are numbers
 abbrev pub with_more : List ℕ → Option (List ℕ) → Option (List ℕ)
 with_more ns None = None
 with_more ns (Some more) = Some (ns ++ more)

@@ -28,7 +28,7 @@ abbrev pub has_end : List Line → Bool
 has_end [] = false
 has_end (line ∷ behind) = is_end line || has_end behind
 
--- behind a word there is a space, a tab, a quote or nothing
+-- after a word there is a space, a tab, a quote or nothing
 abbrev pub ends_word : List ℕ → Bool
 ends_word [] = true
 ends_word (b ∷ bs) = b == 32 || (b == 9 || (b == 34 || b == 39))
@@ -148,7 +148,7 @@ with_pyx line (Some call) = Some (record call { pyx = call.pyx ++ line ∷ [] })
 abbrev pub loaded : Line → Reading → Reading
 loaded line r = if is_end line then record r { in_load = false } else record r { last = with_pyx line r.last }
 
--- what has been read after another line, with the number of sessions of all lines and the lines behind this one
+-- what has been read after another line, with the number of sessions of all lines and the lines after this one
 abbrev pub read_kind : ℕ → LineKind → Line → List Line → Reading → Result Reading ScriptRefusal
 read_kind sessions Skipped line behind r = Ok r
 read_kind sessions Continuation line behind r = with_continuation line r.last r

@@ -3,7 +3,7 @@
 //! `read_script` gives the script that bytes spell, or the first refusal with its line (`Scripts`).
 //! A script is the calls of each session, and an order of sessions; a call is its text and, of a
 //! LOAD, its PYX lines. `write_journal` writes the text of a journal (`JournalText`): one line an
-//! event, and behind an answer its lines. It takes no memory and goes to the sink in large pieces.
+//! event, and after an answer its lines. It takes no memory and goes to the sink in large pieces.
 //! `read_journal` gives the journal that bytes are the text of, or none where they are the text of
 //! no journal as programs print them; a text determines its journal but for what it does not tell.
 #![tactic(auto)]

@@ -52,6 +52,7 @@ begins_idle Updating certain passes = cc
 begins_idle (Reading n) certain passes = cc
 begins_idle InDoubt certain passes = absurd (certain refl)
 
+-- a session that may make a checkpoint is idle
 pub checkpoints_idle : (x : State) → (x ≡ InDoubt → ⊥) → refused_in x checkpoints ≡ None → x ≡ Idle
 checkpoints_idle Idle certain passes = refl
 checkpoints_idle Updating certain passes = cc
@@ -91,16 +92,19 @@ statement_of (Drop name) a b c d e = refl
 statement_of (Load name lines) a b c d e = refl
 statement_of (Export name) a b c d e = refl
 
+-- a session with an open transaction that is not an updating one reads
 pub open_reading : (x : State) → IsTrue (is_open x) → (x ≡ Updating → ⊥) → IsTrue (is_reading x)
 open_reading Idle inside other = inside
 open_reading Updating inside other = absurd (other refl)
 open_reading (Reading n) inside other = refl
 open_reading InDoubt inside other = inside
 
+-- a reading transaction at the commit of some number
 pub record IsReading (x : State) : Type 0 where
   pub number : ℕ
   pub is : x ≡ Reading number
 
+-- a session that reads does so at some number
 pub reading_at : (x : State) → IsTrue (is_reading x) → IsReading x
 reading_at Idle is = absurd (true≢false (sym is))
 reading_at Updating is = absurd (true≢false (sym is))
@@ -128,6 +132,7 @@ not_updating None is = refl
 not_updating (Some t) is = not_updating_by t.in_doubt t t.kind is
 
 module _ (B : Base) (s : ℕ) (before : List Event) (changes : ChangeMap) (tied : IsTied B s changes before) where
+  -- a session that reads has changed nothing
   pub none_reading : IsTrue (is_reading (state s before)) → changes ≡ no_changes
   none_reading reading = subst (AreChangesOf B before changes) (not_updating (open_of s before) reading) tied
 
@@ -182,7 +187,7 @@ module _ (B : Base) (s : ℕ) (before : List Event) (changes : ChangeMap) (tied 
         (subst (AreHeld (needs call)) (ap locks_in open_is ∙ ap (locks_by t) kind_is) (held_where_granted before s (needs call) is granted))
         (agree_of t.locks (newest B before) G agree)
 
-    -- and its changes are tied behind the answer
+    -- and its changes are tied after the answer
     pub tied_effect : IsTied B s (with_change effect.change changes) (answered s (Some call) effect.says ∷ before)
     tied_effect = let o = opened (open_of s before) is in
         let are : updating (open_of s before) ≡ o.transaction ∷ [] = updating_is (open_of s before) o.transaction o.is o.kind_is in
@@ -212,5 +217,6 @@ module _ (s : ℕ) (changes : ChangeMap) (call : Call) (old : Kept) (ready : IsR
       last : last_of s (past (behind_grant s call old)) ≡ Some (Granted s (needs call))
       last = ap (last_of s) (past-more old.journal (Granted s (needs call))) ∙ here s (last_of s (past old)) (Some (Granted s (needs call)))
 
+  -- after the grant of a call's locks the session's changes are tied still, the locks are held, and the call's answer may follow
   pub granted_here : (mid : Kept) (asked : List Need) → asked ≡ needs call → mid ≡ with_event (Granted s asked) old → IsGrantedHere s changes call mid
   granted_here mid asked same grown = subst (IsGrantedHere s changes call) (sym (grown ∙ ap (λ l. with_event (Granted s l) old) same)) granted_at

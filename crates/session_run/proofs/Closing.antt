@@ -22,6 +22,7 @@ use Rattle.xml_model.specs.Changes.{ChangeMap}
 use Rattle.session_run.specs.Tied.{IsTied, EndsCall, IsBetweenCalls, IsReady, StaysReady}
 use Rattle.session_run.proofs.Tying.{tied_unrun}
 
+-- what follows from P holds of each Ok answer, where P does
 pub on_ok : {T E P Q : Type 0} (r : Result T E) → (P → Q) → OnOk r P → OnOk r Q
 on_ok (Ok x) f fact = f fact
 on_ok (Err e) f fact = tt
@@ -58,7 +59,7 @@ ends_before_settled (Some (Left t)) e before ends = tt
 pub follows_between : (e : Event) (before : List Event) → IsBetweenCalls (session_of e) before → Follows e before
 follows_between e before ends = (ends_before_grant (last_of (session_of e) before) e ends, ends_before_settled (last_of (session_of e) before) e before ends)
 
--- behind its grant a call may be answered
+-- after its grant a call may be answered
 pub follows_grant : (s : ℕ) (call : Call) (says : Says) (before : List Event) → last_of s before ≡ Some (Granted s (needs call))
     → Follows (answered s (Some call) says) before
 follows_grant s call says before is = (
@@ -79,13 +80,13 @@ ready_at s changes old e own ends settled tied = record {
   settled = ap in_doubt (past-more old.journal e) ∙ settled;
 }
 
--- behind an event of its own that closes a call, and leaves nothing in doubt
+-- after an event of its own that closes a call, and leaves nothing in doubt
 pub ready_behind : (s : ℕ) (changes : ChangeMap) (old new : Kept) (e : Event) → new ≡ with_event e old → session_of e ≡ s → EndsCall (Some e)
     → doubt_behind e (in_doubt (past old)) ≡ None
     → IsTied old.base s changes (e ∷ past old) → IsReady s changes new
 ready_behind s changes old new e grown own ends settled tied = subst (IsReady s changes) (sym grown) (ready_at s changes old e own ends settled tied)
 
--- behind an answer to a call that did not run
+-- after an answer to a call that did not run
 pub ready_unrun : (s : ℕ) (call : Option Call) (says : Says) (old new : Kept) → new ≡ with_event (answered s call says) old → ran_by call says ≡ []
     → in_doubt (past old) ≡ None
     → (changes : ChangeMap) → IsTied old.base s changes (past old) → IsReady s changes new
@@ -93,6 +94,7 @@ ready_unrun s call says old new grown none settled changes tied =
     ready_behind s changes old new (answered s call says) grown refl tt settled
     (tied_unrun old.base s (past old) (record { call = call; says = says }) changes none tied)
 
+-- an answer that is right for the call, added as one event, closes the call
 pub answer_closes : (s : ℕ) (call : Call) (says : Says) (old new : Kept) → IsAnswerInMemory old.base s (past old) (Some call) says
     → new ≡ with_event (answered s (Some call) says) old → AddsClosing s call old new
 answer_closes s call says old new right grown =

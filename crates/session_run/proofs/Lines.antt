@@ -9,7 +9,7 @@ use Rattle.pyx_text.specs.declared.fault.PyxFault.TheVariants.{Refused, NoMemory
 use Rattle.pyx_text.specs.Reader.{TakesLine, Ends, end_of}
 use Rattle.session_run.specs.Effects.{Spells}
 
--- the line at a place, and those behind it
+-- the line at a place, and those after it
 pub next_line : (lines : List Line) (i : ℕ) (line : Line) → i < length lines → line ≡ get_or lines i line → drop i lines ≡ line ∷ drop (i + 1) lines
 next_line lines i line within is =
     let more : suc i ≡ i + 1 = omega arith in
@@ -20,6 +20,7 @@ pub one_read : (r : Result Reading RefusedLine) (line : Line) (rest : List Line)
 one_read (Ok x) line rest = refl
 one_read (Err e) line rest = refl
 
+-- with no lines left, what has been read stays as it is
 pub none_left : (r : Result Reading RefusedLine) → (r >>= after []) ≡ r
 none_left (Ok x) = refl
 none_left (Err e) = refl
@@ -28,9 +29,11 @@ none_left (Err e) = refl
 pub length-text : (line : Line) (lines : List Line) → length (text_of (line ∷ lines)) ≡ length line + (1 + length (text_of lines))
 length-text line lines = length-append line (10 ∷ text_of lines) ∙ ap (λ n. length line + n) (omega arith)
 
+-- the test says that a number above the limit is above it
 pub past_limit : (limit n : ℕ) → limit < n → nat_lt limit n ≡ true
 past_limit limit n above = grind (arith, nat_tests)
 
+-- the test says that a number up to the limit is not above it
 pub within_limit : (limit n : ℕ) → n ≤ limit → nat_lt limit n ≡ false
 within_limit limit n within = grind (arith, nat_tests)
 

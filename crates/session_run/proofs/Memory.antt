@@ -17,6 +17,7 @@ use Rattle.session_core.proofs.Covering.{none_ran}
 use Rattle.session_core.proofs.Answering.{stmt_told, right_unrun, right_lacking, right_ran, state_unrun, refused_code}
 use Rattle.session_run.specs.Calls.{HasPlainLines, IsAnswerInMemory}
 
+-- an answer whose cause is in no device says nothing of damage
 pub undamaged : (answer : Says) → is_of_device answer ≡ false → is_damaged answer ≡ false
 undamaged (says.Error (codes.Damaged commit ordinal page)) is = absurd (true≢false is)
 undamaged answer is = refl
@@ -39,13 +40,16 @@ refused_here (codes.Damaged commit ordinal page) is = absurd (true≢false (sym 
 refused_here code is = refl
 
 module _ (B : Base) (s : ℕ) (before : List Event) where
+  -- any call may be answered by want of memory
   pub lacking : (call : Option Call) → IsAnswerInMemory B s before call (says.Error codes.NoMemory)
   lacking call = (right_lacking B s before call, refl, tt)
 
+  -- an answer to a call that did not run is right where it is in order, its cause is in no device and its lines are plain
   pub unrun_here : (call : Option Call) (answer : Says) → AnswersInOrder B.numbers s before call answer → ran_by call answer ≡ [] → is_of_device answer ≡ false
       → HasPlainLines answer → IsAnswerInMemory B s before call answer
   unrun_here call answer order none here plain = (right_unrun B s before call answer order none, here, plain)
 
+  -- what the state refuses is rightly answered by its code
   pub refused_right : (call : Call) (code : Code) → refused_in (state s before) (work_of call) ≡ Some code
       → IsAnswerInMemory B s before (Some call) (says.Error code)
   refused_right call code is = let by_state = refused_code (state s before) (work_of call) code is in

@@ -74,6 +74,6 @@ module _ (F : Forest) (are : IsForest F) where
     plain_keys (front ++ k ∷ []) rest (is ∙ sym (append_assoc front (k ∷ []) rest)),
   )
 
-  -- the names of a forest, each behind a mark, have none
+  -- the names of a forest, each after a mark, have none
   pub plain_names : ArePlain (list_map (λ name. 61 ∷ name) (map.keys F))
   plain_names = plain_keys [] (map.keys F) refl

@@ -65,6 +65,7 @@ module _ (s : ℕ) (text : CallText) (call : Call) (is : Parsed text (Ok call)) 
         (closes_read (behind_grant s call old) new a.closes (Granted s (needs call) ∷ past old) (past-more old.journal (Granted s (needs call))));
   }
 
+  -- where the call that was read is not closed, the call of the text is not
   pub left_read : (old new : Kept) → LeavesRead s call old new → IsUnclosed s text old new
   left_read old new (inl same) = inl same
   left_read old new (inr left) =
@@ -142,6 +143,7 @@ right_end B s before BadName certain =
     (answers.AnswersInOrder.refuses_text (record { code = codes.BadName; refusal = refl; says_so = refl; not_in_doubt = certain })) refl refl tt
 right_end B s before NoMemory certain = lacking B s before None
 
+-- what follows from P holds of each Err answer, where P does
 pub on_err : {T E P Q : Type 0} (r : Result T E) → (P → Q) → OnErr r P → OnErr r Q
 on_err (Ok x) f fact = tt
 on_err (Err e) f fact = f fact

@@ -1,4 +1,4 @@
--- What ties a session's changes to the journal, behind each event.
+-- What ties a session's changes to the journal, after each event.
 use Rattle.std.proofs.Common.{◌≡◌, ℕ, List, [], ◌∷◌, ◌++◌, Option, None, Some, refl, sym, ap, subst, ◌∙◌}
 use Rattle.xq_ast.specs.declared.need.Need.{Need}
 use Rattle.xml_model.specs.Forest.{Forest}
@@ -27,6 +27,7 @@ use Rattle.xml_model.proofs.Laying.{laid-none}
 
 -- ---- forests that agree
 
+-- a forest agrees with itself at any locks
 pub agree_itself : (locks : List Need) (F : Forest) → AgreeAt locks F F
 agree_itself [] F = tt
 agree_itself (n ∷ more) F = (refl, agree_itself more F)
@@ -50,6 +51,7 @@ module _ (B : Base) (s : ℕ) (past : List Event) where
   pub tied_ended : (e : Event) → open_of s (e ∷ past) ≡ None → IsTied B s no_changes (e ∷ past)
   tied_ended e none = tied_none B (e ∷ past) no_changes (open_of s (e ∷ past)) none refl
 
+  -- an idle session has changed nothing
   pub none_idle : (changes : ChangeMap) → state s past ≡ Idle → IsTied B s changes past → changes ≡ no_changes
   none_idle changes idle tied = subst (λ o. AreChangesOf B past changes (updating o)) (idle_none (open_of s past) idle) tied
 
@@ -76,6 +78,7 @@ module _ (B : Base) (s : ℕ) (past : List Event) where
   same_by e changes [] none tied = tied
   same_by e changes (t ∷ more) none tied = λ G agree. tied G (agreed e none t.locks G agree)
 
+  -- after a refusal of locks the changes are tied still
   pub tied_refused : (changes : ChangeMap) (name : List ℕ) (holder : ℕ) (asked : List Need) → IsTied B s changes past
       → IsTied B s changes (Refused s name holder asked ∷ past)
   tied_refused changes name holder asked tied = same_by (Refused s name holder asked) changes (updating (open_of s past)) refl tied
@@ -91,6 +94,7 @@ module _ (B : Base) (s : ℕ) (past : List Event) where
   locked_in e changes asked None none tied = tied
   locked_in e changes asked (Some t) none tied = locked_by e changes asked t t.kind none tied
 
+  -- after a grant of locks the changes are tied still
   pub tied_granted : (changes : ChangeMap) (asked : List Need) → IsTied B s changes past → IsTied B s changes (Granted s asked ∷ past)
   tied_granted changes asked tied =
       subst (λ o. AreChangesOf B (Granted s asked ∷ past) changes (updating o)) (sym (here s (open_of s past) (with_locks asked (open_of s past))))
@@ -116,6 +120,7 @@ module _ (B : Base) (s : ℕ) (past : List Event) where
     replied_in None makes tied = makes ∙ tied
     replied_in (Some t) makes tied = replied_by t t.kind makes tied
 
+    -- after an answer whose call makes these changes of those, these are tied
     pub tied_answered : MakesOf (updating (open_of s past)) → IsTied B s changes past → IsTied B s after (Answered s r ∷ past)
     tied_answered makes tied =
         subst (λ o. AreChangesOf B (Answered s r ∷ past) after (updating o)) (sym (here s (open_of s past) (with_reply r (open_of s past))))

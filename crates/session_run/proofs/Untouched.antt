@@ -33,6 +33,7 @@ closing_whose (Doubt t n mark) is = refl
 closing_whose (Settled by t stands) is = absurd (true≢false (sym is))
 closing_whose (Left t) is = refl
 
+-- a journal that stayed as it was has touched no session
 pub untouched_same : (t : ℕ) (old new : Kept) → new ≡ old → IsUntouched t old new
 untouched_same t old new same = subst (IsUntouched t old) (sym same) (record { open_is = refl; last_is = refl; tied = λ changes tied. tied })
 
@@ -43,7 +44,7 @@ untouched_then t old mid new first second = record {
   tied = λ changes tied. second.tied changes (first.tied changes tied);
 }
 
--- the locks and the refusals before an event are legal where they are behind it
+-- the locks and the refusals before an event are legal where they are after it
 record IsLegalBefore (k : Kept) : Type 0 where
   pub locks : AtEach LocksAt (past k)
   pub refusals : AtEach RefusalsAt (past k)
@@ -98,6 +99,7 @@ module _ (t s : ℕ) (text : CallText) (old new : Kept) (differ : t ≡ s → �
   untouched_unclosed (inr alone) =
       subst (IsUntouched t old) (sym alone.grown) (untouched_grant t s old (Granted s alone.asked) differ refl refl (subst IsLegalBefore alone.grown legal_new))
 
+  -- a call, closed or not, leaves each other session untouched
   pub untouched : {T E : Type 0} (r : Result T E) → OnOk r (IsCalled s text old new) → OnErr r (IsUnclosed s text old new) → IsUntouched t old new
   untouched (Ok x) called unclosed = untouched_called called
   untouched (Err e) called unclosed = untouched_unclosed unclosed

@@ -54,12 +54,12 @@ pub record AddsClosing (s : ℕ) (call : Call) (old new : Kept) : Type 0 where
 abbrev pub behind_grant : ℕ → Call → Kept → Kept
 behind_grant s call old = with_event (Granted s (needs call)) old
 
--- The call needs locks, and is closed behind their grant.
+-- The call needs locks, and is closed after their grant.
 pub record ClosesGranted (s : ℕ) (call : Call) (old new : Kept) : Type 0 where
   pub some : 0 < length (needs call)
   pub closes : AddsClosing s call (behind_grant s call old) new
 
--- the call is closed at once, or behind the grant of its locks
+-- the call is closed at once, or after the grant of its locks
 abbrev pub ClosesRead : ℕ → Call → Kept → Kept → Type 0
 ClosesRead s call old new = AddsClosing s call old new ⊎ ClosesGranted s call old new
 

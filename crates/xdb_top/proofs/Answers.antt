@@ -45,7 +45,7 @@ module _ {X : Type 0} (spells : List ℕ → Result X InputFault) (IsText : X �
     answer = (read.reads.0, record { what = what; is = read.reads.1; text = text; text_is = is; prefix = prefix });
   }
 
-  -- where memory ran out behind the reading
+  -- where memory ran out after the reading
   pub answered_lacking : (before after written : Option (List ℕ)) (what : X)
       → IsRead spells before after (Ok what) → ((input : List ℕ) → IsWhole input after → spells input ≡ Ok what → Lacks input after)
       → IsAnswered spells IsText Lacks before after written written (Some NoMemory)

@@ -89,6 +89,7 @@ has_next-more : (s : ℕ) (turns more : List ℕ) → HasNext s turns → HasNex
 has_next-more s [] more is = absurd is
 has_next-more s (t ∷ turns) more is = is
 
+-- where the call under way is of the next turn, it still is when more turns are to come after it
 pub next_turn-more : (past : List Event) (turns more : List ℕ) → IsOfNextTurn past turns → IsOfNextTurn past (turns ++ more)
 next_turn-more [] turns more is = tt
 next_turn-more (Began s kind ∷ past) turns more is = tt
@@ -116,7 +117,7 @@ follows_rest e (Doubt s n mark ∷ past) rests = tt
 follows_rest e (Settled by s stands ∷ past) rests = absurd rests
 follows_rest e (Left s ∷ past) rests = tt
 
--- behind the closing of a call none is
+-- after the closing of a call none is
 rests_closed : (e : Event) (past : List Event) → is_closing e ≡ true → IsAtRest (e ∷ past)
 rests_closed (Began s kind) past is = tt
 rests_closed (Granted s needs) past is = no_grant is
@@ -129,6 +130,7 @@ rests_closed (Doubt s n mark) past is = tt
 rests_closed (Settled by s stands) past is = no_grant is
 rests_closed (Left s) past is = tt
 
+-- directly after the closing of a session's call no call is under way
 pub rests_behind : (s : ℕ) (past : List Event) → IsBehindCall s past → IsAtRest past
 rests_behind s [] behind = absurd behind
 rests_behind s (e ∷ past) behind = rests_closed e past behind.1
@@ -146,9 +148,11 @@ stays_open t (Doubt s n mark) o is other = elsewhere s t o _ other
 stays_open t (Settled by s stands) o is other = no_grant is
 stays_open t (Left s) o is other = no_grant is
 
+-- an event that closes a call of the session is one more call that it has closed
 pub closed_here : (s : ℕ) (e : Event) (past : List Event) → is_closing e ≡ true → session_of e ≡ s → closed_of s (e ∷ past) ≡ closed_of s past + 1
 closed_here s e past is same = rw (is, same, here {A = ℕ} s 0 1) (omega arith)
 
+-- an event that closes another session's call leaves how many calls a session has closed
 pub closed_elsewhere : (t : ℕ) (e : Event) (past : List Event) → is_closing e ≡ true → (session_of e ≡ t → ⊥) → closed_of t (e ∷ past) ≡ closed_of t past
 closed_elsewhere t e past is other = rw (is, elsewhere {A = ℕ} (session_of e) t 0 1 other) (omega arith)
 
@@ -189,7 +193,7 @@ granted_played B P s text asked past played rests next needed = record {
     zero_more : (n : ℕ) → 0 + n ≡ n
     zero_more n = omega arith
 
--- behind it the call is still the next
+-- after it the call is still the next
 pub next_behind_grant : (P : Scripts) (s : ℕ) (asked : List Need) (past : List Event) → next_call P s (Granted s asked ∷ past) ≡ next_call P s past
 next_behind_grant P s asked past = ap (λ n. slice_get (calls_of P s) n) (omega arith)
 

@@ -90,7 +90,7 @@ module _ (B : Base) (P : Scripts) where
       → closed_of s (e ∷ past) ≡ length (calls_of P s)
   still_closed s e past other all = let none : more_closed s e ≡ 0 = none_closed s (session_of e) (is_closing e) other in omega (arith, none, all)
 
-  -- a session whose calls are closed adds no event, but that it leaves directly behind its last call
+  -- a session whose calls are closed adds no event, but that it leaves directly after its last call
   adds_none : (s : ℕ) (e : Event) (past : List Event) → IsPlace B P e past → IsNoWant e → closed_of s past ≡ length (calls_of P s) → (IsBehindCall s past → ⊥)
       → session_of e ≡ s → ⊥
   adds_none s e past place no_want all not_behind same = by_kind (of_text B P past e place no_want)
@@ -190,6 +190,7 @@ whole_to_come B script journal whole no_want =
     (to_come B script.sessions journal [] (subst (AtEach (IsPlace B script.sessions)) (past_onto journal) each) no_want
     (subst (ClosesAtEnd script.sessions) (past_onto journal) whole.legal.closes.at_end)).0
 
+-- two whole plays of a script in which no call was answered for want of memory have the same events
 pub one_play : (B : Base) (script : Script) (one other : List Event) → IsWholePlay B script one → IsWholePlay B script other → HasNoWant one → HasNoWant other
     → one ≡ other
 one_play B script one other whole whole' no_want no_want' =

@@ -40,6 +40,7 @@ other_seat seats i j seat found other got =
     slice_get-get_or seats j found within
     ∙ ap Some (sym (get_or-set_other seats i j seat found other) ∙ get_or_from_slice_get (slice_set seats i seat) j found found got)
 
+-- after the turn of the session in a place of the seats, the seats play on with that session's new seat in its place
 pub seat_played : (P : Scripts) (i : ℕ) (old new : Kept) (seats : List Seat) (seat : Seat) → IsPlaying P old seats → i < length seats
     → HasHadTurn P (i + 1) old new seat
     → HasPlayed P ((i + 1) ∷ []) old new (slice_set seats i seat)
@@ -70,6 +71,7 @@ none_there P zero out = omega arith
 none_there P (suc s) (inl is) = absurd (omega arith)
 none_there P (suc s) (inr past_all) = let none = ap (λ o. length (or_none o)) (slice_get_past P s (omega arith)) in omega arith
 
+-- the turn of a number without a session changes nothing
 pub nobody_played : (P : Scripts) (s : ℕ) (k : Kept) (seats : List Seat) → IsPlaying P k seats → (s ≡ 0) ⊎ (length seats < s) → HasPlayed P (s ∷ []) k k seats
 nobody_played P s k seats playing out =
     record { playing = playing; turns = sym (passes P (turns_in k.journal) s (let none = none_there P s (among out) in omega arith)) }
@@ -78,15 +80,17 @@ nobody_played P s k seats playing out =
     among (inl is) = inl is
     among (inr above) = inr (subst (λ n. n < s) playing.as_many above)
 
--- ---- turns behind turns
+-- ---- turns after turns
 
 ordered-append : (P : Scripts) (turns xs ys : List ℕ) → ordered P turns (xs ++ ys) ≡ ordered P (ordered P turns xs) ys
 ordered-append P turns [] ys = refl
 ordered-append P turns (s ∷ xs) ys = ordered-append P (with_turn P turns s) xs ys
 
+-- after no turns the seats play as they did
 pub nothing_played : (P : Scripts) (k : Kept) (seats : List Seat) → IsPlaying P k seats → HasPlayed P [] k k seats
 nothing_played P k seats playing = record { playing = playing; turns = refl }
 
+-- turns that were had, and then others, are all of them had in turn
 pub more_played : (P : Scripts) (first second : List ℕ) (old mid new : Kept) (seats seats' : List Seat) → HasPlayed P first old mid seats
     → HasPlayed P second mid new seats'
     → HasPlayed P (first ++ second) old new seats'
@@ -97,11 +101,12 @@ more_played P first second old mid new seats seats' one other = record {
 
 -- ---- a play that breaks off
 
+-- what holds anyway holds of each Err answer
 pub where_err : {T E P : Type 0} (r : Result T E) → P → OnErr r P
 where_err (Ok x) fact = tt
 where_err (Err e) fact = fact
 
--- behind turns that were had
+-- after turns that were had
 pub played_and_off : (P : Scripts) (first second : List ℕ) (old mid new : Kept) (seats : List Seat) → HasPlayed P first old mid seats
     → HasBrokenOff P second mid new → HasBrokenOff P (first ++ second) old new
 played_and_off P first second old mid new seats one off = record {
@@ -132,6 +137,7 @@ one_by_one-more first (c ∷ P) calls =
     ∙ ap (λ n. one_by_one (first + 1) P ++ replicate (length calls) n) (omega arith))
     ∙ sym (append_assoc (replicate (length c) first) (one_by_one (first + 1) P) (replicate (length calls) (first + suc (length P))))
 
+-- the turns one by one of the first i sessions, and then as many of the next as it has calls, are those of the first i + 1
 pub one_by_one-next : (P : Scripts) (i : ℕ) (calls : List CallText) → i < length P → calls ≡ slice_index_or P i calls
     → one_by_one 1 (take i P) ++ replicate (length calls) (i + 1) ≡ one_by_one 1 (take (i + 1) P)
 one_by_one-next P i calls within is =

@@ -26,6 +26,7 @@ use Rattle.xdb_top.proofs.Closing.{follows_rest, next_at_rest, rests_behind, gra
 
 -- ---- one turn in a list of turns
 
+-- a session that has had as many turns as it has calls is passed over
 pub passes : (P : Scripts) (turns : List ℕ) (s : ℕ) → length (calls_of P s) ≤ turns_of s turns → with_turn P turns s ≡ turns
 passes P turns s none = rw (le-ltb (turns_of s turns) (length (calls_of P s)) none) refl
 
@@ -60,7 +61,7 @@ pub record IsUpAfter (P : Scripts) (s : ℕ) (old new : Kept) : Type 0 where
   pub turns : turns_in new.journal ≡ turns_in old.journal ++ s ∷ []
   pub base : new.base ≡ old.base
 
--- the same of events behind a past
+-- the same of events after a past
 record IsUpBehind (B : Base) (P : Scripts) (s : ℕ) (old new : List Event) : Type 0 where
   up : IsUpTo B P s new
   closed_here : closed_of s new ≡ closed_of s old + 1
@@ -113,6 +114,7 @@ up_after P s text old _ played rests next (behind_grant {asked = asked} {e = e} 
       base = refl;
     }
 
+-- where the next call of a session is closed, one call more is played, up to what its session's end may still bring
 pub up_after_call : (P : Scripts) (s : ℕ) (text : CallText) (old new : Kept) → IsPlayed old.base P (past old) → IsAtRest (past old)
     → next_call P s (past old) ≡ Some text → IsCalled s text old new → IsUpAfter P s old new
 up_after_call P s text old new played rests next called =
@@ -143,6 +145,7 @@ granted_alone P s text asked old played rests next needed =
       under_way = subst (λ before. IsOfNextTurn before (s ∷ [])) (sym (past-more old.journal (Granted s asked))) refl;
     }
 
+-- where the next call of a session is not closed, the play breaks off at its turn
 pub broke_off : (P : Scripts) (s : ℕ) (text : CallText) (old new : Kept) → IsPlayed old.base P (past old) → IsAtRest (past old)
     → next_call P s (past old) ≡ Some text → IsUnclosed s text old new
     → HasBrokenOff P (s ∷ []) old new
@@ -234,13 +237,16 @@ turn_ends P s old mid new seat after left closed ready number made all first sec
 
 -- ---- the calls of a session in its place
 
+-- the session with the number i + 1 has the calls at the place i of the script
 pub calls_at : (P : Scripts) (i : ℕ) (calls : List CallText) → i < length P → calls ≡ slice_index_or P i calls → calls_of P (i + 1) ≡ calls
 calls_at P i calls within is = ap (calls_of P) (add-one i) ∙ ap or_none (slice_get_read P (length P) i calls refl within is)
 
+-- where the calls that it has made are not below how many it has, the session has no call left
 pub none_left : (P : Scripts) (i made : ℕ) (calls : List CallText) → calls_of P (i + 1) ≡ calls → false ≡ nat_lt made (length calls)
     → length (calls_of P (i + 1)) ≤ made
 none_left P i made calls are none = subst (λ cs. length cs ≤ made) (sym are) (ltb-false made (length calls) (sym none))
 
+-- the call at the place of those that a session has closed is its next call
 pub next_at : (P : Scripts) (i made : ℕ) (calls : List CallText) (text : CallText) (before : List Event) → calls_of P (i + 1) ≡ calls
     → true ≡ nat_lt made (length calls)
     → text ≡ slice_index_or calls made text → made ≡ closed_of (i + 1) before → next_call P (i + 1) before ≡ Some text
@@ -266,8 +272,10 @@ broke_off_next P i made number calls text old new played rests are some is close
     broke_off P (i + 1) text old new played rests (next_at P i made calls text (past old) are some is closed)
     (subst (λ s. IsUnclosed s text old new) numbered left)
 
+-- a session that is ready under its number is ready under the number of its place
 pub ready_as : (number i : ℕ) (changes : ChangeMap) (k : Kept) → number ≡ i + 1 → IsReady number changes k → IsReady (i + 1) changes k
 ready_as number i changes k numbered ready = subst (λ s. IsReady s changes k) numbered ready
 
+-- sessions other than a number are untouched also where that number is told by its place
 pub others_as : (number i : ℕ) (old new : Kept) → number ≡ i + 1 → ((t : ℕ) → t ≢ number → IsUntouched t old new) → (t : ℕ) → t ≢ i + 1 → IsUntouched t old new
 others_as number i old new numbered others t other = others t (λ same. other (same ∙ numbered))

@@ -15,13 +15,16 @@ use Rattle.xdb_top.specs.Played.{start, IsPlayed}
 use Rattle.xdb_top.specs.Playing.{IsPlaying, HasPlayed, HasBrokenOff, AreNewSeats, start_kept, IsPlayedWhole}
 use Rattle.xdb_top.proofs.Seats.{broke_off_at}
 
+-- the seat of a session at this place that has made no call
 abbrev pub new_seat : ℕ → Seat
 new_seat i = record { session = seat_of (i + 1) no_changes; made = 0 }
 
+-- an empty list is the new seats of no sessions
 pub no_seats : (seats : List Seat) → seats ≡ [] → AreNewSeats 0 seats
 no_seats seats none = subst (AreNewSeats 0) (sym none)
     (record { as_many = refl; each = λ i seat got. absurd (let out = slice_get_within [] i seat got in omega (arith, out)) })
 
+-- the new seats of n sessions and one more new seat are those of n + 1
 pub one_seat_more : (n : ℕ) (seats : List Seat) → AreNewSeats n seats → AreNewSeats (n + 1) (seats ++ new_seat n ∷ [])
 one_seat_more n seats are = record {
   as_many = length-append seats (new_seat n ∷ []) ∙ omega (arith, are.as_many);
@@ -40,6 +43,7 @@ one_seat_more n seats are = record {
         are.each i seat (slice_get-get_or seats i seat within
         ∙ ap Some (sym (get_or_append_left seats (new_seat n ∷ []) seat i within) ∙ get_or_from_slice_get (seats ++ new_seat n ∷ []) i seat seat got))
 
+-- where there are no events, scripts are played so far
 pub nothing_played_yet : (B : Base) (P : Scripts) → IsPlayed B P []
 nothing_played_yet B P =
     record { closes = tt; texts = tt; right = tt; at_once = tt; leaves = tt; stays = λ s has. absurd (true≢false (sym has)); ends = λ s all. refl }
@@ -48,6 +52,7 @@ nothing_played_yet B P =
 pub off_at_start : (P : Scripts) (order : List ℕ) (k : Kept) → k ≡ start_kept → HasBrokenOff P order start_kept k
 off_at_start P order k is = subst (HasBrokenOff P order start_kept) (sym is) (broke_off_at P order start_kept start_kept (nothing_played_yet start P) tt refl)
 
+-- new seats, one for each session, play from the empty journal on
 pub starts : (P : Scripts) (seats : List Seat) → AreNewSeats (length P) seats → IsPlaying P start_kept seats
 starts P seats are = record {
   base = refl;
@@ -61,6 +66,7 @@ starts P seats are = record {
   };
 }
 
+-- when the turns of the order and then all one by one were had from the start, the script was played whole
 pub whole : (script : Script) (k : Kept) (seats : List Seat) → HasPlayed script.sessions (script.order ++ one_by_one 1 script.sessions) start_kept k seats
     → IsPlayedWhole script k
 whole script k seats played = record { base = played.playing.base; played = played.playing.played; at_rest = played.playing.at_rest; in_turn = played.turns }

@@ -9,6 +9,7 @@ use Rattle.session_core.specs.Closes.{Scripts, calls_of, or_none, closed_of, mor
 use Rattle.session_core.proofs.Tying.{here, elsewhere}
 use Rattle.xdb_top.specs.Turns.{one_where, turns_of, with_turn, ordered, one_by_one, all_turns, turns_in}
 
+-- a session's turns in two lists are those in the first and those in the second
 pub turns_of-append : (s : ℕ) (xs ys : List ℕ) → turns_of s (xs ++ ys) ≡ turns_of s xs + turns_of s ys
 turns_of-append s [] ys = omega arith
 turns_of-append s (t ∷ xs) ys = rw (turns_of-append s xs ys) (omega arith)
@@ -41,6 +42,7 @@ turns_of-with_turn P turns t s within = by_tests (nat_lt (turns_of t turns) (len
         rw test (omega arith)
     by_tests false is (inr (test, other)) = rw test (omega arith)
 
+-- an order adds to a session's turns as often as it names the session, up to its number of calls
 pub turns_of-ordered : (P : Scripts) (turns order : List ℕ) (s : ℕ) → turns_of s turns ≤ length (calls_of P s)
     → turns_of s (ordered P turns order) ≡ min (length (calls_of P s)) (turns_of s turns + turns_of s order)
 turns_of-ordered P turns [] s within = omega arith
@@ -72,6 +74,7 @@ from_first first (calls ∷ more) (suc k) =
     let rest = from_first (first + 1) more k in
     omega arith
 
+-- one by one, each session has as many turns as it has calls
 pub turns_of-one_by_one : (P : Scripts) (s : ℕ) → turns_of s (one_by_one 1 P) ≡ length (calls_of P s)
 turns_of-one_by_one P zero = before_first 1 0 P (omega arith)
 turns_of-one_by_one P (suc s) = ap (λ u. turns_of u (one_by_one 1 P)) (omega arith) ∙ from_first 1 P s
@@ -86,13 +89,16 @@ all_had P order s =
 
 -- ---- turns that come first in others
 
+-- some turns come first in others
 pub record IsFront (turns all : List ℕ) : Type 0 where
   pub rest : List ℕ
   pub is : turns ++ rest ≡ all
 
+-- turns come first in themselves
 pub front_itself : (turns : List ℕ) → IsFront turns turns
 front_itself turns = record { rest = []; is = append-nil turns }
 
+-- what comes first in turns that come first in others comes first in those
 pub front_then : (a b c : List ℕ) → IsFront a b → IsFront b c → IsFront a c
 front_then a b c one other =
     record { rest = one.rest ++ other.rest; is = sym (append_assoc a one.rest other.rest) ∙ ap (λ x. x ++ other.rest) one.is ∙ other.is }
@@ -104,17 +110,21 @@ with_turn_front P turns s = by_test (nat_lt (turns_of s turns) (length (calls_of
     by_test true = record { rest = s ∷ []; is = refl }
     by_test false = front_itself turns
 
+-- the turns that were had come first in those that an order makes of them
 pub ordered_front : (P : Scripts) (turns order : List ℕ) → IsFront turns (ordered P turns order)
 ordered_front P turns [] = front_itself turns
 ordered_front P turns (s ∷ order) =
     front_then turns (with_turn P turns s) (ordered P (with_turn P turns s) order) (with_turn_front P turns s) (ordered_front P (with_turn P turns s) order)
 
+-- the first k turns come first in all
 pub take_front : (k : ℕ) (turns : List ℕ) → IsFront (take k turns) turns
 take_front k turns = record { rest = drop k turns; is = take-append-drop k turns }
 
+-- of a turn that is repeated, fewer come first in more
 pub replicate_front : (k n turn : ℕ) → k ≤ n → IsFront (replicate k turn) (replicate n turn)
 replicate_front k n turn within = subst (λ turns. IsFront turns (replicate n turn)) (take-replicate k n turn within) (take_front k (replicate n turn))
 
+-- the turns one by one of the first k sessions come first in those of all
 pub one_by_one_front : (first k : ℕ) (P : Scripts) → IsFront (one_by_one first (take k P)) (one_by_one first P)
 one_by_one_front first zero P = record { rest = one_by_one first P; is = refl }
 one_by_one_front first (suc k) [] = front_itself []
@@ -143,6 +153,7 @@ closed_by_turns s (e ∷ journal) =
     by_test true is = omega arith
     by_test false is = omega arith
 
+-- the turns of two journals in a row are those of the first and then those of the second
 pub turns_in-append : (xs ys : List Event) → turns_in (xs ++ ys) ≡ turns_in xs ++ turns_in ys
 turns_in-append [] ys = refl
 turns_in-append (e ∷ xs) ys = by_test (is_closing e) (turns_in-append xs ys)
@@ -156,5 +167,6 @@ turns_in-append (e ∷ xs) ys = by_test (is_closing e) (turns_in-append xs ys)
 pub turn_more : (journal : List Event) (e : Event) → is_closing e ≡ true → turns_in (journal ++ e ∷ []) ≡ turns_in journal ++ session_of e ∷ []
 turn_more journal e is = turns_in-append journal (e ∷ []) ∙ rw is refl
 
+-- an event that closes no call adds no turn
 pub no_turn_more : (journal : List Event) (e : Event) → is_closing e ≡ false → turns_in (journal ++ e ∷ []) ≡ turns_in journal
 no_turn_more journal e is = turns_in-append journal (e ∷ []) ∙ rw is (append-nil (turns_in journal))

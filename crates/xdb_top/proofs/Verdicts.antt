@@ -40,19 +40,23 @@ pub data Verdict : Type 0 where
   commits : Verdict
   runs : Verdict
 
+-- the event that answers this call of a session so
 abbrev pub answered : ℕ → Call → Says → Event
 answered s call answer = Answered s (record { call = Some call; says = answer })
 
+-- outside of a transaction a BEGIN begins one, and any other call is done
 abbrev pub in_idle : Base → ℕ → List Event → Call → Verdict
 in_idle B s past Begin = only (Began s kinds.Updating)
 in_idle B s past BeginRead = only (Began s (kinds.Reading (B.numbers.commit + commit_count past)))
 in_idle B s past call = only (answered s call says.Done)
 
+-- in an updating transaction a COMMIT commits, a ROLLBACK rolls back, and a statement runs
 abbrev pub in_updating : ℕ → Call → Verdict
 in_updating s Commit = commits
 in_updating s Rollback = only (RolledBack s)
 in_updating s call = runs
 
+-- in a reading transaction a COMMIT ends it, a ROLLBACK rolls back, and a statement is answered on the documents of its commit
 abbrev pub in_reading : Base → ℕ → List Event → ℕ → Call → Verdict
 in_reading B s past n Commit = only (Ended s)
 in_reading B s past n Rollback = only (RolledBack s)
@@ -65,6 +69,7 @@ passing B s past call Updating = in_updating s call
 passing B s past call (Reading n) = in_reading B s past n call
 passing B s past call InDoubt = runs
 
+-- what the state refuses is answered by its code, and what it lets pass as the state says
 abbrev pub by_refusal : Base → ℕ → List Event → Call → State → Option Code → Verdict
 by_refusal B s past call x None = passing B s past call x
 by_refusal B s past call x (Some code) = only (answered s call (says.Error code))
@@ -111,12 +116,14 @@ module _ (B : Base) (s : ℕ) (past : List Event) where
   pub told_where : (call found : Call) (x y : State) (e : Event) → call ≡ found → x ≡ y → IsTold B s past found y e → IsTold B s past call x e
   told_where call found x y e same state_is told = subst (λ c. IsTold B s past c x e) (sym same) (subst (λ z. IsTold B s past found z e) (sym state_is) told)
 
+  -- in a reading transaction COMMIT is told: it ends
   pub ended : (x : State) → IsTrue (is_reading x) → IsTold B s past Commit x (Ended s)
   ended Idle is = never is
   ended Updating is = never is
   ended (Reading n) is = refl
   ended InDoubt is = never is
 
+  -- in an open transaction ROLLBACK is told: it rolls back
   pub rolled_back : (x : State) → IsTrue (is_open x) → IsTold B s past Rollback x (RolledBack s)
   rolled_back Idle is = never is
   rolled_back Updating is = refl

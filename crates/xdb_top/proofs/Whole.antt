@@ -18,6 +18,7 @@ use Rattle.xdb_top.proofs.Turns.{closed_by_turns, all_had}
 use Rattle.xdb_top.proofs.Starting.{nothing_played_yet}
 use Rattle.xdb_top.proofs.Closing.{next_at_rest}
 
+-- events that are legal so far and played, when each session has closed all its calls, are one legal history
 pub all_closed : (B : Base) (P : Scripts) (journal : List Event) → SoFar B journal → IsPlayed B P (past_of journal)
     → ((s : ℕ) → closed_of s (past_of journal) ≡ length (calls_of P s)) → Legal journal B P
 all_closed B P journal so_far played all = record {
@@ -48,6 +49,7 @@ whole_play script k whole so_far typed = record {
       (played_from_start script k whole).right;
 }
 
+-- a play that ends with Ok, with a typed journal, is a whole play
 pub whole_where_ok : {T E : Type 0} (r : Result T E) (script : Script) (k : Kept) (journal : List Event) → OnOk r (IsPlayedWhole script k)
     → SoFar k.base k.journal → journal ≡ k.journal → AreTyped journal
     → IsTrue (is_ok r) → IsWholePlay start script journal

@@ -14,7 +14,7 @@ use Rattle.script_text.specs.JournalText.{ArePrinted}
 use Rattle.xdb_top.specs.Turns.{LeavesAtOnce, FollowsAtOnce, IsOfNextTurn, IsBehindCall, turns_in, all_turns}
 
 -- each event is for a call of its session, in order, and no device takes part in it; what closes a call comes directly
--- behind the grant of its locks, or behind what was settled for it; a session leaves only behind its last call, and its transaction is then not open
+-- after the grant of its locks, or after what was settled for it; a session leaves only after its last call, and its transaction is then not open
 pub record IsPlayed (B : Base) (P : Scripts) (past : List Event) : Type 0 where
   pub closes : AtEach (ClosesAt P) past
   pub texts : AtEach (TextRefusalsAt P) past
@@ -24,7 +24,7 @@ pub record IsPlayed (B : Base) (P : Scripts) (past : List Event) : Type 0 where
   pub stays : (s : ℕ) → has_left s past ≡ true → closed_of s past ≡ length (calls_of P s)
   pub ends : (s : ℕ) → closed_of s past ≡ length (calls_of P s) → is_open (state s past) ≡ false
 
--- the same directly behind the closing of a session's call, when that session's end may be still to come
+-- the same directly after the closing of a session's call, when that session's end may be still to come
 pub record IsUpTo (B : Base) (P : Scripts) (s : ℕ) (past : List Event) : Type 0 where
   pub closes : AtEach (ClosesAt P) past
   pub texts : AtEach (TextRefusalsAt P) past

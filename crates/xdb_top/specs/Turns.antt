@@ -19,7 +19,7 @@ turns_of s (t ∷ turns) = one_where (t == s) + turns_of s turns
 abbrev pub with_turn : Scripts → List ℕ → ℕ → List ℕ
 with_turn P turns s = if nat_lt (turns_of s turns) (length (calls_of P s)) then turns ++ s ∷ [] else turns
 
--- the turns that an order gives, behind some turns
+-- the turns that an order gives, after some turns
 abbrev pub ordered : Scripts → List ℕ → List ℕ → List ℕ
 ordered P turns [] = turns
 ordered P turns (s ∷ order) = ordered P (with_turn P turns s) order
@@ -43,12 +43,12 @@ abbrev pub IsBehindCall : ℕ → List Event → Type 0
 IsBehindCall s [] = ⊥
 IsBehindCall s (e ∷ past) = (session_of e ≡ s) × (is_closing e ≡ true)
 
--- a session leaves directly behind its last call
+-- a session leaves directly after its last call
 abbrev pub LeavesAtOnce : Event → List Event → Type 0
 LeavesAtOnce (Left s) past = IsBehindCall s past
 LeavesAtOnce _ past = Unit {0}
 
--- directly behind the grant of a session's locks comes what closes its call, and behind a settling that or the grant
+-- directly after the grant of a session's locks comes what closes its call, and after a settling that or the grant
 abbrev pub FollowsAtOnce : Event → List Event → Type 0
 FollowsAtOnce e (Granted s asked ∷ past) = (session_of e ≡ s) × (is_closing e ≡ true)
 FollowsAtOnce e (Settled by s stands ∷ past) = (session_of e ≡ by) × ((is_closing e || is_grant e) ≡ true)

@@ -106,7 +106,7 @@ fn newlines(text: &str) -> usize
     text.as_bytes().iter().filter(|b| **b == b'\n').count()
 }
 
-/// The first fault of an input whose first bad byte stands behind this text.
+/// The first fault of an input whose first bad byte stands after this text.
 fn read_front(alloc: Global, front: &str) -> Result<Doc, InputEnd>
     ensures { Gives result (spec.up_to_bad_byte front.now) }
 {

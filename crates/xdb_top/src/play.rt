@@ -28,7 +28,7 @@ pub(crate) struct Played {
     pub is_whole: bool,
 }
 
-/// The session makes its next call, if it has one left. Its end comes directly behind its last call.
+/// The session makes its next call, if it has one left. Its end comes directly after its last call.
 fn play_seat(
     core: &mut Core,
     seat: &mut Seat,

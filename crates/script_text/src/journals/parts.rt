@@ -8,28 +8,28 @@ use crate::journals::rows::behind;
 use std::alloc::Global;
 use xq_ast::{LockMode, Need, NeedList, NoMemory, Sequence, Str, StrList};
 
-/// What stands before the first newline, and what behind it.
+/// What stands before the first newline, and what after it.
 pub(crate) fn cut_line(text: &str) -> Option<(&str, &str)>
     ensures { MatchOption result (IsPlain text.now) (λ x. IsCutLine text.now x.0.now x.1.now) }
 {
     text.split_once('\n')
 }
 
-// What stands before the first quote, and what behind it.
+// What stands before the first quote, and what after it.
 fn cut_name(text: &str) -> Option<(&str, &str)>
     ensures { MatchOption result (has_quote text.now ≡ false) (λ x. IsCutName text.now x.0.now x.1.now) }
 {
     text.split_once('\'')
 }
 
-/// A name, and what stands behind its last quote.
+/// A name, and what stands after its last quote.
 #[derive(Drop)]
 pub(crate) struct NameText<'a> {
     pub name: Str,
     pub rest: &'a str,
 }
 
-// The name behind an opening quote.
+// The name after an opening quote.
 fn read_name(alloc: Global, text: &str) -> Result<Option<NameText<'_>>, NoMemory>
     ensures { IfOk result (λ found. ReadsName found text.now) }
 {
@@ -58,7 +58,7 @@ pub(crate) fn read_quoted(alloc: Global, text: &str) -> Result<Option<NameText<'
     }
 }
 
-/// A mode behind a space, and what stands behind it.
+/// A mode after a space, and what stands after it.
 #[derive(Drop)]
 struct ModeText<'a> {
     mode: LockMode,
@@ -81,7 +81,7 @@ fn read_mode(text: &str) -> Option<ModeText<'_>>
     })
 }
 
-/// A need, and what stands behind it.
+/// A need, and what stands after it.
 #[derive(Drop)]
 struct NeedText<'a> {
     need: Need,
@@ -142,7 +142,7 @@ pub(crate) fn stands_of(word: &str) -> Option<bool>
     }
 }
 
-/// Lines, and what stands behind them.
+/// Lines, and what stands after them.
 #[derive(Drop)]
 pub(crate) struct LinesText<'a> {
     pub lines: StrList,

@@ -1,4 +1,4 @@
-// Parts of lines, sent to a sink one behind another.
+// Parts of lines, sent to a sink one after another.
 ghost use Rattle.std.specs.Prelude.{◌∷◌, []};
 ghost use Rattle.std.specs.Fmt.{decimal};
 ghost use Rattle.script_text.specs.JournalText.{doubled};
@@ -66,7 +66,7 @@ fn send_piece<W: Sink>(
     }
 }
 
-/// Sends parts, one behind another.
+/// Sends parts, one after another.
 pub(crate) fn send_pieces<W: Sink>(
     to: &mut W,
     pending: &mut Pending,

@@ -116,14 +116,14 @@ fn read_row(alloc: Global, row: Row, session: u32, rest: &str) -> Result<Option<
     }
 }
 
-/// An event, and what stands behind its text.
+/// An event, and what stands after its text.
 #[derive(Drop)]
 struct EventText<'a> {
     event: Event,
     rest: &'a str,
 }
 
-// An answer with its lines, which stand behind its first line.
+// An answer with its lines, which stand after its first line.
 fn read_answer<'a>(
     alloc: Global,
     session: u32,
@@ -144,7 +144,7 @@ fn read_answer<'a>(
     }
 }
 
-// An event by how its first line begins, and by what stands behind that line.
+// An event by how its first line begins, and by what stands after that line.
 fn read_behind<'a>(
     alloc: Global,
     start: &LineStart<'_>,

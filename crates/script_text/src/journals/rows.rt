@@ -60,14 +60,14 @@ fn word_of_row(row: Row) -> &'static str
     }
 }
 
-/// What stands behind a word at the beginning of a text.
+/// What stands after a word at the beginning of a text.
 pub(crate) fn behind<'a>(text: &'a str, word: &str) -> Option<&'a str>
     ensures { MatchOption result ((rest : List ℕ) → text.now ≢ word.now ++ rest) (λ rest. text.now ≡ word.now ++ rest.now) }
 {
     text.strip_prefix(word)
 }
 
-/// A row, and what stands behind its words.
+/// A row, and what stands after its words.
 #[derive(Drop)]
 struct RowText<'a> {
     row: Row,
@@ -106,7 +106,7 @@ pub(crate) fn session_of(text: &str) -> Option<u32>
     }
 }
 
-/// The first line of an event: its session, its row, and what stands behind the row's words.
+/// The first line of an event: its session, its row, and what stands after the row's words.
 #[derive(Drop)]
 pub(crate) struct LineStart<'a> {
     pub session: u32,

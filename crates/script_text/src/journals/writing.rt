@@ -82,7 +82,7 @@ fn send_began<W: Sink>(
     }
 }
 
-// Needs behind a first one.
+// Needs after a first one.
 fn send_others<W: Sink>(to: &mut W, pending: &mut Pending, needs: &[Need]) -> Result<(), WriteFault>
     ensures { Sends result (others_text needs.now)
         (stage (W.written to.old) (W.faults to.old) pending.old)

@@ -15,7 +15,7 @@ pub(crate) enum LineKind {
     Call,
 }
 
-/// The first line of some bytes, and what stands behind its newline.
+/// The first line of some bytes, and what stands after its newline.
 #[derive(Drop)]
 pub(crate) struct ByteLine<'a> {
     pub line: &'a [u8],
@@ -119,7 +119,7 @@ fn is_session(line: &[u8]) -> bool
     line == b"SESSION".as_slice()
 }
 
-/// A word, and the text behind the first space after it.
+/// A word, and the text after the first space that follows it.
 #[derive(Drop)]
 pub(crate) struct FirstWord<'a> {
     pub word: &'a str,

@@ -55,7 +55,7 @@ pub(crate) fn nothing_read(alloc: Global) -> Reading
     }
 }
 
-// Puts the last call behind the others.
+// Puts the last call after the others.
 fn push_last(reading: &mut Reading) -> Result<(), NoMemory>
     ensures { OnOk result (reading.new ≡ record reading.old { calls = reading.old.calls ++ option_to_list reading.old.last; last = None }) }
 {
@@ -192,7 +192,7 @@ fn take_text(
     take_kind(alloc, reading, sessions, text, behind)
 }
 
-/// Takes the next line, with the number of sessions of the whole script and what stands behind the line.
+/// Takes the next line, with the number of sessions of the whole script and what stands after the line.
 pub(crate) fn take_line(
     alloc: Global,
     reading: &mut Reading,

@@ -7,5 +7,6 @@ abbrev pub invariant-pieces : goal.invariant-pieces
 invariant-pieces g l = (vec_len l.bytes ≤ l.limit) × (g.R.Source.rest l.fn.from ≡ prepend_known l.bytes.items (g.R.Source.rest l.from))
     × (g.R.Source.faults l.from ≡ g.R.Source.faults l.fn.from)
 
+-- how many bytes may still be taken, the one past the limit with them
 abbrev pub decreases-pieces : goal.decreases-pieces
 decreases-pieces g l = l.limit + 1 - vec_len l.bytes

@@ -1,4 +1,4 @@
--- Whatever records, or whatever refusal, come from here, they come behind those so far.
+-- Whatever records, or whatever refusal, come from here, they come after those so far.
 use Rattle.std.proofs.Common.{ℕ, List, ◌++◌, length}
 use Rattle.redo_log.specs.declared.change.Change.{Change}
 use Rattle.redo_log.specs.Reading.{AreRecords, IsRefused}
@@ -10,5 +10,6 @@ invariant-loop-changes l = record {
   refused : (cs : List Change) (left : ℕ) → IsRefused l.store cs l.rest left → IsRefused l.initial.store (l.changes.items ++ cs) l.bytes left;
 }
 
+-- how many bytes are left
 abbrev pub decreases-loop-changes : goal.decreases-loop-changes
 decreases-loop-changes l = length l.rest

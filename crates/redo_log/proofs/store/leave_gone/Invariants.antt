@@ -1,4 +1,4 @@
--- The pages that are left, taken out behind those so far.
+-- The pages that are left, taken out after those so far.
 use Rattle.std.proofs.Common.{◌≡◌, drop}
 use Rattle.redo_log.specs.Store.{without_gone}
 use Rattle.redo_log.proofs.store.leave_gone.Given as goal

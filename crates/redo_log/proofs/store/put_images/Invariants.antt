@@ -1,4 +1,4 @@
--- The images that are left, put in behind those so far.
+-- The images that are left, put in after those so far.
 use Rattle.std.proofs.Common.{◌≡◌, drop}
 use Rattle.redo_log.specs.Store.{with_images, no_image}
 use Rattle.redo_log.proofs.store.put_images.Given as goal

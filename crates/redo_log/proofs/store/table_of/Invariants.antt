@@ -1,4 +1,4 @@
--- The pages that are left, put in behind those so far.
+-- The pages that are left, put in after those so far.
 use Rattle.std.proofs.Common.{◌≡◌, drop}
 use Rattle.std.specs.FinMap as map
 use Rattle.redo_log.specs.Store.{with_ids}
