@@ -105,6 +105,7 @@ get_or-some [] j h = absurd (omega (arith, h))
 get_or-some (x ∷ xs) zero h = omega arith
 get_or-some (x ∷ xs) (suc j) h = let rest : j < length xs = get_or-some xs j h in omega (arith, rest)
 
+-- the cells of one more place, both free
 abbrev pub two : List ℕ
 two = 0 ∷ 0 ∷ []
 
@@ -273,11 +274,10 @@ none_tied heads cells long free = record {
   led = λ name has. absurd (false≢true has);
 }
 
--- no attribute passed so far has the name: the one with this number, from 1
+-- the attribute with this number, from 1, has another name; 0 is the number of none
 abbrev pub Other : List Attr → List ℕ → ℕ → Type 0
 Other attrs name from = 0 < from → name_at attrs (from - 1) ≡ name → ⊥
 
--- a name that is not at this place is led on, to a later place of the list
 steps_on : (attrs : List Attr) (heads : ℕ) (cells name : List ℕ) (depth from steps place : ℕ) → place < length attrs → name_at attrs place ≡ name
     → Leads heads cells name steps depth from (place + 1) → Other attrs name from
     → IsLed attrs heads cells name (depth + 1) (next_of heads cells name depth from)
@@ -287,6 +287,7 @@ steps_on attrs heads cells name depth from zero place within named leads other =
 steps_on attrs heads cells name depth from (suc steps) place within named leads other =
     record { steps = steps; place = place; within = within; named = named; leads = leads.1 }
 
+-- a name that is at none of the places passed is led on by one more step
 pub led_on : (attrs : List Attr) (heads : ℕ) (cells name : List ℕ) (depth from : ℕ) → IsLed attrs heads cells name depth from
     → Other attrs name from → IsLed attrs heads cells name (depth + 1) (next_of heads cells name depth from)
 led_on attrs heads cells name depth from l other = steps_on attrs heads cells name depth from l.steps l.place l.within l.named l.leads other
