@@ -7,7 +7,7 @@ use Rattle.xq_ast.specs.declared.token.Symbol.TheVariants.{OpenRound, CloseRound
 use Rattle.xq_ast.specs.declared.token.Token.{Token}
 use Rattle.xq_ast.specs.declared.token.Token.TheVariants as token
 use Rattle.xq_ast.specs.declared.call.Call.{Call}
-use Rattle.xq_ast.specs.declared.call.Call.TheVariants.{Begin, BeginRead, Commit, Rollback, Checkpoint, ShowDocuments, Create, Drop, Load, Export}
+use Rattle.xq_ast.specs.declared.call.Call.TheVariants.{Begin, BeginRead, Commit, Rollback, Checkpoint, ShowDocuments, Create, Drop, Load, Export, Update, Query}
 use Rattle.xq_ast.specs.declared.call.CallText.{CallText}
 use Rattle.xq_ast.specs.declared.code.Code.{Code}
 use Rattle.xq_ast.specs.declared.code.Code.TheVariants.{TooLong, XPST0003, NestedTooDeep, BadName}
@@ -58,6 +58,8 @@ has_good_names (Create name) = is_document_name name
 has_good_names (Drop name) = is_document_name name
 has_good_names (Load name pyx) = is_document_name name
 has_good_names (Export name) = is_document_name name
+has_good_names (Update what) = true
+has_good_names (Query expr) = true
 
 -- ---- the answer
 

@@ -15,7 +15,7 @@ const NO_MARK: Mark = Mark {
 };
 
 /// The codes without numbers.
-const WORDS: [Code; 30] = [
+const WORDS: [Code; 31] = [
     Code::XPST0003,
     Code::XPST0008,
     Code::XPST0017,
@@ -44,6 +44,7 @@ const WORDS: [Code; 30] = [
     Code::TooManyItems,
     Code::ReplyTooLong,
     Code::NoMemory,
+    Code::NotBuilt,
     Code::Failed { mark: NO_MARK },
     Code::InDoubt { mark: NO_MARK },
 ];

@@ -54,6 +54,7 @@ pub(crate) fn first_word(code: &Code) -> &'static str
         Code::TooManyItems => "TooManyItems",
         Code::ReplyTooLong => "ReplyTooLong",
         Code::NoMemory => "NoMemory",
+        Code::NotBuilt => "NotBuilt",
         Code::Failed { .. } => "Failed",
         Code::InDoubt { .. } => "InDoubt",
         Code::Pyx { .. } => "Pyx",
