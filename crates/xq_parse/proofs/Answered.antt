@@ -5,7 +5,7 @@ use Rattle.xq_ast.specs.declared.call.CallText.{CallText}
 use Rattle.xq_ast.specs.declared.code.Code.{Code}
 use Rattle.xq_ast.specs.Parsed.{Parsed}
 use Rattle.xq_ast.specs.Readings.{parsed}
-use Rattle.xq_ast.proofs.Readings.{parsed_holds}
+use Rattle.xq_parse.proofs.Readings.{parsed_holds}
 use Rattle.xq_parse.specs.declared.answer.ParseEnd.{ParseEnd}
 use Rattle.xq_parse.specs.declared.answer.ParseEnd.TheVariants.{TooLong, XPST0003, NestedTooDeep, BadName, NoMemory}
 use Rattle.xq_parse.specs.Answers.{code_of}
