@@ -19,7 +19,7 @@ use Rattle.indexmap.proofs.MapLemmas.{lookup_permutation}
 use Rattle.xq_ast.specs.declared.need.LockMode.{LockMode}
 use Rattle.xq_ast.specs.declared.need.Need.{Need}
 use Rattle.doc_locks.specs.Names.{Names, names_of_entries}
-use Rattle.doc_locks.specs.Locks.{needs_of}
+use Rattle.doc_locks.specs.Locks.{need_of, needs_of}
 use Rattle.doc_locks.proofs.Entries.{find-texts, get-names}
 
 -- ---- distinct names stay when repeated ones are taken out
@@ -69,7 +69,7 @@ needs_in [] = []
 needs_in (e ∷ es) = record { name = string_bytes e.0; mode = e.1 } ∷ needs_in es
 
 of_pairs : {A : Type 0} (es : List (String A × LockMode))
-    → needs_in es ≡ map (λ p. record { name = p.0; mode = p.1 }) (map (λ e. (string_bytes e.0, e.1)) es)
+    → needs_in es ≡ map need_of (map (λ e. (string_bytes e.0, e.1)) es)
 of_pairs [] = refl
 of_pairs (e ∷ es) = ap (λ l. record { name = string_bytes e.0; mode = e.1 } ∷ l) (of_pairs es)
 
@@ -78,7 +78,7 @@ pub needs-sorted : {A : Type 0} (es fs : List (String A × LockMode)) → IsPerm
     → IsSorted string_cmp (keys_of fs)
     → needs_in fs ≡ needs_of (names_of_entries es)
 needs-sorted es fs moves distinct sorted =
-    of_pairs fs ∙ ap (map (λ p. record { name = p.0; mode = p.1 })) (sym (fin.entries-from_sorted (slice_cmp nat_cmp) pairs in_order)) ∙ ap needs_of same
+    of_pairs fs ∙ ap (map need_of) (sym (fin.entries-from_sorted (slice_cmp nat_cmp) pairs in_order)) ∙ ap needs_of same
   where
     pairs : List (List ℕ × LockMode)
     pairs = map (λ e. (string_bytes e.0, e.1)) fs

@@ -41,8 +41,11 @@ with_needs [] names = names
 with_needs (need ∷ needs) names = with_needs needs (with_need names need)
 
 -- names with their modes as a list of needs, in byte order
+abbrev pub need_of : List ℕ × LockMode → Need
+need_of e = record { name = e.0; mode = e.1 }
+
 abbrev pub needs_of : Names → List Need
-needs_of names = map (λ e. record { name = e.0; mode = e.1 }) (fin.entries names)
+needs_of names = map need_of (fin.entries names)
 
 -- the table once needs are granted to a session: what the others hold stays
 abbrev pub granted : Locks → ℕ → List Need → Locks

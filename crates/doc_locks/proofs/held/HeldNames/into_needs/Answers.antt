@@ -12,5 +12,6 @@ returns c =
     ∙ ap (λ left. c.loop-name.needs ++ needs_in left) (sym none)
     ∙ c.loop-name.invariant
     ∙ ap needs_in c.into_iter-name-iterator.ensures.into_iter_gives.0
-    ∙ needs-sorted c.args.self.modes.entries c.sort_keys.new.self.entries c.sort_keys.ensures.reordered.0 c.sort_keys.ensures.unique
+    ∙ needs-sorted c.self.inside.modes.entries c.sort_keys.new.self.entries c.sort_keys.ensures.reordered.0 c.sort_keys.ensures.unique
     c.in_ok-sort_keys.ensures.sorted
+    ∙ ap needs_of c.self.view_is
