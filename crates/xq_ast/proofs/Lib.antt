@@ -6,6 +6,7 @@ pub mod Tables
 pub mod Words
 pub mod Readings
 pub mod ParsedRows
+mod PassRows
 pub mod Names
 pub mod Modes
 pub mod TokensAlone

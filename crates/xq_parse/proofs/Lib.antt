@@ -3,3 +3,4 @@ pub mod Behind
 pub mod Fronts
 pub mod Fuel
 pub mod Steps
+pub mod Scopes
