@@ -6,7 +6,7 @@ pub mod Tables
 pub mod Words
 pub mod Readings
 pub mod ParsedRows
-mod PassRows
+mod FunctionRows
 pub mod Names
 pub mod Modes
 pub mod TokensAlone
