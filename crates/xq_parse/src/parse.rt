@@ -6,9 +6,9 @@ ghost use Rattle.xq_parse.specs.Answers.{code_of};
 ghost use Rattle.xq_parse.specs.Reads.{Gives};
 
 use crate::answer::ParseEnd;
+use crate::names::has_good_names;
 use crate::nesting::is_nested_well;
 use crate::piece::{SpelledTokens, tokens};
-use crate::names::has_good_names;
 use crate::rows::call_of;
 use std::alloc::Global;
 use xq_ast::{CALL_BYTES_MAX, Call, CallText};

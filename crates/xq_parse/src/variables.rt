@@ -172,8 +172,10 @@ fn expr_is_bound(bound: &mut StrList, expr: &Expr) -> Result<bool, NoMemory>
             Ok(good)
         }
         Expr::If { test, yes, no } => {
-            Ok(expr_is_bound(bound, test.get())?
-                && (expr_is_bound(bound, yes.get())? && expr_is_bound(bound, no.get())?))
+            Ok(
+                expr_is_bound(bound, test.get())?
+                    && (expr_is_bound(bound, yes.get())? && expr_is_bound(bound, no.get())?),
+            )
         }
         Expr::Or { parts } => are_bound(bound, parts),
         Expr::And { parts } => are_bound(bound, parts),
