@@ -8,6 +8,7 @@ pub mod Fuel
 pub mod Nesting
 pub mod ParsedRows
 pub mod Readings
+pub mod Scopes
 pub mod Singles
 pub mod Sound
 pub mod Steps

@@ -12,16 +12,20 @@
 mod answer;
 mod characters;
 mod comment;
+mod everywhere;
 mod front;
+mod functions;
 mod integer;
 mod laws;
 mod name;
+mod names;
 mod nesting;
 mod parse;
 mod piece;
 mod rows;
 mod string;
 mod symbol;
+mod variables;
 
 pub use answer::ParseEnd;
 pub use laws::{any_bound_gives_the_tokens, text_has_one_answer, tokens_are_one_call};

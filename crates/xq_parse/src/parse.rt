@@ -6,9 +6,10 @@ ghost use Rattle.xq_parse.specs.Answers.{code_of};
 ghost use Rattle.xq_parse.specs.Reads.{Gives};
 
 use crate::answer::ParseEnd;
+use crate::names::has_good_names;
 use crate::nesting::is_nested_well;
 use crate::piece::{SpelledTokens, tokens};
-use crate::rows::{call_of, has_good_names};
+use crate::rows::call_of;
 use std::alloc::Global;
 use xq_ast::{CALL_BYTES_MAX, Call, CallText};
 
@@ -24,7 +25,7 @@ fn read(alloc: Global, call: &CallText) -> Result<Call, ParseEnd>
         return Err(ParseEnd::NestedTooDeep);
     }
     let read = call_of(tokens.as_slice(), &call.pyx)?;
-    if !has_good_names(&read) {
+    if !has_good_names(alloc, &read)? {
         return Err(ParseEnd::BadName);
     }
     Ok(read)

@@ -1,12 +1,11 @@
 //! The rows of the grammar.
 ghost use Rattle.std.specs.Prelude.{◌≡◌, ℕ, List};
 ghost use Rattle.xq_ast.specs.Readings as spec;
-ghost use Rattle.xq_ast.specs.GoodNames.{has_good_names};
 ghost use Rattle.xq_ast.specs.declared.call.Call.{Call};
 ghost use Rattle.xq_parse.specs.Reads.{Reads};
 
 use crate::answer::ParseEnd;
-use xq_ast::{Call, Str, StrList, Token, is_document_name};
+use xq_ast::{Call, Str, StrList, Token};
 
 /// A call that is its first word alone.
 fn alone(call: Call, rest: &[Token]) -> Result<Call, ParseEnd>
@@ -80,23 +79,5 @@ pub(crate) fn call_of(tokens: &[Token], pyx: &StrList) -> Result<Call, ParseEnd>
     match tokens {
         [Token::Name(word), rest @ ..] => row(word.as_str(), rest, pyx),
         _ => Err(ParseEnd::XPST0003),
-    }
-}
-
-/// Whether the names in a call are names. Each row says its own.
-pub(crate) fn has_good_names(call: &Call) -> bool
-    ensures { result ≡ has_good_names call.now }
-{
-    match call {
-        Call::Create { name }
-        | Call::Drop { name }
-        | Call::Load { name, .. }
-        | Call::Export { name } => is_document_name(name.as_str()),
-        Call::Begin
-        | Call::BeginRead
-        | Call::Commit
-        | Call::Rollback
-        | Call::Checkpoint
-        | Call::ShowDocuments => true,
     }
 }
