@@ -1,3 +1,4 @@
+pub mod Nesting
 pub mod Answered
 pub mod Behind
 pub mod Fronts

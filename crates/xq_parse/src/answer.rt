@@ -2,6 +2,7 @@
 ghost use Rattle.std.specs.Prelude.{◌≡◌};
 ghost use Rattle.xq_parse.specs.Answers.{code_of};
 
+use std::alloc::AllocError;
 use thiserror::Error;
 use xq_ast::{Code, NoMemory};
 
@@ -33,6 +34,17 @@ impl From<NoMemory> for ParseEnd {
     ghost from_gives = { λ _ e. e ≡ NoMemory };
 
     fn from(_: NoMemory) -> ParseEnd {
+        ParseEnd::NoMemory
+    }
+}
+
+impl From<AllocError> for ParseEnd {
+    ghost use Rattle.std.specs.Prelude.{◌≡◌};
+    ghost use Rattle.xq_parse.specs.declared.answer.ParseEnd.TheVariants.{NoMemory};
+
+    ghost from_gives = { λ _ e. e ≡ NoMemory };
+
+    fn from(_: AllocError) -> ParseEnd {
         ParseEnd::NoMemory
     }
 }

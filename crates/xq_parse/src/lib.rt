@@ -12,17 +12,26 @@
 mod answer;
 mod characters;
 mod comment;
+mod cursor;
 mod front;
 mod integer;
 mod laws;
 mod name;
 mod nesting;
+mod operators;
 mod parse;
+mod path;
 mod piece;
+mod primary;
 mod rows;
+mod single;
 mod string;
 mod symbol;
+mod update;
 
 pub use answer::ParseEnd;
 pub use laws::{any_bound_gives_the_tokens, text_has_one_answer, tokens_are_one_call};
 pub use parse::parse_call;
+
+#[cfg(test)]
+mod tests;

@@ -23,7 +23,7 @@ fn read(alloc: Global, call: &CallText) -> Result<Call, ParseEnd>
     if !is_nested_well(tokens.as_slice()) {
         return Err(ParseEnd::NestedTooDeep);
     }
-    let read = call_of(tokens.as_slice(), &call.pyx)?;
+    let read = call_of(alloc, tokens.as_slice(), &call.pyx)?;
     if !has_good_names(&read) {
         return Err(ParseEnd::BadName);
     }

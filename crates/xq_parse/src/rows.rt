@@ -6,7 +6,13 @@ ghost use Rattle.xq_ast.specs.declared.call.Call.{Call};
 ghost use Rattle.xq_parse.specs.Reads.{Reads};
 
 use crate::answer::ParseEnd;
-use xq_ast::{Call, Str, StrList, Token, is_document_name};
+use crate::cursor::Parser;
+use std::alloc::Global;
+use xq_ast::{BRACKETS_MAX, Call, NESTING_WORDS_MAX, Str, StrList, Token, is_document_name};
+
+/// The most single expressions of a call that stand in one another.
+const SINGLES_MAX: usize = 129;
+
 
 /// A call that is its first word alone.
 fn alone(call: Call, rest: &[Token]) -> Result<Call, ParseEnd>
@@ -49,9 +55,42 @@ fn begin(rest: &[Token]) -> Result<Call, ParseEnd>
     }
 }
 
-/// The row that begins with this word.
-fn row(word: &str, rest: &[Token], pyx: &StrList) -> Result<Call, ParseEnd>
-    ensures { Reads (λ c. c) result (spec.row word.now rest.now pyx.now) }
+/// The query that these tokens are.
+fn query(alloc: Global, tokens: &[Token]) -> Result<Call, ParseEnd> {
+    let mut parser = Parser::new(alloc, tokens);
+    let expr = parser.expr(SINGLES_MAX)?;
+    if !parser.is_done() {
+        return Err(ParseEnd::XPST0003);
+    }
+    Ok(Call::Query { expr })
+}
+
+/// What follows the word `UPDATE`.
+fn update(alloc: Global, rest: &[Token]) -> Result<Call, ParseEnd> {
+    let mut parser = Parser::new(alloc, rest);
+    let what = parser.update(SINGLES_MAX)?;
+    if !parser.is_done() {
+        return Err(ParseEnd::XPST0003);
+    }
+    Ok(Call::Update { what })
+}
+
+/// What follows the word `SHOW`.
+fn show(rest: &[Token]) -> Result<Call, ParseEnd> {
+    match rest {
+        [Token::Name(word)] if word.as_str() == "DOCUMENTS" => Ok(Call::ShowDocuments),
+        _ => Err(ParseEnd::XPST0003),
+    }
+}
+
+/// The row that begins with this word, or the query that all of the tokens are.
+fn row(
+    alloc: Global,
+    word: &str,
+    tokens: &[Token],
+    rest: &[Token],
+    pyx: &StrList,
+) -> Result<Call, ParseEnd>
 {
     match word {
         "BEGIN" => begin(rest),
@@ -69,17 +108,17 @@ fn row(word: &str, rest: &[Token], pyx: &StrList) -> Result<Call, ParseEnd>
             pyx: pyx.copy()?,
         }),
         "EXPORT" => Ok(Call::Export { name: named(rest)? }),
-        _ => Err(ParseEnd::XPST0003),
+        "SHOW" => show(rest),
+        "UPDATE" => update(alloc, rest),
+        _ => query(alloc, tokens),
     }
 }
 
 /// The call that these tokens are.
-pub(crate) fn call_of(tokens: &[Token], pyx: &StrList) -> Result<Call, ParseEnd>
-    ensures { Reads (λ c. c) result (spec.call_of tokens.now pyx.now) }
-{
+pub(crate) fn call_of(alloc: Global, tokens: &[Token], pyx: &StrList) -> Result<Call, ParseEnd> {
     match tokens {
-        [Token::Name(word), rest @ ..] => row(word.as_str(), rest, pyx),
-        _ => Err(ParseEnd::XPST0003),
+        [Token::Name(word), rest @ ..] => row(alloc, word.as_str(), tokens, rest, pyx),
+        _ => query(alloc, tokens),
     }
 }
 
@@ -97,6 +136,8 @@ pub(crate) fn has_good_names(call: &Call) -> bool
         | Call::Commit
         | Call::Rollback
         | Call::Checkpoint
-        | Call::ShowDocuments => true,
+        | Call::ShowDocuments
+        | Call::Query { .. }
+        | Call::Update { .. } => true,
     }
 }
