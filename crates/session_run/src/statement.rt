@@ -3,7 +3,8 @@ ghost use Rattle.std.specs.Prelude.{◌≡◌, IfOk, map as list_map, ◌∷◌,
 ghost use Rattle.xml_model.specs.Statement.{answer_of};
 ghost use Rattle.xml_model.specs.Pyx.{read, text_of};
 ghost use Rattle.session_core.specs.Transactions.{says_of};
-ghost use Rattle.xq_ast.specs.Parsed.{is_document_name, has_good_names};
+ghost use Rattle.xq_ast.specs.Names.{is_document_name};
+ghost use Rattle.xq_ast.specs.GoodNames.{has_good_names};
 ghost use Rattle.xml_model.specs.Document.{IsValid};
 ghost use Rattle.session_run.specs.Calls.{ArePlain, HasPlainLines};
 ghost use Rattle.session_run.specs.Effects.{IsEffect, IsPut, IsValidChange, Spells};

@@ -7,7 +7,8 @@ use Rattle.xq_ast.specs.declared.call.Call.TheVariants.{Begin, BeginRead, Commit
 use Rattle.xq_ast.specs.declared.call.CallText.{CallText}
 use Rattle.xq_ast.specs.declared.code.Code.{Code}
 use Rattle.xq_ast.specs.declared.need.Need.{Need}
-use Rattle.xq_ast.specs.Parsed.{Parsed, has_good_names}
+use Rattle.xq_ast.specs.Parsed.{Parsed}
+use Rattle.xq_ast.specs.GoodNames.{has_good_names}
 use Rattle.xml_model.specs.Needs.{needs}
 use Rattle.xml_model.specs.Pyx.{Line, IsPlain}
 use Rattle.session_core.specs.declared.event.Says.{Says}

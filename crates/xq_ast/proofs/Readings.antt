@@ -16,7 +16,8 @@ use Rattle.xq_ast.specs.Tokens.{tokens}
 use Rattle.xq_ast.specs.Grammar as grammar
 use Rattle.xq_ast.specs.Grammar.{IsCall}
 use Rattle.xq_ast.specs.Parsed as answers
-use Rattle.xq_ast.specs.Parsed.{Parsed, IsRead, is_nested_well, has_good_names}
+use Rattle.xq_ast.specs.Parsed.{Parsed, IsRead, is_nested_well}
+use Rattle.xq_ast.specs.GoodNames.{has_good_names}
 use Rattle.xq_ast.specs.Readings.{alone, named, document, begin, row, call_of, named_well, read_tokens, parsed}
 
 -- ---- what is in the grammar is read

@@ -1,18 +1,17 @@
 -- What a call's text is: the call that it spells, or why it is refused. The refusals are tested in the order of the
 -- cases: too long, no tokens, nested too deep, no call, a bad name.
 use Rattle.std.specs.Prelude.{◌≡◌, ℕ, suc, ◌-◌, ◌<◌, ◌≤◌, Bool, true, false, ◌&&◌, ◌||◌, nat_le, bytes_eq, max, count_by, List, [], ◌∷◌, length, None, Some, Result, Ok, Err, codes}
-use Rattle.std.specs.List.{list_all}
-use Rattle.xq_ast.specs.declared.limits.TheConstants.{CALL_BYTES_MAX, BRACKETS_MAX, NESTING_WORDS_MAX, DOCUMENT_NAME_BYTES_MAX}
+use Rattle.xq_ast.specs.declared.limits.TheConstants.{CALL_BYTES_MAX, BRACKETS_MAX, NESTING_WORDS_MAX}
 use Rattle.xq_ast.specs.declared.token.Symbol.TheVariants.{OpenRound, CloseRound, OpenSquare, CloseSquare, OpenCurly, CloseCurly}
 use Rattle.xq_ast.specs.declared.token.Token.{Token}
 use Rattle.xq_ast.specs.declared.token.Token.TheVariants as token
 use Rattle.xq_ast.specs.declared.call.Call.{Call}
-use Rattle.xq_ast.specs.declared.call.Call.TheVariants.{Begin, BeginRead, Commit, Rollback, Checkpoint, ShowDocuments, Create, Drop, Load, Export, Update, Query}
 use Rattle.xq_ast.specs.declared.call.CallText.{CallText}
 use Rattle.xq_ast.specs.declared.code.Code.{Code}
 use Rattle.xq_ast.specs.declared.code.Code.TheVariants.{TooLong, XPST0003, NestedTooDeep, BadName}
 use Rattle.xq_ast.specs.Tokens.{tokens}
 use Rattle.xq_ast.specs.Grammar.{IsCall}
+use Rattle.xq_ast.specs.GoodNames.{has_good_names}
 
 -- ---- nesting
 
@@ -39,27 +38,6 @@ is_nesting_word _ = false
 
 abbrev pub is_nested_well : List Token → Bool
 is_nested_well ts = nat_le (most_open 0 ts) BRACKETS_MAX && nat_le (count_by is_nesting_word ts) NESTING_WORDS_MAX
-
--- ---- names of documents
-
--- 1 to 255 bytes, and no character below U+0020
-abbrev pub is_document_name : List ℕ → Bool
-is_document_name name = nat_le 1 (length name) && nat_le (length name) DOCUMENT_NAME_BYTES_MAX && list_all (nat_le 32) name
-
--- the names in a call are names; each row says its own, so that a new one cannot pass unseen
-abbrev pub has_good_names : Call → Bool
-has_good_names Begin = true
-has_good_names BeginRead = true
-has_good_names Commit = true
-has_good_names Rollback = true
-has_good_names Checkpoint = true
-has_good_names ShowDocuments = true
-has_good_names (Create name) = is_document_name name
-has_good_names (Drop name) = is_document_name name
-has_good_names (Load name pyx) = is_document_name name
-has_good_names (Export name) = is_document_name name
-has_good_names (Update what) = true
-has_good_names (Query expr) = true
 
 -- ---- the answer
 

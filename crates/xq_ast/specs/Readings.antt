@@ -10,7 +10,8 @@ use Rattle.xq_ast.specs.declared.call.CallText.{CallText}
 use Rattle.xq_ast.specs.declared.code.Code.{Code}
 use Rattle.xq_ast.specs.declared.code.Code.TheVariants.{TooLong, XPST0003, NestedTooDeep, BadName}
 use Rattle.xq_ast.specs.Tokens.{tokens}
-use Rattle.xq_ast.specs.Parsed.{is_nested_well, has_good_names}
+use Rattle.xq_ast.specs.Parsed.{is_nested_well}
+use Rattle.xq_ast.specs.GoodNames.{has_good_names}
 
 -- the call, where no token follows
 abbrev pub alone : Call → List Token → Option Call

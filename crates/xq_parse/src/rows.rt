@@ -1,7 +1,7 @@
 //! The rows of the grammar.
 ghost use Rattle.std.specs.Prelude.{◌≡◌, ℕ, List};
 ghost use Rattle.xq_ast.specs.Readings as spec;
-ghost use Rattle.xq_ast.specs.Parsed.{has_good_names};
+ghost use Rattle.xq_ast.specs.GoodNames.{has_good_names};
 ghost use Rattle.xq_ast.specs.declared.call.Call.{Call};
 ghost use Rattle.xq_parse.specs.Reads.{Reads};
 
