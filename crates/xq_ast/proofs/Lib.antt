@@ -4,8 +4,6 @@ pub mod Law
 pub mod Numbers
 pub mod Tables
 pub mod Words
-pub mod Readings
-pub mod ParsedRows
 pub mod Names
 pub mod Modes
 pub mod TokensAlone

@@ -1,5 +1,6 @@
 -- What a call's text is: the call that it spells, or why it is refused. The refusals are tested in the order of the
--- cases: too long, no tokens, nested too deep, no call, a bad name.
+-- cases: too long, no tokens, nested too deep, no call, a bad name, an unknown function, an unbound variable. The last
+-- three are each a pass over the whole call.
 use Rattle.std.specs.Prelude.{◌≡◌, ℕ, suc, ◌-◌, ◌<◌, ◌≤◌, Bool, true, false, ◌&&◌, ◌||◌, nat_le, bytes_eq, max, count_by, List, [], ◌∷◌, length, None, Some, Result, Ok, Err, codes}
 use Rattle.xq_ast.specs.declared.limits.TheConstants.{CALL_BYTES_MAX, BRACKETS_MAX, NESTING_WORDS_MAX}
 use Rattle.xq_ast.specs.declared.token.Symbol.TheVariants.{OpenRound, CloseRound, OpenSquare, CloseSquare, OpenCurly, CloseCurly}
@@ -8,10 +9,12 @@ use Rattle.xq_ast.specs.declared.token.Token.TheVariants as token
 use Rattle.xq_ast.specs.declared.call.Call.{Call}
 use Rattle.xq_ast.specs.declared.call.CallText.{CallText}
 use Rattle.xq_ast.specs.declared.code.Code.{Code}
-use Rattle.xq_ast.specs.declared.code.Code.TheVariants.{TooLong, XPST0003, NestedTooDeep, BadName}
+use Rattle.xq_ast.specs.declared.code.Code.TheVariants.{TooLong, XPST0003, NestedTooDeep, BadName, XPST0017, XPST0008}
 use Rattle.xq_ast.specs.Tokens.{tokens}
 use Rattle.xq_ast.specs.Grammar.{IsCall}
 use Rattle.xq_ast.specs.GoodNames.{has_good_names}
+use Rattle.xq_ast.specs.Functions.{has_known_functions}
+use Rattle.xq_ast.specs.Variables.{has_bound_variables}
 
 -- ---- nesting
 
@@ -46,7 +49,12 @@ pub data IsRead (ts : List Token) (pyx : List (List ℕ)) : Result Call Code →
   nested_too_deep : is_nested_well ts ≡ false → IsRead ts pyx (Err NestedTooDeep)
   no_call : is_nested_well ts ≡ true → ((call : Call) → IsCall ts pyx call → ⊥) → IsRead ts pyx (Err XPST0003)
   bad_name : {call : Call} → is_nested_well ts ≡ true → IsCall ts pyx call → has_good_names call ≡ false → IsRead ts pyx (Err BadName)
-  a_call : {call : Call} → is_nested_well ts ≡ true → IsCall ts pyx call → has_good_names call ≡ true → IsRead ts pyx (Ok call)
+  unknown_function : {call : Call} → is_nested_well ts ≡ true → IsCall ts pyx call → has_good_names call ≡ true → has_known_functions call ≡ false
+      → IsRead ts pyx (Err XPST0017)
+  unbound_variable : {call : Call} → is_nested_well ts ≡ true → IsCall ts pyx call → has_good_names call ≡ true → has_known_functions call ≡ true
+      → has_bound_variables call ≡ false → IsRead ts pyx (Err XPST0008)
+  a_call : {call : Call} → is_nested_well ts ≡ true → IsCall ts pyx call → has_good_names call ≡ true → has_known_functions call ≡ true
+      → has_bound_variables call ≡ true → IsRead ts pyx (Ok call)
 
 -- what a call's text is
 pub data Parsed (c : CallText) : Result Call Code → Type 0 where
