@@ -122,10 +122,12 @@ axis_word axis.Parent = codes "parent"
 
 -- ---- rules on words
 
--- `if` before a bracket: where a single expression may begin this is the row If and no other
-abbrev pub is_if : List Token → Bool
-is_if (Name w ∷ Mark OpenRound ∷ ts) = bytes_eq w (codes "if")
-is_if _ = false
+-- `for` and `let` before `$`, and `if` before a bracket: where a single expression may begin these are the rows Flwor
+-- and If, and no other
+abbrev pub is_keyword : List Token → Bool
+is_keyword (Name w ∷ Mark Dollar ∷ ts) = bytes_eq w (codes "for") || bytes_eq w (codes "let")
+is_keyword (Name w ∷ Mark OpenRound ∷ ts) = bytes_eq w (codes "if")
+is_keyword _ = false
 
 -- before a bracket these are tests
 abbrev pub is_test_word : List ℕ → Bool
@@ -202,7 +204,7 @@ mutual
   pub data IsSingle : List Token → Expr → Type 0 where
     single_flwor : {ts : List Token} {e : Expr} → IsFlwor ts e → IsSingle ts e
     single_if : {ts : List Token} {e : Expr} → IsIf ts e → IsSingle ts e
-    single_or : {ts : List Token} {e : Expr} → is_if ts ≡ false → IsOr ts e → IsSingle ts e
+    single_or : {ts : List Token} {e : Expr} → is_keyword ts ≡ false → IsOr ts e → IsSingle ts e
 
   -- Flwor := (For | Let)+ [where Single] [order by Key (, Key)*] return Single
   pub data IsFlwor : List Token → Expr → Type 0 where

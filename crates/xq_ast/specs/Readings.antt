@@ -2,7 +2,8 @@
 -- nobody needs to believe it who believes those.
 -- A reading gives what the tokens begin with and the tokens behind it, or None. Each row is written over `inner`, the
 -- reading of the single expressions inside it; the number of single expressions that stand one in another bounds
--- them all. What is looked at ahead, three tokens at most, is a function of its own.
+-- them all. What is looked at ahead, three tokens at most, is a function of its own. Rows are opened where they are
+-- wanted.
 use Rattle.std.specs.Prelude.{ℕ, zero, suc, ℤ, Bool, true, false, ◌&&◌, ◌||◌, nat_le, bytes_eq, if◌then◌else◌, List, [], ◌∷◌, ◌++◌, length, Option, None, Some, Result, Ok, Err, codes}
 use Rattle.xq_ast.specs.declared.limits.TheConstants.{CALL_BYTES_MAX, SINGLES_MAX}
 use Rattle.xq_ast.specs.declared.token.Symbol.{Symbol}
@@ -188,15 +189,15 @@ put s x xs = x ∷ xs
 -- ---- lists of expressions
 
 -- (, Single)*
-abbrev pub commas : Reader Expr → Reader (List Expr)
+unfoldable pub commas : Reader Expr → Reader (List Expr)
 commas inner = items (there comma) (λ s. inner) put []
 
 -- Single (, Single)*
-abbrev pub list : Reader Expr → Reader (List Expr)
+unfoldable pub list : Reader Expr → Reader (List Expr)
 list inner = followed (λ e es. e ∷ es) inner (commas inner)
 
 -- Expr
-abbrev pub expr : Reader Expr → Reader Expr
+unfoldable pub expr : Reader Expr → Reader Expr
 expr inner ts = list inner ts >>= (λ r. Some (sequence_of r.0, r.1))
 
 -- [Expr] and the bracket that closes it
@@ -204,7 +205,7 @@ abbrev pub content_at : (List Token → Option (List Token)) → Reader Expr →
 content_at close inner ts (Some us) = Some (None, us)
 content_at close inner ts None = expr inner ts >>= (λ e. close e.1 >>= (λ us. Some (Some e.0, us)))
 
-abbrev pub content : (List Token → Option (List Token)) → Reader Expr → Reader (Option Expr)
+unfoldable pub content : (List Token → Option (List Token)) → Reader Expr → Reader (Option Expr)
 content close inner ts = content_at close inner ts (close ts)
 
 -- [Single (, Single)*] and the bracket that closes it
@@ -212,14 +213,14 @@ abbrev pub arguments_at : Reader Expr → List Token → Option (List Token) →
 arguments_at inner ts (Some us) = Some ([], us)
 arguments_at inner ts None = list inner ts >>= (λ es. close_round es.1 >>= (λ us. Some (es.0, us)))
 
-abbrev pub arguments : Reader Expr → Reader (List Expr)
+unfoldable pub arguments : Reader Expr → Reader (List Expr)
 arguments inner ts = arguments_at inner ts (close_round ts)
 
 -- Pred*
-abbrev pub pred : Reader Expr → Reader Expr
+unfoldable pub pred : Reader Expr → Reader Expr
 pred inner ts = expr inner ts >>= (λ e. close_square e.1 >>= (λ us. Some (e.0, us)))
 
-abbrev pub preds : Reader Expr → Reader (List Expr)
+unfoldable pub preds : Reader Expr → Reader (List Expr)
 preds inner = items (there open_square) (λ s. pred inner) put []
 
 -- ---- steps
@@ -266,7 +267,7 @@ named_step w ts (Behind.colons us) = axis_of w >>= (λ a. test us >>= (λ t. Som
 named_step w ts b = named_test w ts b >>= (λ t. Some ((axis.Child, t.0), t.1))
 
 -- @ NameTest | .. | [Axis ::] Test
-abbrev pub bare_step : Reader (Axis × Test)
+unfoldable pub bare_step : Reader (Axis × Test)
 bare_step (Mark At ∷ ts) = name_test ts >>= (λ n. Some ((axis.Attribute, kind.Name n.0), n.1))
 bare_step (Mark DotDot ∷ ts) = Some ((axis.Parent, kind.AnyNode), ts)
 bare_step (Mark Star ∷ ts) = Some ((axis.Child, kind.Name None), ts)
@@ -274,11 +275,11 @@ bare_step (Name w ∷ ts) = named_step w ts (behind_name ts)
 bare_step _ = None
 
 -- Step
-abbrev pub step : Reader Expr → Reader Step
+unfoldable pub step : Reader Expr → Reader Step
 step inner = followed (λ s ps. step_with s.0 s.1 ps) bare_step (preds inner)
 
 -- ((/ | //) Step)*
-abbrev pub steps : Reader Expr → Reader (List Step)
+unfoldable pub steps : Reader Expr → Reader (List Step)
 steps inner = items slash (λ deep. step inner) (λ deep s more. step_behind deep s ∷ more) []
 
 -- ---- primaries
@@ -327,7 +328,7 @@ doc (Text name ∷ Mark CloseRound ∷ ts) = Some (expression.Doc name, ts)
 doc _ = None
 
 -- Primary
-abbrev pub primary : Reader Expr → Operand → Option (Expr × List Token)
+unfoldable pub primary : Reader Expr → Operand → Option (Expr × List Token)
 primary inner (Operand.a_string value ts) = Some (expression.Text value, ts)
 primary inner (Operand.an_integer value ts) = Some (expression.Int value, ts)
 primary inner (Operand.a_variable ts) = a_name ts >>= (λ n. Some (expression.Var n.0, n.1))
@@ -342,12 +343,16 @@ primary inner Operand.a_step = None
 
 -- ---- operators, the tightest first
 
+-- Filter, whose primary begins so
+unfoldable pub filtered : Reader Expr → Operand → Reader Expr
+filtered inner o = followed filter_of (λ us. primary inner o) (preds inner)
+
 -- Path
 abbrev pub path_at : Reader Expr → List Token → Operand → Option (Expr × List Token)
 path_at inner ts Operand.a_step = followed steps_of (step inner) (steps inner) ts
-path_at inner ts o = followed path_of (λ us. followed filter_of (λ vs. primary inner o) (preds inner) us) (steps inner) ts
+path_at inner ts o = followed path_of (filtered inner o) (steps inner) ts
 
-abbrev pub path : Reader Expr → Reader Expr
+unfoldable pub path : Reader Expr → Reader Expr
 path inner ts = path_at inner ts (operand ts)
 
 -- (+ | -)*
@@ -363,50 +368,50 @@ signs ts = ([], ts)
 abbrev pub signed_at : Reader Expr → List Sign × List Token → Option (Expr × List Token)
 signed_at inner s = path inner s.1 >>= (λ e. Some (signed_of s.0 e.0, e.1))
 
-abbrev pub signed : Reader Expr → Reader Expr
+unfoldable pub signed : Reader Expr → Reader Expr
 signed inner ts = signed_at inner (signs ts)
 
 -- Union
-abbrev pub unions : Reader Expr → Reader (List Expr)
+unfoldable pub unions : Reader Expr → Reader (List Expr)
 unions inner = items (there union_op) (λ s. signed inner) put []
 
-abbrev pub union : Reader Expr → Reader Expr
+unfoldable pub union : Reader Expr → Reader Expr
 union inner = followed union_of (signed inner) (unions inner)
 
 -- Product
-abbrev pub product_parts : Reader Expr → Reader (List ProductPart)
+unfoldable pub product_parts : Reader Expr → Reader (List ProductPart)
 product_parts inner = items product_op (λ op. union inner) (λ op e ps. product_part op e ∷ ps) []
 
-abbrev pub product : Reader Expr → Reader Expr
+unfoldable pub product : Reader Expr → Reader Expr
 product inner = followed product_of (union inner) (product_parts inner)
 
 -- Sum
-abbrev pub sum_parts : Reader Expr → Reader (List SumPart)
+unfoldable pub sum_parts : Reader Expr → Reader (List SumPart)
 sum_parts inner = items sum_op (λ minus. product inner) (λ minus e ps. sum_part minus e ∷ ps) []
 
-abbrev pub sum : Reader Expr → Reader Expr
+unfoldable pub sum : Reader Expr → Reader Expr
 sum inner = followed sum_of (product inner) (sum_parts inner)
 
 -- Range
-abbrev pub range : Reader Expr → Reader Expr
+unfoldable pub range : Reader Expr → Reader Expr
 range inner = paired (there (word (codes "to"))) (λ l s h. expression.Range l h) (sum inner)
 
 -- Comp
-abbrev pub comp : Reader Expr → Reader Expr
+unfoldable pub comp : Reader Expr → Reader Expr
 comp inner = paired compare_op expression.Compare (range inner)
 
 -- And
-abbrev pub ands : Reader Expr → Reader (List Expr)
+unfoldable pub ands : Reader Expr → Reader (List Expr)
 ands inner = items (there (word (codes "and"))) (λ s. comp inner) put []
 
-abbrev pub and : Reader Expr → Reader Expr
+unfoldable pub and : Reader Expr → Reader Expr
 and inner = followed and_of (comp inner) (ands inner)
 
 -- Or
-abbrev pub ors : Reader Expr → Reader (List Expr)
+unfoldable pub ors : Reader Expr → Reader (List Expr)
 ors inner = items (there (word (codes "or"))) (λ s. and inner) put []
 
-abbrev pub or : Reader Expr → Reader Expr
+unfoldable pub or : Reader Expr → Reader Expr
 or inner = followed or_of (and inner) (ors inner)
 
 -- ---- single expressions
@@ -421,18 +426,28 @@ abbrev pub bind_in : Reader Expr → List ℕ → Option (List ℕ) × List Toke
 bind_in inner name at = word (codes "in") at.1 >>= (λ us. inner us >>= (λ e. Some (binding.For name at.0 e.0, e.1)))
 
 -- Bind
-abbrev pub bind : Reader Expr → Reader Bind
+unfoldable pub bind : Reader Expr → Reader Bind
 bind inner ts = variable ts >>= (λ v. bind_in inner v.0 (place v.1))
 
-abbrev pub binds : Reader Expr → Reader (List Bind)
-binds inner = followed (λ b bs. b ∷ bs) (bind inner) (items (there comma) (λ s. bind inner) put [])
+-- (, Bind)*
+unfoldable pub more_binds : Reader Expr → Reader (List Bind)
+more_binds inner = items (there comma) (λ s. bind inner) put []
+
+-- Bind (, Bind)*
+unfoldable pub binds : Reader Expr → Reader (List Bind)
+binds inner = followed (λ b bs. b ∷ bs) (bind inner) (more_binds inner)
 
 -- $Name := Single
-abbrev pub let_bind : Reader Expr → Reader Bind
+unfoldable pub let_bind : Reader Expr → Reader Bind
 let_bind inner ts = variable ts >>= (λ v. assign v.1 >>= (λ us. inner us >>= (λ e. Some (binding.Let v.0 e.0, e.1))))
 
-abbrev pub lets : Reader Expr → Reader (List Bind)
-lets inner = followed (λ b bs. b ∷ bs) (let_bind inner) (items (there comma) (λ s. let_bind inner) put [])
+-- (, $Name := Single)*
+unfoldable pub more_lets : Reader Expr → Reader (List Bind)
+more_lets inner = items (there comma) (λ s. let_bind inner) put []
+
+-- $Name := Single (, $Name := Single)*
+unfoldable pub lets : Reader Expr → Reader (List Bind)
+lets inner = followed (λ b bs. b ∷ bs) (let_bind inner) (more_lets inner)
 
 -- the words of clauses
 pub data ClauseWord : Type 0 where
@@ -446,20 +461,28 @@ clause_word (Name w ∷ ts) =
 clause_word _ = None
 
 -- For | Let, behind its word
-abbrev pub clause : Reader Expr → ClauseWord → Reader (List Bind)
+unfoldable pub clause : Reader Expr → ClauseWord → Reader (List Bind)
 clause inner ClauseWord.for_word = binds inner
 clause inner ClauseWord.let_word = lets inner
 
 -- (For | Let)*
-abbrev pub clauses : Reader Expr → Reader (List Bind)
-clauses inner = items clause_word (clause inner) (λ w bs more. bs ++ more) []
+unfoldable pub more_clauses : Reader Expr → Reader (List Bind)
+more_clauses inner = items clause_word (clause inner) (λ w bs more. bs ++ more) []
+
+-- For | Let
+unfoldable pub first_clause : Reader Expr → Reader (List Bind)
+first_clause inner ts = clause_word ts >>= (λ w. clause inner w.0 w.1)
+
+-- (For | Let)+
+unfoldable pub clauses : Reader Expr → Reader (List Bind)
+clauses inner = followed (λ bs more. bs ++ more) (first_clause inner) (more_clauses inner)
 
 -- [where Single]
 abbrev pub filter_at : Reader Expr → List Token → Option (List Token) → Option (Option Expr × List Token)
 filter_at inner ts None = Some (None, ts)
 filter_at inner ts (Some us) = inner us >>= (λ e. Some (Some e.0, e.1))
 
-abbrev pub filter : Reader Expr → Reader (Option Expr)
+unfoldable pub filter : Reader Expr → Reader (Option Expr)
 filter inner ts = filter_at inner ts (word (codes "where") ts)
 
 -- [ascending | descending]
@@ -471,28 +494,33 @@ abbrev pub key_at : Expr → Bool × List Token → Option (SortKey × List Toke
 key_at e d = Some (key d.0 e, d.1)
 
 -- Key
-abbrev pub sort_key : Reader Expr → Reader SortKey
+unfoldable pub sort_key : Reader Expr → Reader SortKey
 sort_key inner ts = inner ts >>= (λ e. key_at e.0 (direction e.1))
 
-abbrev pub sort_keys : Reader Expr → Reader (List SortKey)
-sort_keys inner = followed (λ k ks. k ∷ ks) (sort_key inner) (items (there comma) (λ s. sort_key inner) put [])
+-- (, Key)*
+unfoldable pub more_keys : Reader Expr → Reader (List SortKey)
+more_keys inner = items (there comma) (λ s. sort_key inner) put []
+
+-- Key (, Key)*
+unfoldable pub sort_keys : Reader Expr → Reader (List SortKey)
+sort_keys inner = followed (λ k ks. k ∷ ks) (sort_key inner) (more_keys inner)
 
 -- [order by Key (, Key)*]
 abbrev pub order_at : Reader Expr → List Token → Option (List Token) → Option (List SortKey × List Token)
 order_at inner ts None = Some ([], ts)
 order_at inner ts (Some us) = sort_keys inner us
 
-abbrev pub order : Reader Expr → Reader (List SortKey)
+unfoldable pub order : Reader Expr → Reader (List SortKey)
 order inner ts = order_at inner ts (two_words (codes "order") (codes "by") ts)
 
 -- Flwor
-abbrev pub flwor : Reader Expr → Reader Expr
+unfoldable pub flwor : Reader Expr → Reader Expr
 flwor inner ts =
     clauses inner ts >>= (λ b. filter inner b.1 >>= (λ f. order inner f.1 >>= (λ k. word (codes "return") k.1 >>= (λ us.
     inner us >>= (λ e. Some (expression.Flwor b.0 f.0 k.0 e.0, e.1))))))
 
 -- If, behind `if (`
-abbrev pub an_if : Reader Expr → Reader Expr
+unfoldable pub an_if : Reader Expr → Reader Expr
 an_if inner ts =
     expr inner ts >>= (λ c. close_round c.1 >>= (λ us. word (codes "then") us >>= (λ vs. inner vs >>= (λ y.
     word (codes "else") y.1 >>= (λ ws. inner ws >>= (λ n. Some (expression.If c.0 y.0 n.0, n.1)))))))
@@ -518,7 +546,7 @@ single_at inner ts Begins.a_flwor = flwor inner ts
 single_at inner ts (Begins.an_if_behind us) = an_if inner us
 single_at inner ts Begins.an_or = or inner ts
 
-abbrev pub single_over : Reader Expr → Reader Expr
+unfoldable pub single_over : Reader Expr → Reader Expr
 single_over inner ts = single_at inner ts (begins ts)
 
 -- single expressions of which at most so many stand one in another
