@@ -1,5 +1,5 @@
--- What holds everywhere in a syntax tree: the names of documents, the names of new nodes and the calls of functions
--- pass their tests, each wherever it stands.
+-- What holds everywhere in a syntax tree: the names of new nodes and the calls of functions pass their tests, each
+-- wherever it stands.
 use Rattle.std.specs.Prelude.{ℕ, Bool, true, ◌&&◌, List, [], ◌∷◌, length, Option, None, Some}
 use Rattle.xq_ast.specs.declared.tree.Bind.TheOpen.{Bind-F, Expr-F, Start-F, ProductPart-F, SortKey-F, Step-F, SumPart-F}
 use Rattle.xq_ast.specs.declared.tree.Bind.TheFolds.{fold-Bind, fold-Expr, fold-Start, fold-ProductPart, fold-SortKey, fold-Step, fold-SumPart}
@@ -11,10 +11,8 @@ use Rattle.xq_ast.specs.declared.tree.SortKey.{SortKey}
 use Rattle.xq_ast.specs.declared.tree.Step.{Step}
 use Rattle.xq_ast.specs.declared.tree.SumPart.{SumPart}
 
--- the tests: of the name in `doc(..)`, of the name of a new element or attribute, and of a function's name with the
--- number of its arguments
+-- the tests: of the name of a new element or attribute, and of a function's name with the number of its arguments
 pub record Tests : Type 0 where
-  pub document : List ℕ → Bool
   pub made : List ℕ → Bool
   pub called : List ℕ → ℕ → Bool
 
@@ -51,7 +49,7 @@ module _ (tests : Tests) where
   expr_step (Expr-F.Path start rest) = start && all_true rest
   expr_step (Expr-F.Filter inner preds) = inner && all_true preds
   expr_step (Expr-F.Fun name args) = tests.called name (length args) && all_true args
-  expr_step (Expr-F.Doc name) = tests.document name
+  expr_step (Expr-F.Doc name) = true
   expr_step (Expr-F.Element name content) = tests.made name && if_there content
   expr_step (Expr-F.Attribute name content) = tests.made name && if_there content
   expr_step (Expr-F.TextNode content) = if_there content

@@ -1,5 +1,5 @@
 -- Which functions there are, and how many arguments each takes.
-use Rattle.std.specs.Prelude.{ℕ, Bool, true, false, ◌&&◌, ◌||◌, nat_le, bytes_eq, codes, List, [], ◌∷◌, Option, None, Some}
+use Rattle.std.specs.Prelude.{ℕ, Bool, true, false, ◌&&◌, if◌then◌else◌, nat_le, bytes_eq, codes, List, [], ◌∷◌, Option, None, Some}
 use Rattle.xq_ast.specs.declared.tree.Expr.{Expr}
 use Rattle.xq_ast.specs.declared.update.Update.{Update}
 use Rattle.xq_ast.specs.declared.update.Update.TheVariants as update
@@ -31,18 +31,18 @@ abbrev pub is_at_most : ℕ → Option ℕ → Bool
 is_at_most n None = true
 is_at_most n (Some most) = nat_le n most
 
--- some function has this name and takes this number of arguments
+-- the function of this name is there and takes this number of arguments
 abbrev pub is_among : List Function → List ℕ → ℕ → Bool
 is_among [] name arguments = false
 is_among (f ∷ more) name arguments =
-    (bytes_eq f.name name && (nat_le f.least arguments && is_at_most arguments f.most)) || is_among more name arguments
+    if bytes_eq name f.name then nat_le f.least arguments && is_at_most arguments f.most else is_among more name arguments
 
 abbrev pub is_function : List ℕ → ℕ → Bool
 is_function = is_among functions
 
 -- functions are known, and nothing is asked of names
 abbrev pub calling : Tests
-calling = record { document = λ name. true; made = λ name. true; called = is_function }
+calling = record { made = λ name. true; called = is_function }
 
 abbrev pub are_known_in_update : Update → Bool
 are_known_in_update (update.Into source target) = everywhere calling source && everywhere calling target

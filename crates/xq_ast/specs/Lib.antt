@@ -2,6 +2,7 @@ pub mod CodeText
 pub mod CodeWords
 pub mod Modes
 pub mod Names
+pub mod Documents
 pub mod Everywhere
 pub mod GoodNames
 pub mod Functions

@@ -1,7 +1,8 @@
 -- Where a variable is bound. The variables of a binding are bound in the bindings after it, and in `where`,
 -- `order by` and `return`, but not in what they stand for themselves. A position (`at`) is bound as its item is.
 -- `replace $v in T with E` binds v in E alone.
-use Rattle.std.specs.Prelude.{ℕ, Bool, true, false, ◌&&◌, ◌||◌, bytes_eq, List, [], ◌∷◌, ◌++◌, Option, None, Some}
+use Rattle.std.specs.Prelude.{ℕ, Bool, true, ◌&&◌, bytes_eq, List, [], ◌∷◌, ◌++◌, Option, None, Some}
+use Rattle.std.specs.List.{list_any}
 use Rattle.xq_ast.specs.declared.tree.Bind.TheOpen.{Bind-F, Expr-F, Start-F, ProductPart-F, SortKey-F, Step-F, SumPart-F}
 use Rattle.xq_ast.specs.declared.tree.Bind.TheFolds.{fold-Bind, fold-Expr, fold-Start, fold-ProductPart, fold-SortKey, fold-Step, fold-SumPart}
 use Rattle.xq_ast.specs.declared.tree.Bind.{Bind}
@@ -25,8 +26,7 @@ abbrev pub PartTest : Type 0
 PartTest = Bound → Bool
 
 abbrev pub is_bound : List ℕ → Bound → Bool
-is_bound name [] = false
-is_bound name (b ∷ bound) = bytes_eq b name || is_bound name bound
+is_bound name bound = list_any (λ b. bytes_eq b name) bound
 
 abbrev pub all_bound : List PartTest → PartTest
 all_bound [] bound = true

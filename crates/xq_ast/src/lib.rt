@@ -16,6 +16,7 @@ mod code_reading;
 mod code_text;
 mod copy;
 mod copy_tree;
+mod documents;
 mod kind;
 mod limits;
 mod memory;

@@ -19,9 +19,16 @@ pub enum ParseEnd {
     /// It is tested before whether a call has the tokens.
     #[error("NestedTooDeep")]
     NestedTooDeep,
-    /// A document's name is empty, longer than 255 bytes or has a character below U+0020.
+    /// A document's name is empty, longer than 255 bytes or has a character below U+0020; or a
+    /// name in a constructor or in `rename` is longer than 255 bytes.
     #[error("BadName")]
     BadName,
+    /// No function has this name with this number of arguments.
+    #[error("XPST0017")]
+    XPST0017,
+    /// A variable is not bound where it stands.
+    #[error("XPST0008")]
+    XPST0008,
     /// There was no memory.
     #[error("NoMemory")]
     NoMemory,
@@ -59,6 +66,8 @@ impl ParseEnd {
             ParseEnd::XPST0003 => Code::XPST0003,
             ParseEnd::NestedTooDeep => Code::NestedTooDeep,
             ParseEnd::BadName => Code::BadName,
+            ParseEnd::XPST0017 => Code::XPST0017,
+            ParseEnd::XPST0008 => Code::XPST0008,
             ParseEnd::NoMemory => Code::NoMemory,
         }
     }

@@ -1,34 +1,25 @@
 //! Passes over a call that test each expression wherever it stands.
-ghost use Rattle.std.specs.Prelude.{◌≡◌, map, Bool, ℕ, List};
+ghost use Rattle.std.specs.Prelude.{◌≡◌, ◌&&◌, map};
 ghost use Rattle.std.specs.Option.{option_map};
 ghost use Rattle.xq_ast.specs.Everywhere as spec;
 ghost use Rattle.xq_parse.specs.Passes.{tests_of};
 
 use crate::functions::is_function;
 use xq_ast::{
-    Bind, BindList, Boxed, Expr, ExprList, ProductPartList, SortKeyList, Start, Step, StepList, Str,
-    SumPartList, is_document_name, is_name,
+    Bind, BindList, Boxed, Expr, ExprList, ProductPartList, SortKeyList, Start, StepList, Str,
+    SumPartList, is_name,
 };
 
 /// What is tested.
 #[derive(Clone, Copy, Debug, PartialEq, Eq)]
 pub(crate) enum Pass {
-    /// The names of documents and of new nodes are names.
+    /// The names of new nodes are names.
     Names,
     /// The functions are known, and take so many arguments.
     Functions,
 }
 
 impl Pass {
-    fn document(self, name: &Str) -> bool
-        ensures { result ≡ (tests_of self).document name.now }
-    {
-        match self {
-            Pass::Names => is_document_name(name.as_str()),
-            Pass::Functions => true,
-        }
-    }
-
     fn made(self, name: &Str) -> bool
         ensures { result ≡ (tests_of self).made name.now }
     {
@@ -185,7 +176,7 @@ impl Pass {
             Expr::Path { start, rest } => self.start(start) && self.steps(rest),
             Expr::Filter { inner, preds } => self.passes(inner.get()) && self.exprs(preds),
             Expr::Fun { name, args } => self.called(name, args.len()) && self.exprs(args),
-            Expr::Doc { name } => self.document(name),
+            Expr::Doc { .. } => true,
             Expr::Element { name, content } => self.made(name) && self.content(content),
             Expr::Attribute { name, content } => self.made(name) && self.content(content),
             Expr::TextNode { content } => self.content(content),

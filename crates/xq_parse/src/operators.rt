@@ -1,14 +1,64 @@
 //! Rows of operators.
+ghost use Rattle.std.specs.Prelude.{◌≡◌, ◌∷◌, IfOk};
+ghost use Rattle.xq_ast.specs.Grammar as grammar;
+ghost use Rattle.xq_ast.specs.Readings as spec;
+ghost use Rattle.xq_parse.specs.Reads.{Reads, Finds};
+
+use crate::ahead::{union_op, word};
 use crate::answer::ParseEnd;
 use crate::cursor::Parser;
 use std::alloc::Global;
 use xq_ast::{
-    Boxed, CompareOp, Expr, ExprList, ProductOp, ProductPart, ProductPartList, Sign, SignList,
-    SumPart, SumPartList, Symbol, Token,
+    Boxed, CompareOp, Expr, ExprList, NoMemory, ProductOp, ProductPart, ProductPartList, Sign,
+    SignList, SumPart, SumPartList, Symbol, Token,
 };
 
-/// A sum, or its first operand where it has no other.
-fn sum_of(alloc: Global, first: Expr, rest: SumPartList) -> Result<Expr, ParseEnd> {
+/// The first operand with those behind it.
+fn joined(alloc: Global, first: Expr, rest: ExprList) -> Result<ExprList, NoMemory>
+    ensures { IfOk result (λ parts. parts ≡ first ∷ rest) }
+{
+    let mut parts = ExprList::new(alloc);
+    parts.push(first)?;
+    parts.append(rest)?;
+    Ok(parts)
+}
+
+fn or_of(alloc: Global, first: Expr, rest: ExprList) -> Result<Expr, NoMemory>
+    ensures { IfOk result (λ e. e ≡ grammar.or_of first rest) }
+{
+    if rest.is_empty() {
+        return Ok(first);
+    }
+    Ok(Expr::Or {
+        parts: joined(alloc, first, rest)?,
+    })
+}
+
+fn and_of(alloc: Global, first: Expr, rest: ExprList) -> Result<Expr, NoMemory>
+    ensures { IfOk result (λ e. e ≡ grammar.and_of first rest) }
+{
+    if rest.is_empty() {
+        return Ok(first);
+    }
+    Ok(Expr::And {
+        parts: joined(alloc, first, rest)?,
+    })
+}
+
+fn union_of(alloc: Global, first: Expr, rest: ExprList) -> Result<Expr, NoMemory>
+    ensures { IfOk result (λ e. e ≡ grammar.union_of first rest) }
+{
+    if rest.is_empty() {
+        return Ok(first);
+    }
+    Ok(Expr::Union {
+        parts: joined(alloc, first, rest)?,
+    })
+}
+
+fn sum_of(alloc: Global, first: Expr, rest: SumPartList) -> Result<Expr, NoMemory>
+    ensures { IfOk result (λ e. e ≡ grammar.sum_of first rest) }
+{
     if rest.is_empty() {
         return Ok(first);
     }
@@ -18,8 +68,9 @@ fn sum_of(alloc: Global, first: Expr, rest: SumPartList) -> Result<Expr, ParseEn
     })
 }
 
-/// A product, or its first operand where it has no other.
-fn product_of(alloc: Global, first: Expr, rest: ProductPartList) -> Result<Expr, ParseEnd> {
+fn product_of(alloc: Global, first: Expr, rest: ProductPartList) -> Result<Expr, NoMemory>
+    ensures { IfOk result (λ e. e ≡ grammar.product_of first rest) }
+{
     if rest.is_empty() {
         return Ok(first);
     }
@@ -29,8 +80,9 @@ fn product_of(alloc: Global, first: Expr, rest: ProductPartList) -> Result<Expr,
     })
 }
 
-/// An operand with its signs, or the operand where it has none.
-fn signed_of(alloc: Global, signs: SignList, inner: Expr) -> Result<Expr, ParseEnd> {
+fn signed_of(alloc: Global, signs: SignList, inner: Expr) -> Result<Expr, NoMemory>
+    ensures { IfOk result (λ e. e ≡ grammar.signed_of signs inner) }
+{
     if signs.is_empty() {
         return Ok(inner);
     }
@@ -42,8 +94,10 @@ fn signed_of(alloc: Global, signs: SignList, inner: Expr) -> Result<Expr, ParseE
 
 impl<'a> Parser<'a> {
     /// Takes the operator of a comparison, where one comes next.
-    fn takes_comparison(&mut self) -> Option<CompareOp> {
-        let [Token::Symbol(symbol), rest @ ..] = self.left else {
+    fn compare_op(&mut self) -> Option<CompareOp>
+        ensures { Finds result self.old self.new (spec.compare_op self.old) }
+    {
+        let [Token::Symbol(symbol), rest @ ..] = self.left() else {
             return None;
         };
         let op = match symbol {
@@ -55,159 +109,166 @@ impl<'a> Parser<'a> {
             Symbol::GreaterOrEqual => CompareOp::Ge,
             _ => return None,
         };
-        self.left = rest;
+        self.goes_on(rest);
         Some(op)
     }
 
-    /// Takes a sign, where one comes next.
-    fn takes_sign(&mut self) -> Option<Sign> {
-        match self.left {
+    /// Takes `+` or `-`, where one comes next, and says whether it is `-`.
+    fn sum_op(&mut self) -> Option<bool>
+        ensures { Finds result self.old self.new (spec.sum_op self.old) }
+    {
+        match self.left() {
             [Token::Symbol(Symbol::Plus), rest @ ..] => {
-                self.left = rest;
-                Some(Sign::Plus)
+                self.goes_on(rest);
+                Some(false)
             }
             [Token::Symbol(Symbol::Minus), rest @ ..] => {
-                self.left = rest;
-                Some(Sign::Minus)
+                self.goes_on(rest);
+                Some(true)
             }
             _ => None,
         }
     }
 
-    /// Takes the operator of a product, where one comes next.
-    fn takes_product(&mut self) -> Option<ProductOp> {
-        if self.takes(Symbol::Star) {
-            return Some(ProductOp::Times);
+    /// Takes `*`, `idiv` or `mod`, where one comes next.
+    fn product_op(&mut self) -> Option<ProductOp>
+        ensures { Finds result self.old self.new (spec.product_op self.old) }
+    {
+        match self.left() {
+            [Token::Symbol(Symbol::Star), rest @ ..] => {
+                self.goes_on(rest);
+                Some(ProductOp::Times)
+            }
+            [Token::Name(name), rest @ ..] if name.as_str() == "idiv" => {
+                self.goes_on(rest);
+                Some(ProductOp::Idiv)
+            }
+            [Token::Name(name), rest @ ..] if name.as_str() == "mod" => {
+                self.goes_on(rest);
+                Some(ProductOp::Mod)
+            }
+            _ => None,
         }
-        if self.takes_word("idiv") {
-            return Some(ProductOp::Idiv);
-        }
-        if self.takes_word("mod") {
-            return Some(ProductOp::Mod);
-        }
-        None
     }
 
-    /// Takes `|` or `union`, where one comes next.
-    fn takes_union(&mut self) -> bool {
-        self.takes(Symbol::Bar) || self.takes_word("union")
+    /// The signs that come next.
+    fn signs(&mut self) -> Result<SignList, NoMemory>
+        ensures { IfOk result (λ signs. spec.signs self.old ≡ (signs, self.new)) }
+    {
+        let mut signs = SignList::new(self.alloc());
+        'signs: while let Some(minus) = self.sum_op() {
+            signs.push(if minus { Sign::Minus } else { Sign::Plus })?;
+        }
+        Ok(signs)
     }
 
     /// `And (or And)*`
     #[cycle(rows)]
-    pub(crate) fn or(&mut self, depth: usize) -> Result<Expr, ParseEnd> {
+    pub(crate) fn or(&mut self, depth: usize) -> Result<Expr, ParseEnd>
+        ensures { Reads (λ e. (e, self.new)) result (spec.or (spec.single depth) self.old) }
+    {
         let first = self.and(depth)?;
-        if !self.is_at_word("or") {
-            return Ok(first);
+        let mut rest = ExprList::new(self.alloc());
+        'parts: while self.takes(word("or", self.left())) {
+            rest.push(self.and(depth)?)?;
         }
-        let mut parts = ExprList::new(self.alloc);
-        parts.push(first)?;
-        'parts: while self.takes_word("or") {
-            parts.push(self.and(depth)?)?;
-        }
-        Ok(Expr::Or { parts })
+        Ok(or_of(self.alloc(), first, rest)?)
     }
 
     /// `Comparison (and Comparison)*`
     #[cycle(rows)]
-    fn and(&mut self, depth: usize) -> Result<Expr, ParseEnd> {
+    fn and(&mut self, depth: usize) -> Result<Expr, ParseEnd>
+        ensures { Reads (λ e. (e, self.new)) result (spec.and (spec.single depth) self.old) }
+    {
         let first = self.comparison(depth)?;
-        if !self.is_at_word("and") {
-            return Ok(first);
+        let mut rest = ExprList::new(self.alloc());
+        'parts: while self.takes(word("and", self.left())) {
+            rest.push(self.comparison(depth)?)?;
         }
-        let mut parts = ExprList::new(self.alloc);
-        parts.push(first)?;
-        'parts: while self.takes_word("and") {
-            parts.push(self.comparison(depth)?)?;
-        }
-        Ok(Expr::And { parts })
+        Ok(and_of(self.alloc(), first, rest)?)
     }
 
     /// `Range [(= | != | < | <= | > | >=) Range]`
     #[cycle(rows)]
-    fn comparison(&mut self, depth: usize) -> Result<Expr, ParseEnd> {
+    fn comparison(&mut self, depth: usize) -> Result<Expr, ParseEnd>
+        ensures { Reads (λ e. (e, self.new)) result (spec.comp (spec.single depth) self.old) }
+    {
         let left = self.range(depth)?;
-        let Some(op) = self.takes_comparison() else {
+        let Some(op) = self.compare_op() else {
             return Ok(left);
         };
         let right = self.range(depth)?;
         Ok(Expr::Compare {
-            left: Boxed::new(self.alloc, left)?,
+            left: Boxed::new(self.alloc(), left)?,
             op,
-            right: Boxed::new(self.alloc, right)?,
+            right: Boxed::new(self.alloc(), right)?,
         })
     }
 
     /// `Sum [to Sum]`
     #[cycle(rows)]
-    fn range(&mut self, depth: usize) -> Result<Expr, ParseEnd> {
+    fn range(&mut self, depth: usize) -> Result<Expr, ParseEnd>
+        ensures { Reads (λ e. (e, self.new)) result (spec.range (spec.single depth) self.old) }
+    {
         let low = self.sum(depth)?;
-        if !self.takes_word("to") {
+        if !self.takes(word("to", self.left())) {
             return Ok(low);
         }
         let high = self.sum(depth)?;
         Ok(Expr::Range {
-            low: Boxed::new(self.alloc, low)?,
-            high: Boxed::new(self.alloc, high)?,
+            low: Boxed::new(self.alloc(), low)?,
+            high: Boxed::new(self.alloc(), high)?,
         })
     }
 
     /// `Product ((+ | -) Product)*`
     #[cycle(rows)]
-    fn sum(&mut self, depth: usize) -> Result<Expr, ParseEnd> {
+    fn sum(&mut self, depth: usize) -> Result<Expr, ParseEnd>
+        ensures { Reads (λ e. (e, self.new)) result (spec.sum (spec.single depth) self.old) }
+    {
         let first = self.product(depth)?;
-        let mut rest = SumPartList::new(self.alloc);
-        'parts: while let Some(sign) = self.takes_sign() {
+        let mut rest = SumPartList::new(self.alloc());
+        'parts: while let Some(minus) = self.sum_op() {
             let expr = self.product(depth)?;
-            rest.push(SumPart {
-                minus: sign == Sign::Minus,
-                expr,
-            })?;
+            rest.push(SumPart { minus, expr })?;
         }
-        sum_of(self.alloc, first, rest)
+        Ok(sum_of(self.alloc(), first, rest)?)
     }
 
     /// `Union ((* | idiv | mod) Union)*`
     #[cycle(rows)]
-    fn product(&mut self, depth: usize) -> Result<Expr, ParseEnd> {
+    fn product(&mut self, depth: usize) -> Result<Expr, ParseEnd>
+        ensures { Reads (λ e. (e, self.new)) result (spec.product (spec.single depth) self.old) }
+    {
         let first = self.union(depth)?;
-        let mut rest = ProductPartList::new(self.alloc);
-        'parts: while let Some(op) = self.takes_product() {
+        let mut rest = ProductPartList::new(self.alloc());
+        'parts: while let Some(op) = self.product_op() {
             let expr = self.union(depth)?;
             rest.push(ProductPart { op, expr })?;
         }
-        product_of(self.alloc, first, rest)
+        Ok(product_of(self.alloc(), first, rest)?)
     }
 
     /// `Signed ((| or the word union) Signed)*`
     #[cycle(rows)]
-    fn union(&mut self, depth: usize) -> Result<Expr, ParseEnd> {
+    fn union(&mut self, depth: usize) -> Result<Expr, ParseEnd>
+        ensures { Reads (λ e. (e, self.new)) result (spec.union (spec.single depth) self.old) }
+    {
         let first = self.signed(depth)?;
-        if !self.is_at(Symbol::Bar) && !self.is_at_word("union") {
-            return Ok(first);
+        let mut rest = ExprList::new(self.alloc());
+        'parts: while self.takes(union_op(self.left())) {
+            rest.push(self.signed(depth)?)?;
         }
-        let mut parts = ExprList::new(self.alloc);
-        parts.push(first)?;
-        'parts: while self.takes_union() {
-            parts.push(self.signed(depth)?)?;
-        }
-        Ok(Expr::Union { parts })
-    }
-
-    /// The signs that come next.
-    fn signs(&mut self) -> Result<SignList, ParseEnd> {
-        let mut signs = SignList::new(self.alloc);
-        'signs: while let Some(sign) = self.takes_sign() {
-            signs.push(sign)?;
-        }
-        Ok(signs)
+        Ok(union_of(self.alloc(), first, rest)?)
     }
 
     /// `(+ | -)* Path`
     #[cycle(rows)]
-    fn signed(&mut self, depth: usize) -> Result<Expr, ParseEnd> {
+    fn signed(&mut self, depth: usize) -> Result<Expr, ParseEnd>
+        ensures { Reads (λ e. (e, self.new)) result (spec.signed (spec.single depth) self.old) }
+    {
         let signs = self.signs()?;
         let inner = self.path(depth)?;
-        signed_of(self.alloc, signs, inner)
+        Ok(signed_of(self.alloc(), signs, inner)?)
     }
 }

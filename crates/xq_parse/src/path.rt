@@ -1,11 +1,20 @@
-//! Paths and their steps.
+//! Paths and predicates.
+ghost use Rattle.std.specs.Prelude.{◌≡◌, IfOk};
+ghost use Rattle.xq_ast.specs.Grammar as grammar;
+ghost use Rattle.xq_ast.specs.Readings as spec;
+ghost use Rattle.xq_parse.specs.Operands.{operand_of};
+ghost use Rattle.xq_parse.specs.Reads.{Reads};
+
+use crate::ahead::{close_square, open_square};
 use crate::answer::ParseEnd;
 use crate::cursor::Parser;
+use crate::operand::{Operand, operand_at};
 use std::alloc::Global;
-use xq_ast::{Axis, Boxed, Expr, ExprList, Start, Step, StepList, Symbol, Test, Token};
+use xq_ast::{Boxed, Expr, ExprList, NoMemory, Start, Step, StepList};
 
-/// An expression with its predicates, or the expression where it has none.
-fn filter_of(alloc: Global, inner: Expr, preds: ExprList) -> Result<Expr, ParseEnd> {
+fn filter_of(alloc: Global, inner: Expr, preds: ExprList) -> Result<Expr, NoMemory>
+    ensures { IfOk result (λ e. e ≡ grammar.filter_of inner preds) }
+{
     if preds.is_empty() {
         return Ok(inner);
     }
@@ -15,8 +24,9 @@ fn filter_of(alloc: Global, inner: Expr, preds: ExprList) -> Result<Expr, ParseE
     })
 }
 
-/// A path from the items of an expression, or the expression where no step follows.
-fn value_path(alloc: Global, inner: Expr, rest: StepList) -> Result<Expr, ParseEnd> {
+fn path_of(alloc: Global, inner: Expr, rest: StepList) -> Result<Expr, NoMemory>
+    ensures { IfOk result (λ e. e ≡ grammar.path_of inner rest) }
+{
     if rest.is_empty() {
         return Ok(inner);
     }
@@ -28,169 +38,98 @@ fn value_path(alloc: Global, inner: Expr, rest: StepList) -> Result<Expr, ParseE
     })
 }
 
-/// The axis of this name.
-fn axis_of(word: &str) -> Option<Axis> {
-    match word {
-        "child" => Some(Axis::Child),
-        "descendant" => Some(Axis::Descendant),
-        "descendant-or-self" => Some(Axis::DescendantOrSelf),
-        "self" => Some(Axis::Itself),
-        "attribute" => Some(Axis::Attribute),
-        "parent" => Some(Axis::Parent),
-        _ => None,
+/// A step behind `//` where `deep`.
+fn step_behind(deep: bool, step: Step) -> Step
+    ensures { result ≡ grammar.step_behind deep step }
+{
+    Step {
+        deep,
+        axis: step.axis,
+        test: step.test,
+        preds: step.preds,
     }
-}
-
-/// The test that this word is before `(`.
-fn kind_test(word: &str) -> Option<Test> {
-    match word {
-        "node" => Some(Test::AnyNode),
-        "text" => Some(Test::Text),
-        "processing-instruction" => Some(Test::Pi),
-        _ => None,
-    }
-}
-
-/// Whether this word before `(` is a test.
-pub(crate) fn is_kind_test(word: &str) -> bool {
-    word == "node" || word == "text" || word == "processing-instruction"
 }
 
 impl<'a> Parser<'a> {
-    /// `Name | *`
-    fn name_test(&mut self) -> Result<Test, ParseEnd> {
-        if self.takes(Symbol::Star) {
-            return Ok(Test::Name { name: None });
-        }
-        Ok(Test::Name {
-            name: Some(self.name()?),
-        })
-    }
-
-    /// `NameTest | node ( ) | text ( ) | processing-instruction ( )`
-    fn test(&mut self) -> Result<Test, ParseEnd> {
-        if let [Token::Name(word), Token::Symbol(Symbol::OpenRound), rest @ ..] = self.left
-            && let Some(test) = kind_test(word.as_str())
-        {
-            self.left = rest;
-            self.expect(Symbol::CloseRound)?;
-            return Ok(test);
-        }
-        self.name_test()
-    }
-
-    /// Takes an axis and its `::`, where a name stands before `::`; else the axis is `child`.
-    fn axis(&mut self) -> Result<Axis, ParseEnd> {
-        match self.left {
-            [
-                Token::Name(word),
-                Token::Symbol(Symbol::ColonColon),
-                rest @ ..,
-            ] => {
-                self.left = rest;
-                match axis_of(word.as_str()) {
-                    Some(axis) => Ok(axis),
-                    None => Err(ParseEnd::XPST0003),
-                }
-            }
-            _ => Ok(Axis::Child),
-        }
-    }
-
-    /// `@ NameTest | .. | [Axis ::] Test`
-    fn bare_step(&mut self, deep: bool) -> Result<Step, ParseEnd> {
-        let preds = ExprList::new(self.alloc);
-        if self.takes(Symbol::At) {
-            return Ok(Step {
-                deep,
-                axis: Axis::Attribute,
-                test: self.name_test()?,
-                preds,
-            });
-        }
-        if self.takes(Symbol::DotDot) {
-            return Ok(Step {
-                deep,
-                axis: Axis::Parent,
-                test: Test::AnyNode,
-                preds,
-            });
-        }
-        Ok(Step {
-            deep,
-            axis: self.axis()?,
-            test: self.test()?,
-            preds,
-        })
-    }
-
-    /// `[ Expr ]`, any number of them.
+    /// `[ Expr ]`, behind its opening bracket.
     #[cycle(rows)]
-    fn predicates(&mut self, depth: usize) -> Result<ExprList, ParseEnd> {
-        let mut preds = ExprList::new(self.alloc);
-        'preds: while self.takes(Symbol::OpenSquare) {
-            let pred = self.expr(depth)?;
-            self.expect(Symbol::CloseSquare)?;
-            preds.push(pred)?;
+    fn predicate(&mut self, depth: usize) -> Result<Expr, ParseEnd>
+        ensures { Reads (λ e. (e, self.new)) result (spec.pred (spec.single depth) self.old) }
+    {
+        let inner = self.expr(depth)?;
+        self.expect(close_square(self.left()))?;
+        Ok(inner)
+    }
+
+    /// Predicates, as many as follow.
+    #[cycle(rows)]
+    fn predicates(&mut self, depth: usize) -> Result<ExprList, ParseEnd>
+        ensures { Reads (λ preds. (preds, self.new)) result (spec.preds (spec.single depth) self.old) }
+    {
+        let mut preds = ExprList::new(self.alloc());
+        'preds: while self.takes(open_square(self.left())) {
+            preds.push(self.predicate(depth)?)?;
         }
         Ok(preds)
     }
 
     /// `(@ NameTest | .. | [Axis ::] Test) Predicate*`
     #[cycle(rows)]
-    fn step(&mut self, deep: bool, depth: usize) -> Result<Step, ParseEnd> {
-        let mut step = self.bare_step(deep)?;
-        step.preds = self.predicates(depth)?;
-        Ok(step)
-    }
-
-    /// Takes `/` or `//`, where one comes next, and says whether it was `//`.
-    fn takes_slash(&mut self) -> Option<bool> {
-        match self.left {
-            [Token::Symbol(Symbol::Slash), rest @ ..] => {
-                self.left = rest;
-                Some(false)
-            }
-            [Token::Symbol(Symbol::SlashSlash), rest @ ..] => {
-                self.left = rest;
-                Some(true)
-            }
-            _ => None,
-        }
+    fn step(&mut self, depth: usize) -> Result<Step, ParseEnd>
+        ensures { Reads (λ step. (step, self.new)) result (spec.step (spec.single depth) self.old) }
+    {
+        let bare = self.bare_step()?;
+        let preds = self.predicates(depth)?;
+        Ok(Step {
+            deep: false,
+            axis: bare.axis,
+            test: bare.test,
+            preds,
+        })
     }
 
     /// `((/ | //) Step)*`
     #[cycle(rows)]
-    fn steps(&mut self, depth: usize) -> Result<StepList, ParseEnd> {
-        let mut steps = StepList::new(self.alloc);
-        'steps: while let Some(deep) = self.takes_slash() {
-            let step = self.step(deep, depth)?;
-            steps.push(step)?;
+    fn steps(&mut self, depth: usize) -> Result<StepList, ParseEnd>
+        ensures { Reads (λ steps. (steps, self.new)) result (spec.steps (spec.single depth) self.old) }
+    {
+        let mut steps = StepList::new(self.alloc());
+        'steps: while let Some(deep) = self.slash() {
+            let step = self.step(depth)?;
+            steps.push(step_behind(deep, step))?;
         }
         Ok(steps)
     }
 
-    /// `(Filter | Step) ((/ | //) Step)*`
-    #[cycle(rows)]
-    pub(crate) fn path(&mut self, depth: usize) -> Result<Expr, ParseEnd> {
-        if self.is_at_primary() {
-            let filter = self.filter(depth)?;
-            let rest = self.steps(depth)?;
-            return value_path(self.alloc, filter, rest);
-        }
-        Ok(Expr::Path {
-            start: Start::First {
-                step: self.step(false, depth)?,
-            },
-            rest: self.steps(depth)?,
-        })
-    }
-
     /// `Primary Predicate*`
     #[cycle(rows)]
-    fn filter(&mut self, depth: usize) -> Result<Expr, ParseEnd> {
-        let inner = self.primary(depth)?;
+    fn filtered(&mut self, operand: Operand<'a>, depth: usize) -> Result<Expr, ParseEnd>
+        ensures { Reads (λ e. (e, self.new)) result (spec.filtered (spec.single depth) (operand_of operand.entry) self.old) }
+    {
+        let inner = self.primary(operand, depth)?;
         let preds = self.predicates(depth)?;
-        filter_of(self.alloc, inner, preds)
+        Ok(filter_of(self.alloc(), inner, preds)?)
+    }
+
+    /// `(Filter | Step) ((/ | //) Step)*`
+    #[cycle(rows)]
+    pub(crate) fn path(&mut self, depth: usize) -> Result<Expr, ParseEnd>
+        ensures { Reads (λ e. (e, self.new)) result (spec.path (spec.single depth) self.old) }
+    {
+        match operand_at(self.left()) {
+            Operand::Step => {
+                let step = self.step(depth)?;
+                let rest = self.steps(depth)?;
+                Ok(Expr::Path {
+                    start: Start::First { step },
+                    rest,
+                })
+            }
+            operand => {
+                let filter = self.filtered(operand, depth)?;
+                let rest = self.steps(depth)?;
+                Ok(path_of(self.alloc(), filter, rest)?)
+            }
+        }
     }
 }

@@ -1,159 +1,148 @@
-//! Operands of paths that are no steps.
+//! Primary expressions.
+ghost use Rattle.std.specs.Prelude.{◌≡◌, IfOk};
+ghost use Rattle.xq_ast.specs.Grammar as grammar;
+ghost use Rattle.xq_ast.specs.Readings as spec;
+ghost use Rattle.xq_parse.specs.Operands.{group, operand_of};
+ghost use Rattle.xq_parse.specs.Reads.{Reads};
+
+use crate::ahead::{close_curly, close_round};
 use crate::answer::ParseEnd;
 use crate::cursor::Parser;
-use crate::path::is_kind_test;
+use crate::operand::Operand;
 use std::alloc::Global;
 use xq_ast::{Boxed, Expr, ExprList, NoMemory, Str, Symbol, Token};
 
-/// Whether a function's name before `(` is the row of a document's name.
-fn is_doc(word: &str) -> bool {
-    word == "doc" || word == "fn:doc"
-}
-
-/// The function that this name calls: the name without the prefix `fn:`.
-fn function_name(alloc: Global, word: &str) -> Result<Str, NoMemory> {
-    Str::of(alloc, word.strip_prefix("fn:").unwrap_or(word))
+/// A function's name without the prefix `fn:`.
+fn plain(alloc: Global, word: &str) -> Result<Str, NoMemory>
+    ensures { IfOk result (λ name. name ≡ grammar.plain word.now) }
+{
+    match word.strip_prefix("fn:") {
+        Some(rest) => Str::of(alloc, rest),
+        None => Str::of(alloc, word),
+    }
 }
 
 impl<'a> Parser<'a> {
-    /// Whether a primary expression comes next, and no step.
-    pub(crate) fn is_at_primary(&self) -> bool {
-        match self.left {
-            [Token::Text(_) | Token::Int(_), ..] => true,
+    /// `String )`, behind `doc (`.
+    fn doc(&mut self) -> Result<Expr, ParseEnd>
+        ensures { Reads (λ e. (e, self.new)) result (spec.doc self.old) }
+    {
+        match self.left() {
             [
-                Token::Symbol(Symbol::Dollar | Symbol::OpenRound | Symbol::Dot),
-                ..,
-            ] => true,
-            [Token::Name(word), Token::Symbol(Symbol::OpenRound), ..] => {
-                !is_kind_test(word.as_str())
+                Token::Text(name),
+                Token::Symbol(Symbol::CloseRound),
+                rest @ ..,
+            ] => {
+                self.goes_on(rest);
+                Ok(Expr::Doc { name: name.copy()? })
             }
-            [
-                Token::Name(word),
-                Token::Name(_),
-                Token::Symbol(Symbol::OpenCurly),
-                ..,
-            ] => word.as_str() == "element" || word.as_str() == "attribute",
-            [Token::Name(word), Token::Symbol(Symbol::OpenCurly), ..] => word.as_str() == "text",
-            _ => false,
+            _ => Err(ParseEnd::XPST0003),
         }
     }
 
     /// `[Expr] )`
     #[cycle(rows)]
-    fn parenthesized(&mut self, depth: usize) -> Result<Expr, ParseEnd> {
-        if self.takes(Symbol::CloseRound) {
+    fn group(&mut self, depth: usize) -> Result<Expr, ParseEnd>
+        ensures { Reads (λ e. (e, self.new)) result (group (spec.single depth) self.old) }
+    {
+        if self.takes(close_round(self.left())) {
             return Ok(Expr::Seq {
-                parts: ExprList::new(self.alloc),
+                parts: ExprList::new(self.alloc()),
             });
         }
         let inner = self.expr(depth)?;
-        self.expect(Symbol::CloseRound)?;
+        self.expect(close_round(self.left()))?;
         Ok(inner)
     }
 
     /// `[Expr] }`
     #[cycle(rows)]
-    fn content(&mut self, depth: usize) -> Result<Option<Boxed<Expr>>, ParseEnd> {
-        if self.takes(Symbol::CloseCurly) {
+    fn content(&mut self, depth: usize) -> Result<Option<Boxed<Expr>>, ParseEnd>
+        ensures { Reads (λ content. (content, self.new)) result (spec.content spec.close_curly (spec.single depth) self.old) }
+    {
+        if self.takes(close_curly(self.left())) {
             return Ok(None);
         }
         let inner = self.expr(depth)?;
-        self.expect(Symbol::CloseCurly)?;
-        Ok(Some(Boxed::new(self.alloc, inner)?))
+        self.expect(close_curly(self.left()))?;
+        Ok(Some(Boxed::new(self.alloc(), inner)?))
     }
 
     /// `[Single (, Single)*] )`
     #[cycle(rows)]
-    fn arguments(&mut self, depth: usize) -> Result<ExprList, ParseEnd> {
-        if self.takes(Symbol::CloseRound) {
-            return Ok(ExprList::new(self.alloc));
+    fn arguments(&mut self, depth: usize) -> Result<ExprList, ParseEnd>
+        ensures { Reads (λ args. (args, self.new)) result (spec.arguments (spec.single depth) self.old) }
+    {
+        if self.takes(close_round(self.left())) {
+            return Ok(ExprList::new(self.alloc()));
         }
-        let args = self.singles(depth)?;
-        self.expect(Symbol::CloseRound)?;
+        let args = self.list(depth)?;
+        self.expect(close_round(self.left()))?;
         Ok(args)
     }
 
-    /// What follows the name of a function and its `(`.
+    /// The primary expression that begins so.
     #[cycle(rows)]
-    fn function(&mut self, word: &str, depth: usize) -> Result<Expr, ParseEnd> {
-        if is_doc(word) {
-            let name = self.string()?;
-            self.expect(Symbol::CloseRound)?;
-            return Ok(Expr::Doc { name });
-        }
-        let args = self.arguments(depth)?;
-        Ok(Expr::Fun {
-            name: function_name(self.alloc, word)?,
-            args,
-        })
-    }
-
-    /// What follows `element` or `attribute`, a name and `{`.
-    #[cycle(rows)]
-    fn constructor(&mut self, word: &str, name: &Str, depth: usize) -> Result<Expr, ParseEnd> {
-        let content = self.content(depth)?;
-        let name = name.copy()?;
-        if word == "element" {
-            Ok(Expr::Element { name, content })
-        } else {
-            Ok(Expr::Attribute { name, content })
-        }
-    }
-
-    /// A primary expression.
-    #[cycle(rows)]
-    pub(crate) fn primary(&mut self, depth: usize) -> Result<Expr, ParseEnd> {
-        match self.left {
-            [Token::Text(text), rest @ ..] => {
-                self.left = rest;
+    pub(crate) fn primary(&mut self, operand: Operand<'a>, depth: usize) -> Result<Expr, ParseEnd>
+        ensures { Reads (λ e. (e, self.new)) result (spec.primary (spec.single depth) (operand_of operand.entry)) }
+    {
+        match operand {
+            Operand::Text { value, rest } => {
+                self.goes_on(rest);
                 Ok(Expr::Text {
-                    value: text.copy()?,
+                    value: value.copy()?,
                 })
             }
-            [Token::Int(value), rest @ ..] => {
-                self.left = rest;
-                Ok(Expr::Int { value: *value })
+            Operand::Int { value, rest } => {
+                self.goes_on(rest);
+                Ok(Expr::Int { value })
             }
-            [Token::Symbol(Symbol::Dollar), Token::Name(name), rest @ ..] => {
-                self.left = rest;
-                Ok(Expr::Var { name: name.copy()? })
+            Operand::Variable { rest } => {
+                self.goes_on(rest);
+                Ok(Expr::Var { name: self.name()? })
             }
-            [Token::Symbol(Symbol::Dot), rest @ ..] => {
-                self.left = rest;
+            Operand::Group { rest } => {
+                self.goes_on(rest);
+                self.group(depth)
+            }
+            Operand::Context { rest } => {
+                self.goes_on(rest);
                 Ok(Expr::Context)
             }
-            [Token::Symbol(Symbol::OpenRound), rest @ ..] => {
-                self.left = rest;
-                self.parenthesized(depth)
+            Operand::Doc { rest } => {
+                self.goes_on(rest);
+                self.doc()
             }
-            [
-                Token::Name(word),
-                Token::Symbol(Symbol::OpenRound),
-                rest @ ..,
-            ] => {
-                self.left = rest;
-                self.function(word.as_str(), depth)
-            }
-            [
-                Token::Name(word),
-                Token::Name(name),
-                Token::Symbol(Symbol::OpenCurly),
-                rest @ ..,
-            ] => {
-                self.left = rest;
-                self.constructor(word.as_str(), name, depth)
-            }
-            [
-                Token::Name(_),
-                Token::Symbol(Symbol::OpenCurly),
-                rest @ ..,
-            ] => {
-                self.left = rest;
-                Ok(Expr::TextNode {
-                    content: self.content(depth)?,
+            Operand::Function { word, rest } => {
+                self.goes_on(rest);
+                let args = self.arguments(depth)?;
+                Ok(Expr::Fun {
+                    name: plain(self.alloc(), word.as_str())?,
+                    args,
                 })
             }
-            _ => Err(ParseEnd::XPST0003),
+            Operand::Element { name, rest } => {
+                self.goes_on(rest);
+                let content = self.content(depth)?;
+                Ok(Expr::Element {
+                    name: name.copy()?,
+                    content,
+                })
+            }
+            Operand::Attribute { name, rest } => {
+                self.goes_on(rest);
+                let content = self.content(depth)?;
+                Ok(Expr::Attribute {
+                    name: name.copy()?,
+                    content,
+                })
+            }
+            Operand::TextNode { rest } => {
+                self.goes_on(rest);
+                let content = self.content(depth)?;
+                Ok(Expr::TextNode { content })
+            }
+            Operand::Step => Err(ParseEnd::XPST0003),
         }
     }
 }

@@ -1,15 +1,69 @@
 //! Single expressions, and expressions with commas between them.
+ghost use Rattle.std.specs.Prelude.{◌≡◌};
+ghost use Rattle.xq_ast.specs.Grammar as grammar;
+ghost use Rattle.xq_ast.specs.Readings as spec;
+ghost use Rattle.xq_parse.specs.Operands.{begins_of, clause_word_of};
+ghost use Rattle.xq_parse.specs.Reads.{Reads};
+
+use crate::ahead::{assign, close_round, comma, two_words, word};
 use crate::answer::ParseEnd;
 use crate::cursor::Parser;
+use crate::flwor::ClauseWord;
 use xq_ast::{Bind, BindList, Boxed, Expr, ExprList, SortKey, SortKeyList, Str, Symbol, Token};
+
+/// Which row a single expression is.
+#[derive(Clone, Copy)]
+pub(crate) enum Begins<'a> {
+    Flwor,
+    /// `if (`
+    If { rest: &'a [Token] },
+    Or,
+}
+
+/// Which row a single expression is that begins with a name, with these tokens behind it.
+fn named_begins<'a>(word: &str, behind: &'a [Token]) -> Begins<'a>
+    ensures { begins_of result ≡ spec.named_begins word.now (spec.behind_name behind.now) }
+{
+    match behind {
+        [Token::Symbol(Symbol::Dollar), ..] if word == "for" || word == "let" => Begins::Flwor,
+        [Token::Symbol(Symbol::OpenRound), rest @ ..] if word == "if" => Begins::If { rest },
+        _ => Begins::Or,
+    }
+}
+
+/// Which row a single expression is that begins with these tokens.
+fn begins_at(tokens: &[Token]) -> Begins<'_>
+    ensures { begins_of result ≡ spec.begins tokens.now }
+{
+    match tokens {
+        [Token::Name(word), behind @ ..] => named_begins(word.as_str(), behind),
+        _ => Begins::Or,
+    }
+}
+
+/// Expressions with commas between them, or the one that there is.
+fn sequence_of(parts: ExprList) -> Expr
+    ensures { result ≡ grammar.sequence_of parts }
+{
+    if parts.len() != 1 {
+        return Expr::Seq { parts };
+    }
+    let mut parts = parts;
+    match parts.pop() {
+        Some(part) => part,
+        None => Expr::Seq { parts },
+    }
+}
 
 impl<'a> Parser<'a> {
     /// `Single (, Single)*`, as a list.
     #[cycle(rows)]
-    pub(crate) fn singles(&mut self, depth: usize) -> Result<ExprList, ParseEnd> {
-        let mut parts = ExprList::new(self.alloc);
+    pub(crate) fn list(&mut self, depth: usize) -> Result<ExprList, ParseEnd>
+        ensures { Reads (λ parts. (parts, self.new)) result (spec.list (spec.single depth) self.old) }
+    {
+        let mut parts = ExprList::new(self.alloc());
         parts.push(self.single(depth)?)?;
-        'parts: while self.takes(Symbol::Comma) {
+        'parts: while self.takes(comma(self.left())) {
             parts.push(self.single(depth)?)?;
         }
         Ok(parts)
@@ -17,190 +71,186 @@ impl<'a> Parser<'a> {
 
     /// `Single (, Single)*`
     #[cycle(rows)]
-    pub(crate) fn expr(&mut self, depth: usize) -> Result<Expr, ParseEnd> {
-        let first = self.single(depth)?;
-        if !self.is_at(Symbol::Comma) {
-            return Ok(first);
-        }
-        let mut parts = ExprList::new(self.alloc);
-        parts.push(first)?;
-        'parts: while self.takes(Symbol::Comma) {
-            parts.push(self.single(depth)?)?;
-        }
-        Ok(Expr::Seq { parts })
-    }
-
-    /// Whether this word comes next, with a `$` behind it.
-    fn is_at_binding(&self, word: &str) -> bool {
-        match self.left {
-            [Token::Name(next), Token::Symbol(Symbol::Dollar), ..] => next.as_str() == word,
-            _ => false,
-        }
-    }
-
-    /// Whether `if` comes next, with a `(` behind it.
-    fn is_at_if(&self) -> bool {
-        match self.left {
-            [Token::Name(next), Token::Symbol(Symbol::OpenRound), ..] => next.as_str() == "if",
-            _ => false,
-        }
+    pub(crate) fn expr(&mut self, depth: usize) -> Result<Expr, ParseEnd>
+        ensures { Reads (λ e. (e, self.new)) result (spec.expr (spec.single depth) self.old) }
+    {
+        let parts = self.list(depth)?;
+        Ok(sequence_of(parts))
     }
 
     /// `Flwor | If | Or`, where no more than `depth` single expressions stand in one another.
     #[cycle(rows)]
-    pub(crate) fn single(&mut self, depth: usize) -> Result<Expr, ParseEnd> {
+    pub(crate) fn single(&mut self, depth: usize) -> Result<Expr, ParseEnd>
+        ensures { Reads (λ e. (e, self.new)) result (spec.single depth self.old) }
+    {
         if depth == 0 {
             return Err(ParseEnd::XPST0003);
         }
         let below = depth - 1;
-        if self.is_at_binding("for") || self.is_at_binding("let") {
-            return self.flwor(below);
+        match begins_at(self.left()) {
+            Begins::Flwor => self.flwor(below),
+            Begins::If { rest } => {
+                self.goes_on(rest);
+                self.conditional(below)
+            }
+            Begins::Or => self.or(below),
         }
-        if self.is_at_if() {
-            return self.conditional(below);
-        }
-        self.or(below)
-    }
-
-    /// `[at $Name]`
-    fn position(&mut self) -> Result<Option<Str>, ParseEnd> {
-        if !self.takes_word("at") {
-            return Ok(None);
-        }
-        Ok(Some(self.variable()?))
     }
 
     /// `$Name [at $Name] in Single`
     #[cycle(rows)]
-    fn for_binding(&mut self, depth: usize) -> Result<Bind, ParseEnd> {
+    fn bind(&mut self, depth: usize) -> Result<Bind, ParseEnd>
+        ensures { Reads (λ bind. (bind, self.new)) result (spec.bind (spec.single depth) self.old) }
+    {
         let name = self.variable()?;
-        let at = self.position()?;
-        self.expect_word("in")?;
+        let at = self.place()?;
+        self.expect(word("in", self.left()))?;
         let source = self.single(depth)?;
         Ok(Bind::For { name, at, source })
     }
 
+    /// `Bind (, Bind)*`
+    #[cycle(rows)]
+    fn binds(&mut self, depth: usize) -> Result<BindList, ParseEnd>
+        ensures { Reads (λ binds. (binds, self.new)) result (spec.binds (spec.single depth) self.old) }
+    {
+        let mut binds = BindList::new(self.alloc());
+        binds.push(self.bind(depth)?)?;
+        'binds: while self.takes(comma(self.left())) {
+            binds.push(self.bind(depth)?)?;
+        }
+        Ok(binds)
+    }
+
     /// `$Name := Single`
     #[cycle(rows)]
-    fn let_binding(&mut self, depth: usize) -> Result<Bind, ParseEnd> {
+    fn let_bind(&mut self, depth: usize) -> Result<Bind, ParseEnd>
+        ensures { Reads (λ bind. (bind, self.new)) result (spec.let_bind (spec.single depth) self.old) }
+    {
         let name = self.variable()?;
-        self.expect(Symbol::Assign)?;
+        self.expect(assign(self.left()))?;
         let value = self.single(depth)?;
         Ok(Bind::Let { name, value })
     }
 
-    /// Bindings of `for` behind its word, added to those before it.
+    /// `$Name := Single (, $Name := Single)*`
     #[cycle(rows)]
-    fn for_clause(&mut self, binds: &mut BindList, depth: usize) -> Result<(), ParseEnd> {
-        binds.push(self.for_binding(depth)?)?;
-        'binds: while self.takes(Symbol::Comma) {
-            binds.push(self.for_binding(depth)?)?;
+    fn lets(&mut self, depth: usize) -> Result<BindList, ParseEnd>
+        ensures { Reads (λ binds. (binds, self.new)) result (spec.lets (spec.single depth) self.old) }
+    {
+        let mut binds = BindList::new(self.alloc());
+        binds.push(self.let_bind(depth)?)?;
+        'binds: while self.takes(comma(self.left())) {
+            binds.push(self.let_bind(depth)?)?;
         }
-        Ok(())
+        Ok(binds)
     }
 
-    /// Bindings of `let` behind its word, added to those before it.
+    /// A clause behind its word.
     #[cycle(rows)]
-    fn let_clause(&mut self, binds: &mut BindList, depth: usize) -> Result<(), ParseEnd> {
-        binds.push(self.let_binding(depth)?)?;
-        'binds: while self.takes(Symbol::Comma) {
-            binds.push(self.let_binding(depth)?)?;
+    fn clause(&mut self, clause: ClauseWord, depth: usize) -> Result<BindList, ParseEnd>
+        ensures { Reads (λ binds. (binds, self.new)) result (spec.clause (spec.single depth) (clause_word_of clause) self.old) }
+    {
+        match clause {
+            ClauseWord::For => self.binds(depth),
+            ClauseWord::Let => self.lets(depth),
         }
-        Ok(())
     }
 
     /// `(For | Let)+`
     #[cycle(rows)]
-    fn bindings(&mut self, depth: usize) -> Result<BindList, ParseEnd> {
-        let mut binds = BindList::new(self.alloc);
-        'clauses: loop {
-            if self.is_at_binding("for") {
-                self.bump();
-                self.for_clause(&mut binds, depth)?;
-            } else if self.is_at_binding("let") {
-                self.bump();
-                self.let_clause(&mut binds, depth)?;
-            } else {
-                return Ok(binds);
-            }
+    fn clauses(&mut self, depth: usize) -> Result<BindList, ParseEnd>
+        ensures { Reads (λ binds. (binds, self.new)) result (spec.clauses (spec.single depth) self.old) }
+    {
+        let Some(first) = self.clause_word() else {
+            return Err(ParseEnd::XPST0003);
+        };
+        let mut binds = self.clause(first, depth)?;
+        'clauses: while let Some(next) = self.clause_word() {
+            binds.append(self.clause(next, depth)?)?;
         }
+        Ok(binds)
     }
 
     /// `[where Single]`
     #[cycle(rows)]
-    fn condition(&mut self, depth: usize) -> Result<Option<Boxed<Expr>>, ParseEnd> {
-        if !self.takes_word("where") {
+    fn filter(&mut self, depth: usize) -> Result<Option<Boxed<Expr>>, ParseEnd>
+        ensures { Reads (λ filter. (filter, self.new)) result (spec.filter (spec.single depth) self.old) }
+    {
+        if !self.takes(word("where", self.left())) {
             return Ok(None);
         }
         let filter = self.single(depth)?;
-        Ok(Some(Boxed::new(self.alloc, filter)?))
-    }
-
-    /// `[ascending | descending]`, and whether it was `descending`.
-    fn is_descending(&mut self) -> bool {
-        if self.takes_word("descending") {
-            return true;
-        }
-        self.takes_word("ascending");
-        false
+        Ok(Some(Boxed::new(self.alloc(), filter)?))
     }
 
     /// `Single [ascending | descending]`
     #[cycle(rows)]
-    fn sort_key(&mut self, depth: usize) -> Result<SortKey, ParseEnd> {
+    fn sort_key(&mut self, depth: usize) -> Result<SortKey, ParseEnd>
+        ensures { Reads (λ key. (key, self.new)) result (spec.sort_key (spec.single depth) self.old) }
+    {
         let expr = self.single(depth)?;
-        Ok(SortKey {
-            expr,
-            descending: self.is_descending(),
-        })
+        let descending = self.direction();
+        Ok(SortKey { expr, descending })
     }
 
-    /// `[order by Key (, Key)*]`
+    /// `Key (, Key)*`
     #[cycle(rows)]
-    fn sort_keys(&mut self, depth: usize) -> Result<SortKeyList, ParseEnd> {
-        let mut keys = SortKeyList::new(self.alloc);
-        if !self.takes_word("order") {
-            return Ok(keys);
-        }
-        self.expect_word("by")?;
+    fn sort_keys(&mut self, depth: usize) -> Result<SortKeyList, ParseEnd>
+        ensures { Reads (λ keys. (keys, self.new)) result (spec.sort_keys (spec.single depth) self.old) }
+    {
+        let mut keys = SortKeyList::new(self.alloc());
         keys.push(self.sort_key(depth)?)?;
-        'keys: while self.takes(Symbol::Comma) {
+        'keys: while self.takes(comma(self.left())) {
             keys.push(self.sort_key(depth)?)?;
         }
         Ok(keys)
     }
 
+    /// `[order by Key (, Key)*]`
+    #[cycle(rows)]
+    fn order(&mut self, depth: usize) -> Result<SortKeyList, ParseEnd>
+        ensures { Reads (λ keys. (keys, self.new)) result (spec.order (spec.single depth) self.old) }
+    {
+        if !self.takes(two_words("order", "by", self.left())) {
+            return Ok(SortKeyList::new(self.alloc()));
+        }
+        self.sort_keys(depth)
+    }
+
     /// `(For | Let)+ [where Single] [order by Key (, Key)*] return Single`
     #[cycle(rows)]
-    fn flwor(&mut self, depth: usize) -> Result<Expr, ParseEnd> {
-        let binds = self.bindings(depth)?;
-        let filter = self.condition(depth)?;
-        let keys = self.sort_keys(depth)?;
-        self.expect_word("return")?;
+    fn flwor(&mut self, depth: usize) -> Result<Expr, ParseEnd>
+        ensures { Reads (λ e. (e, self.new)) result (spec.flwor (spec.single depth) self.old) }
+    {
+        let binds = self.clauses(depth)?;
+        let filter = self.filter(depth)?;
+        let keys = self.order(depth)?;
+        self.expect(word("return", self.left()))?;
         let result = self.single(depth)?;
         Ok(Expr::Flwor {
             binds,
             filter,
             keys,
-            result: Boxed::new(self.alloc, result)?,
+            result: Boxed::new(self.alloc(), result)?,
         })
     }
 
-    /// `if ( Expr ) then Single else Single`
+    /// `Expr ) then Single else Single`, behind `if (`.
     #[cycle(rows)]
-    fn conditional(&mut self, depth: usize) -> Result<Expr, ParseEnd> {
-        self.expect_word("if")?;
-        self.expect(Symbol::OpenRound)?;
+    fn conditional(&mut self, depth: usize) -> Result<Expr, ParseEnd>
+        ensures { Reads (λ e. (e, self.new)) result (spec.an_if (spec.single depth) self.old) }
+    {
         let test = self.expr(depth)?;
-        self.expect(Symbol::CloseRound)?;
-        self.expect_word("then")?;
+        self.expect(close_round(self.left()))?;
+        self.expect(word("then", self.left()))?;
         let yes = self.single(depth)?;
-        self.expect_word("else")?;
+        self.expect(word("else", self.left()))?;
         let no = self.single(depth)?;
         Ok(Expr::If {
-            test: Boxed::new(self.alloc, test)?,
-            yes: Boxed::new(self.alloc, yes)?,
-            no: Boxed::new(self.alloc, no)?,
+            test: Boxed::new(self.alloc(), test)?,
+            yes: Boxed::new(self.alloc(), yes)?,
+            no: Boxed::new(self.alloc(), no)?,
         })
     }
 }
