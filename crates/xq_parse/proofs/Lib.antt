@@ -1,6 +1,12 @@
-pub mod Nesting
 pub mod Answered
 pub mod Behind
+pub mod Complete
+pub mod Follow
 pub mod Fronts
 pub mod Fuel
+pub mod Nesting
+pub mod Singles
+pub mod Sound
 pub mod Steps
+pub mod Taken
+pub mod Turns

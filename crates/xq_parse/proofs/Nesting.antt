@@ -146,13 +146,13 @@ dollar : {ts : List Token} → Balanced ts → Balanced (Mark Dollar ∷ ts)
 dollar a = plain (Mark Dollar) (λ n. refl) a
 
 round : {ts us : List Token} → Balanced ts → Balanced us → Balanced (Mark OpenRound ∷ (ts ++ Mark CloseRound ∷ us))
-round a b = brackets (Mark OpenRound) (Mark CloseRound) (λ n. refl) (λ n. refl) a b
+round a b = brackets (Mark OpenRound) (Mark CloseRound) (λ n. refl) (λ n. omega arith) a b
 
 square : {ts us : List Token} → Balanced ts → Balanced us → Balanced (Mark OpenSquare ∷ (ts ++ Mark CloseSquare ∷ us))
-square a b = brackets (Mark OpenSquare) (Mark CloseSquare) (λ n. refl) (λ n. refl) a b
+square a b = brackets (Mark OpenSquare) (Mark CloseSquare) (λ n. refl) (λ n. omega arith) a b
 
 curly : {ts us : List Token} → Balanced ts → Balanced us → Balanced (Mark OpenCurly ∷ (ts ++ Mark CloseCurly ∷ us))
-curly a b = brackets (Mark OpenCurly) (Mark CloseCurly) (λ n. refl) (λ n. refl) a b
+curly a b = brackets (Mark OpenCurly) (Mark CloseCurly) (λ n. refl) (λ n. omega arith) a b
 
 -- what stands in brackets is less deep than the whole
 pub nest-inside : (o c : Token) (ts us : List Token) → ((n : ℕ) → open_behind n o ≡ suc n) → Balanced ts → suc (nest ts) ≤ nest (o ∷ (ts ++ c ∷ us))
@@ -295,7 +295,7 @@ mutual
   product_parts_balanced grammar.IsProductParts.no_product = none
   product_parts_balanced (grammar.IsProductParts.times p q) = plain (Mark Star) (λ n. refl) (both (union_balanced p) (product_parts_balanced q))
   product_parts_balanced (grammar.IsProductParts.idiv p q) = word (both (union_balanced p) (product_parts_balanced q))
-  product_parts_balanced (grammar.IsProductParts.mod p q) = word (both (union_balanced p) (product_parts_balanced q))
+  product_parts_balanced (grammar.IsProductParts.mod_ p q) = word (both (union_balanced p) (product_parts_balanced q))
 
   union_balanced : {ts : List Token} {e : Expr} → IsUnion ts e → Balanced ts
   union_balanced (grammar.IsUnion.union p q) = both (signed_balanced p) (unions_balanced q)
