@@ -3,3 +3,4 @@ pub mod Reads
 pub mod Spellings
 pub mod Pieces
 pub mod Passes
+pub mod Operands
