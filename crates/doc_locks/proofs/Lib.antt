@@ -1,3 +1,4 @@
 pub mod Entries
 pub mod Leasts
 pub mod Grants
+pub mod Sorting

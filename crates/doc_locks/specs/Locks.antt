@@ -1,5 +1,5 @@
 -- When locks conflict, what is granted and what a refusal names.
-use Rattle.std.specs.Prelude.{◌≡◌, ℕ, ◌≤◌, Bool, true, false, not, ◌&&◌, ◌==◌, List, [], ◌∷◌, Option, Some, None, unwrap_or, All, IsSomeAnd, slice_get, take}
+use Rattle.std.specs.Prelude.{◌≡◌, ℕ, ◌≤◌, Bool, true, false, not, ◌&&◌, ◌==◌, List, [], ◌∷◌, Option, Some, None, unwrap_or, All, IsSomeAnd, slice_get, take, map}
 use Rattle.std.specs.FinMap as fin
 use Rattle.xq_ast.specs.declared.need.LockMode.{LockMode}
 use Rattle.xq_ast.specs.Modes.{conflicts, stronger}
@@ -39,6 +39,13 @@ with_need names need = fin.insert names need.name (stronger need.mode (fin.get n
 abbrev pub with_needs : List Need → Names → Names
 with_needs [] names = names
 with_needs (need ∷ needs) names = with_needs needs (with_need names need)
+
+-- names with their modes as a list of needs, in byte order
+abbrev pub need_of : List ℕ × LockMode → Need
+need_of e = record { name = e.0; mode = e.1 }
+
+abbrev pub needs_of : Names → List Need
+needs_of names = map need_of (fin.entries names)
 
 -- the table once needs are granted to a session: what the others hold stays
 abbrev pub granted : Locks → ℕ → List Need → Locks

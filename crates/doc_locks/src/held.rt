@@ -1,17 +1,17 @@
-//! The names that one session holds, with their modes.
-ghost use Rattle.std.specs.Prelude.{◌≡◌, ◌+◌, ◌≤◌, OnOk, OnErr, length};
+//! Names with modes: those that one session holds, and those that a call needs.
+ghost use Rattle.std.specs.Prelude.{◌≡◌, ◌+◌, ◌≤◌, IfOk, OnOk, OnErr, length};
 ghost use Rattle.std.specs.FinMap as map;
 ghost use Rattle.indexmap.specs.IndexMap.{spare};
 ghost use Rattle.doc_locks.specs.Names.{names_of_entries};
-ghost use Rattle.doc_locks.specs.Locks.{with_need, with_needs};
+ghost use Rattle.doc_locks.specs.Locks.{with_need, with_needs, needs_of};
 
 use crate::conflict::stronger_mode;
 use indexmap::IndexMap;
 use std::alloc::Global;
 use std::marker::Model;
-use xq_ast::{LockMode, Need, NeedList, NoMemory, Str};
+use xq_ast::{LockMode, Need, NeedList, NoMemory, Sequence, Str};
 
-/// Names with the modes in which a session holds them, in the order in which they were first granted.
+/// Names, each once with a mode, in the order in which they were first added.
 #[derive(Drop)]
 pub struct HeldNames {
     modes: IndexMap<String, LockMode>,
@@ -28,6 +28,7 @@ impl Model for HeldNames {
 }
 
 impl HeldNames {
+    /// No names. Takes no memory.
     pub fn new(alloc: Global) -> HeldNames
         ensures { result ≡ map.empty }
     {
@@ -52,6 +53,22 @@ impl HeldNames {
         self.modes.reserve(needs.len())?;
         put_all(&mut self.modes, needs);
         Ok(())
+    }
+
+    /// The names in the order of their bytes, each with its mode.
+    pub fn into_needs(self, alloc: Global) -> Result<NeedList, NoMemory>
+        ensures { IfOk result (λ all. all ≡ needs_of self) }
+    {
+        let HeldNames { mut modes } = self;
+        modes.sort_keys()?;
+        let mut needs = Sequence::new(alloc);
+        for (name, mode) in &modes {
+            needs.push(Need {
+                name: Str::of(alloc, name.as_str())?,
+                mode: *mode,
+            })?;
+        }
+        Ok(needs)
     }
 }
 

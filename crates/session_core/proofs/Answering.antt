@@ -4,7 +4,7 @@ use Rattle.std.specs.Prelude.{if◌then◌else◌, nat_lt, length}
 use Rattle.std.specs.FinMap as forests
 use mathlib.Core.Logic.{inl, inr}
 use Rattle.xq_ast.specs.declared.call.Call.{Call}
-use Rattle.xq_ast.specs.declared.call.Call.TheVariants.{Begin, BeginRead, Commit, Rollback, Checkpoint, ShowDocuments, Create, Drop, Load, Export}
+use Rattle.xq_ast.specs.declared.call.Call.TheVariants.{Begin, BeginRead, Commit, Rollback, Checkpoint, ShowDocuments, Create, Drop, Load, Export, Update, Query}
 use Rattle.xq_ast.specs.declared.code.Code.{Code}
 use Rattle.xq_ast.specs.declared.code.Code.TheVariants as codes
 use Rattle.xq_ast.specs.declared.code.SpentKind.TheVariants as spent
@@ -105,6 +105,7 @@ abbrev tells_code : Code → Bool
 tells_code codes.Exists = true
 tells_code codes.FODC0002 = true
 tells_code codes.ReplyTooLong = true
+tells_code codes.NotBuilt = true
 tells_code (codes.Pyx why line) = true
 tells_code _ = false
 
@@ -138,11 +139,13 @@ stmt_tells F BeginRead = refl
 stmt_tells F Commit = refl
 stmt_tells F Rollback = refl
 stmt_tells F Checkpoint = refl
-stmt_tells F ShowDocuments = lines_tell _
+stmt_tells F ShowDocuments = refl
 stmt_tells F (Create name) = added_tells (forests.get F name) name (Ok (record { kids = [] })) F
 stmt_tells F (Drop name) = dropped_tells (forests.get F name) name F
 stmt_tells F (Load name pyx_lines) = added_tells (forests.get F name) name (read pyx_lines) F
 stmt_tells F (Export name) = exported_tells (forests.get F name)
+stmt_tells F (Update what) = refl
+stmt_tells F (Query expr) = refl
 
 -- and such an answer the documents may tell
 tells_told : (answer : Says) → tells answer ≡ true → is_told answer ≡ true
@@ -154,6 +157,7 @@ tells_told (says.Error code) is = by_code code is
     by_code codes.Exists is = refl
     by_code codes.FODC0002 is = refl
     by_code codes.ReplyTooLong is = refl
+    by_code codes.NotBuilt is = refl
     by_code (codes.Pyx why line) is = refl
     by_code code is = absurd (true≢false (sym is))
 tells_told answer is = absurd (true≢false (sym is))
@@ -251,6 +255,8 @@ refused_needs (Create name) code is = cc
 refused_needs (Drop name) code is = cc
 refused_needs (Load name pyx_lines) code is = cc
 refused_needs (Export name) code is = cc
+refused_needs (Update what) code is = cc
+refused_needs (Query expr) code is = cc
 refused_needs call code is = refl
 
 by_table : (x : State) (call : Call) (code : Code) → refused_in x (work_of call) ≡ Some code → IsBehindSettling x (Some call) (says.Error code)
@@ -265,6 +271,8 @@ passing (Create name) answer statement is = is
 passing (Drop name) answer statement is = is
 passing (Load name pyx_lines) answer statement is = is
 passing (Export name) answer statement is = is
+passing (Update what) answer statement is = is
+passing (Query expr) answer statement is = is
 passing call answer statement is = absurd (true≢false (sym statement))
 
 passes_table : (call : Call) (answer : Says) (refusal : Option Code) → refusal ≡ None → is_statement call ≡ true → answers_statement answer ≡ true

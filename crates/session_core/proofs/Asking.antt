@@ -2,7 +2,7 @@
 use Rattle.std.proofs.Common.{◌≡◌, ℕ, zero, suc, ◌≤◌, ◌<◌, ◌==◌, Bool, true, false, not, ◌&&◌, true≢false, List, [], ◌∷◌, ◌++◌, length, take, slice_get, All, Option, None, Some, IsSomeAnd, IfSome, refl, sym, ap, subst, ◌∙◌, arith}
 use Rattle.std.proofs.lemmas.Bool.{eq-eqb, ne_eqb}
 use Rattle.xq_ast.specs.declared.call.Call.{Call}
-use Rattle.xq_ast.specs.declared.call.Call.TheVariants.{Create, Drop, Load, Export}
+use Rattle.xq_ast.specs.declared.call.Call.TheVariants.{Create, Drop, Load, Export, Update, Query}
 use Rattle.xq_ast.specs.declared.need.LockMode.{LockMode}
 use Rattle.xq_ast.specs.declared.need.LockMode.TheVariants.{S, X}
 use Rattle.xq_ast.specs.declared.need.Need.{Need}
@@ -43,6 +43,8 @@ some_passes (Create name) asked are some = refl
 some_passes (Drop name) asked are some = refl
 some_passes (Load name pyx_lines) asked are some = refl
 some_passes (Export name) asked are some = refl
+some_passes (Update what) asked are some = refl
+some_passes (Query expr) asked are some = refl
 some_passes call asked are some = absurd (some (sym are))
 
 not_empty : (front : List Need) (n : Need) (behind asked : List Need) → asked ≡ front ++ n ∷ behind → asked ≡ [] → ⊥

@@ -6,7 +6,7 @@
 -- number is at its last value in `Settling`. Want of memory may stand for any answer.
 use Rattle.std.specs.Prelude.{◌≡◌, Bool, true, false, not, ◌||◌, IsTrue, List, Option, Some, None, ◌⊎◌}
 use Rattle.xq_ast.specs.declared.call.Call.{Call}
-use Rattle.xq_ast.specs.declared.call.Call.TheVariants.{Begin, BeginRead, Commit, Rollback, Checkpoint, ShowDocuments, Create, Drop, Load, Export}
+use Rattle.xq_ast.specs.declared.call.Call.TheVariants.{Begin, BeginRead, Commit, Rollback, Checkpoint, ShowDocuments, Create, Drop, Load, Export, Update, Query}
 use Rattle.xq_ast.specs.declared.code.Code.{Code}
 use Rattle.xq_ast.specs.declared.code.Code.TheVariants as codes
 use Rattle.session_core.specs.declared.event.State.{State}
@@ -38,6 +38,8 @@ work_of (Create name) = changes
 work_of (Drop name) = changes
 work_of (Load name pyx) = changes
 work_of (Export name) = reads
+work_of (Update what) = changes
+work_of (Query expr) = reads
 
 abbrev pub in_idle : Work → Option Code
 in_idle begins = None

@@ -5,7 +5,7 @@
 -- that is closed then (`ClosesForStore`), since the next event of the session closes it.
 use Rattle.std.specs.Prelude.{◌≡◌, ℕ, ◌+◌, ◌-◌, ◌^◌, ◌≤◌, ◌<◌, ◌==◌, Bool, true, false, IsTrue, List, [], ◌∷◌, Option, Some, None, ◌⊎◌}
 use Rattle.xq_ast.specs.declared.call.Call.{Call}
-use Rattle.xq_ast.specs.declared.call.Call.TheVariants.{Begin, BeginRead, Commit, Rollback, Checkpoint, ShowDocuments, Create, Drop, Load, Export}
+use Rattle.xq_ast.specs.declared.call.Call.TheVariants.{Begin, BeginRead, Commit, Rollback, Checkpoint, ShowDocuments, Create, Drop, Load, Export, Update, Query}
 use Rattle.xq_ast.specs.declared.code.SpentKind.{SpentKind}
 use Rattle.xq_ast.specs.declared.code.SpentKind.TheVariants as spent
 use Rattle.xq_ast.specs.declared.code.Code.TheVariants as codes
@@ -70,6 +70,7 @@ commits_in _ _ = false
 abbrev pub makes_pages : Call → Bool
 makes_pages (Create name) = true
 makes_pages (Load name pyx) = true
+makes_pages (Update what) = true
 makes_pages Begin = false
 makes_pages BeginRead = false
 makes_pages Commit = false
@@ -78,6 +79,7 @@ makes_pages Checkpoint = false
 makes_pages ShowDocuments = false
 makes_pages (Drop name) = false
 makes_pages (Export name) = false
+makes_pages (Query expr) = false
 
 abbrev pub makes_pages_in : State → Option Call → Bool
 makes_pages_in Updating (Some call) = makes_pages call

@@ -2,7 +2,7 @@
 use Rattle.std.proofs.Common.{◌≡◌, ℕ, Bool, true, false, not, true≢false, List, [], ◌∷◌, Option, None, Some, IsTrue, refl, sym, ap, subst, ◌∙◌, arith}
 use Rattle.std.specs.Prelude.{if◌then◌else◌}
 use Rattle.xq_ast.specs.declared.call.Call.{Call}
-use Rattle.xq_ast.specs.declared.call.Call.TheVariants.{Begin, BeginRead, Commit, Rollback, Checkpoint, ShowDocuments, Create, Drop, Load, Export}
+use Rattle.xq_ast.specs.declared.call.Call.TheVariants.{Begin, BeginRead, Commit, Rollback, Checkpoint, ShowDocuments, Create, Drop, Load, Export, Update, Query}
 use Rattle.xq_ast.specs.declared.code.Code.{Code}
 use Rattle.xq_ast.specs.declared.need.Need.{Need}
 use Rattle.xml_model.specs.Forest.{Forest}
@@ -73,6 +73,8 @@ statement_open Idle (Create name) certain statement passes = cc
 statement_open Idle (Drop name) certain statement passes = cc
 statement_open Idle (Load name lines) certain statement passes = cc
 statement_open Idle (Export name) certain statement passes = cc
+statement_open Idle (Update what) certain statement passes = cc
+statement_open Idle (Query expr) certain statement passes = cc
 statement_open Idle call certain statement passes = absurd (true≢false (sym statement))
 statement_open Updating call certain statement passes = refl
 statement_open (Reading n) call certain statement passes = refl
@@ -91,6 +93,8 @@ statement_of (Create name) a b c d e = refl
 statement_of (Drop name) a b c d e = refl
 statement_of (Load name lines) a b c d e = refl
 statement_of (Export name) a b c d e = refl
+statement_of (Update what) a b c d e = refl
+statement_of (Query expr) a b c d e = refl
 
 -- a session with an open transaction that is not an updating one reads
 pub open_reading : (x : State) → IsTrue (is_open x) → (x ≡ Updating → ⊥) → IsTrue (is_reading x)

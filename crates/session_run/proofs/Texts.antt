@@ -5,7 +5,8 @@ use Rattle.xq_ast.specs.declared.call.Call.{Call}
 use Rattle.xq_ast.specs.declared.call.CallText.{CallText}
 use Rattle.xq_ast.specs.declared.code.Code.{Code}
 use Rattle.xq_ast.specs.declared.code.Code.TheVariants as codes
-use Rattle.xq_ast.specs.Parsed.{Parsed, has_good_names, read, a_call}
+use Rattle.xq_ast.specs.Parsed.{Parsed, read, a_call}
+use Rattle.xq_ast.specs.GoodNames.{has_good_names}
 use Rattle.xq_ast.specs.Readings.{parsed}
 use Rattle.xq_ast.proofs.Readings.{parsed_holds}
 use Rattle.xq_parse.specs.Answers.{code_of}

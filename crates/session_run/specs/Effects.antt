@@ -4,7 +4,7 @@ use Rattle.std.specs.FinMap as map
 use Rattle.xq_ast.specs.declared.call.Call.{Call}
 use Rattle.xml_model.specs.declared.node.Doc.{Doc}
 use Rattle.xml_model.specs.declared.node.RefusedLine.{RefusedLine}
-use Rattle.xq_ast.specs.Parsed.{is_document_name}
+use Rattle.xq_ast.specs.Names.{is_document_name}
 use Rattle.xml_model.specs.Document.{IsValid}
 use Rattle.xml_model.specs.Forest.{Forest}
 use Rattle.xml_model.specs.Needs.{needs, AgreeAt}

@@ -13,7 +13,7 @@ ghost use Rattle.session_run.specs.Called.{AddsClosing, ClosesRead, LeavesRead};
 ghost use Rattle.session_run.specs.Outcomes.{EndsWith};
 ghost use Rattle.session_run.specs.Calls.{HasPlainLines};
 ghost use Rattle.session_run.specs.Effects.{IsEffect, IsValidChange};
-ghost use Rattle.xq_ast.specs.Parsed.{has_good_names};
+ghost use Rattle.xq_ast.specs.GoodNames.{has_good_names};
 ghost use Rattle.session_run.specs.Tied.{IsTied, IsReady};
 
 use crate::answering::{answer, answer_unchanged};

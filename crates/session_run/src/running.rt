@@ -1,6 +1,6 @@
 //! A call, by its text and its session's state.
 ghost use Rattle.std.specs.Prelude.{◌≡◌, ◌≢◌, None, IsTrue, IfOk, OnOk, OnErr};
-ghost use Rattle.xq_ast.specs.Parsed.{has_good_names};
+ghost use Rattle.xq_ast.specs.GoodNames.{has_good_names};
 ghost use Rattle.session_core.specs.Kept.{past};
 ghost use Rattle.session_core.specs.Refusals.{refused_in, work_of};
 ghost use Rattle.session_core.specs.declared.event.State.TheVariants as states;

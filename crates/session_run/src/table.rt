@@ -16,7 +16,9 @@ fn refusal_in_idle(call: &Call) -> Option<Code>
         | Call::Create { .. }
         | Call::Drop { .. }
         | Call::Load { .. }
-        | Call::Export { .. } => Some(Code::NoTransaction),
+        | Call::Export { .. }
+        | Call::Update { .. }
+        | Call::Query { .. } => Some(Code::NoTransaction),
     }
 }
 
@@ -31,7 +33,9 @@ fn refusal_in_updating(call: &Call) -> Option<Code>
         | Call::Create { .. }
         | Call::Drop { .. }
         | Call::Load { .. }
-        | Call::Export { .. } => None,
+        | Call::Export { .. }
+        | Call::Update { .. }
+        | Call::Query { .. } => None,
     }
 }
 
@@ -40,8 +44,14 @@ fn refusal_in_reading(call: &Call, number: u64) -> Option<Code>
 {
     match call {
         Call::Begin | Call::BeginRead | Call::Checkpoint => Some(Code::InTransaction),
-        Call::Create { .. } | Call::Drop { .. } | Call::Load { .. } => Some(Code::ReadOnly),
-        Call::Commit | Call::Rollback | Call::ShowDocuments | Call::Export { .. } => None,
+        Call::Create { .. } | Call::Drop { .. } | Call::Load { .. } | Call::Update { .. } => {
+            Some(Code::ReadOnly)
+        }
+        Call::Commit
+        | Call::Rollback
+        | Call::ShowDocuments
+        | Call::Export { .. }
+        | Call::Query { .. } => None,
     }
 }
 

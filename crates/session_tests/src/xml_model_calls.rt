@@ -11,7 +11,7 @@ use xml_model::{
     Attr, AttrList, Doc, DocChanges, DocMap, Measure, Node, NodeList, Place, PlaceStep, first_line,
     needs, place_order,
 };
-use xq_ast::{Call, Items, LockMode, NoMemory, Sequence, Str, is_document_name};
+use xq_ast::{Call, Expr, Items, LockMode, NoMemory, Sequence, Str, Update, is_document_name};
 
 fn attribute(alloc: Global, name: &str, value: &str) -> Result<Attr, NoMemory> {
     Ok(Attr {
@@ -185,6 +185,53 @@ fn calls_need_locks_on_their_names(rt: HostRuntime) -> Result<(), Fail> {
         let mode = all.as_slice().first().map(|need| need.mode);
         assert_eq!(rt; mode, want);
     }
+    Ok(())
+}
+
+fn doc(alloc: Global, name: &str) -> Result<Expr, NoMemory> {
+    Ok(Expr::Doc {
+        name: Str::of(alloc, name)?,
+    })
+}
+
+/// The names of the needs, each with `S` or `X` behind it.
+fn spelled(alloc: Global, call: &Call) -> Result<String, Fail> {
+    let mut text = String::new(alloc);
+    for need in needs(alloc, call)?.as_slice() {
+        text.push_str(need.name.as_str())?;
+        text.push_str(match need.mode {
+            LockMode::S => " S ",
+            LockMode::X => " X ",
+        })?;
+    }
+    Ok(text)
+}
+
+#[test]
+fn needs_are_in_byte_order_each_once(rt: HostRuntime) -> Result<(), Fail> {
+    let alloc = rt.alloc();
+    let parts = vec![in alloc; doc(alloc, "c")?, doc(alloc, "a")?, doc(alloc, "c")?]?;
+    let query = Call::Query {
+        expr: Expr::Seq {
+            parts: Items::from_vec(parts),
+        },
+    };
+    assert_eq!(rt; spelled(alloc, &query)?.as_str(), "a S c S ");
+    let insert = Call::Update {
+        what: Update::Into {
+            source: doc(alloc, "b")?,
+            target: doc(alloc, "a")?,
+        },
+    };
+    assert_eq!(rt; spelled(alloc, &insert)?.as_str(), "a X b S ");
+    let replace = Call::Update {
+        what: Update::Replace {
+            name: Str::of(alloc, "v")?,
+            target: doc(alloc, "d")?,
+            by: doc(alloc, "d")?,
+        },
+    };
+    assert_eq!(rt; spelled(alloc, &replace)?.as_str(), "d X ");
     Ok(())
 }
 

@@ -246,7 +246,7 @@ fn calls_are_copied(rt: HostRuntime) -> Result<(), Fail> {
     let CallText { text: name, pyx } = text.copy()?;
     assert_eq!(rt; name.as_str(), "LOAD 'd'");
     let load = Call::Load { name, pyx };
-    assert_eq!(rt; matches!(load.copy()?, Call::Load { .. }), true);
+    assert_eq!(rt; matches!(load.copy(alloc)?, Call::Load { .. }), true);
     Ok(())
 }
 

@@ -18,6 +18,8 @@ fn row(call: &Call) -> &'static str {
         Call::Drop { .. } => "DROP DOCUMENT",
         Call::Load { .. } => "LOAD",
         Call::Export { .. } => "EXPORT",
+        Call::Update { .. } => "UPDATE",
+        Call::Query { .. } => "query",
     }
 }
 

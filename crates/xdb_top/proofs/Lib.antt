@@ -6,6 +6,7 @@ pub mod Whole
 pub mod Seats
 pub mod Playing
 pub mod Starting
+pub mod Needed
 pub mod Printed
 pub mod Places
 pub mod Verdicts

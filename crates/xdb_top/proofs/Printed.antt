@@ -3,11 +3,12 @@
 use Rattle.std.proofs.Common.{◌≡◌, ℕ, true, true≢false, IsTrue, List, [], ◌∷◌, ◌++◌, reverse, Option, None, Some, Result, Ok, Err, sym, subst}
 use Rattle.std.proofs.lemmas.List.{reverse-append, reverse-reverse}
 use Rattle.xq_ast.specs.declared.call.Call.{Call}
-use Rattle.xq_ast.specs.declared.call.Call.TheVariants.{Begin, BeginRead, Commit, Rollback, Checkpoint, ShowDocuments, Create, Drop, Load, Export}
+use Rattle.xq_ast.specs.declared.call.Call.TheVariants.{Begin, BeginRead, Commit, Rollback, Checkpoint, ShowDocuments, Create, Drop, Load, Export, Update, Query}
 use Rattle.xq_ast.specs.declared.call.CallText.{CallText}
 use Rattle.xq_ast.specs.declared.code.Code.{Code}
 use Rattle.xq_ast.specs.declared.need.Need.{Need}
-use Rattle.xq_ast.specs.Parsed.{Parsed, has_good_names}
+use Rattle.xq_ast.specs.Parsed.{Parsed}
+use Rattle.xq_ast.specs.GoodNames.{has_good_names}
 use Rattle.xml_model.specs.Needs.{needs}
 use Rattle.xml_model.specs.Pyx.{Line, IsPlain}
 use Rattle.session_core.specs.declared.event.Says.{Says}
@@ -24,13 +25,10 @@ use Rattle.session_run.proofs.Outcomes.{order_answers}
 use Rattle.session_run.proofs.Plain.{plain_name}
 use Rattle.session_run.proofs.Texts.{good_names}
 use Rattle.script_text.specs.JournalText.{AreLines, HaveNames, IsAnswer, IsPrinted, ArePrinted}
+use Rattle.xdb_top.proofs.Needed.{each-append, HavePlainNames, query_plain, update_plain}
 use Rattle.xdb_top.specs.Typed.{Each, AreTexts, HaveTexts, IsTypedAnswer, IsTyped, AreTyped}
 
 -- ---- a fact of each
-
-each-append : {A : Type 0} (Fact : A → Type 0) (xs ys : List A) → Each Fact xs → Each Fact ys → Each Fact (xs ++ ys)
-each-append Fact [] ys each more = more
-each-append Fact (x ∷ xs) ys each more = (each.0, each-append Fact xs ys each.1 more)
 
 each-reverse : {A : Type 0} (Fact : A → Type 0) (xs : List A) → Each Fact xs → Each Fact (reverse xs)
 each-reverse Fact [] each = each
@@ -42,9 +40,6 @@ each_at Fact [] behind x each = each.0
 each_at Fact (y ∷ before) behind x each = each_at Fact before behind x each.1
 
 -- ---- names and lines
-
-abbrev HavePlainNames : List Need → Type 0
-HavePlainNames asked = Each (λ (n : Need). IsPlain n.name) asked
 
 have_names : (asked : List Need) → HaveTexts asked → HavePlainNames asked → HaveNames asked
 have_names [] texts plain = tt
@@ -65,6 +60,8 @@ plain_needs (Create name) good = (plain_name name good, tt)
 plain_needs (Drop name) good = (plain_name name good, tt)
 plain_needs (Load name pyx) good = (plain_name name good, tt)
 plain_needs (Export name) good = (plain_name name good, tt)
+plain_needs (Update what) good = update_plain what good
+plain_needs (Query expr) good = query_plain expr good
 
 -- locks are granted for names of a call that was read
 granted_plain : (o : Option CallText) (asked : List Need) → IsSomeText o (NeedsThese asked) → HavePlainNames asked

@@ -2,7 +2,7 @@
 -- that exclude one another.
 use Rattle.std.proofs.Common.{◌≡◌, ◌⊎◌, inl, inr, ℕ, ◌+◌, ◌-◌, ◌<◌, true, false, true≢false, IsTrue, List, [], ◌∷◌, ◌++◌, length, Option, None, Some, refl, sym, ap, subst, ◌∙◌, arith}
 use Rattle.xq_ast.specs.declared.call.Call.{Call}
-use Rattle.xq_ast.specs.declared.call.Call.TheVariants.{Begin, BeginRead, Commit, Rollback, Checkpoint, ShowDocuments, Create, Drop, Load, Export}
+use Rattle.xq_ast.specs.declared.call.Call.TheVariants.{Begin, BeginRead, Commit, Rollback, Checkpoint, ShowDocuments, Create, Drop, Load, Export, Update, Query}
 use Rattle.xq_ast.specs.declared.code.Code.{Code}
 use Rattle.xq_ast.specs.declared.code.Code.TheVariants as codes
 use Rattle.xq_ast.specs.declared.code.SpentKind.TheVariants as spent
@@ -146,6 +146,8 @@ module _ (B : Base) (s : ℕ) (past : List Event) where
   needing (Drop name) e some is = is
   needing (Load name pyx) e some is = is
   needing (Export name) e some is = is
+  needing (Update what) e some is = is
+  needing (Query expr) e some is = is
 
   running : (call : Call) (e : Event) → IsTrue (is_statement call) → refused_in Updating (work_of call) ≡ None → Runs B s call e past
       → IsTold B s past call Updating e
@@ -159,6 +161,8 @@ module _ (B : Base) (s : ℕ) (past : List Event) where
   running (Drop name) e statement passes is = inr (inr is)
   running (Load name pyx) e statement passes is = inr (inr is)
   running (Export name) e statement passes is = inr (inr is)
+  running (Update what) e statement passes is = inr (inr is)
+  running (Query expr) e statement passes is = inr (inr is)
 
   reading : (call : Call) (n : ℕ) (answer : Says) → IsTrue (is_statement call) → refused_in (Reading n) (work_of call) ≡ None
       → answer ≡ says_of (stmt (after B past (n - B.numbers.commit)) call).says
@@ -173,6 +177,8 @@ module _ (B : Base) (s : ℕ) (past : List Event) where
   reading (Drop name) n answer statement passes is = cc
   reading (Load name pyx) n answer statement passes is = cc
   reading (Export name) n answer statement passes is = ap (answered s (Export name)) is
+  reading (Update what) n answer statement passes is = cc
+  reading (Query expr) n answer statement passes is = ap (answered s (Query expr)) is
 
   by_step : (call : Call) (answer : Says) → AnswersInOrder B.numbers s past (Some call) answer → IsToldBy B s past (Some call) answer
       → is_of_device answer ≡ false → (answer ≡ says.Error codes.NoMemory → ⊥)

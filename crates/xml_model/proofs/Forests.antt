@@ -3,9 +3,10 @@ use Rattle.std.proofs.Common.{◌≡◌, ℕ, true, false, IsTrue, List, [], Opt
 use Rattle.std.specs.FinMap as forests
 use Rattle.std.specs.Str.{bytes_eq}
 use Rattle.std.proofs.lemmas.Slice.Eq.{bytes_eq-Decides}
-use Rattle.xq_ast.specs.Parsed.{is_document_name, has_good_names}
+use Rattle.xq_ast.specs.Names.{is_document_name}
+use Rattle.xq_ast.specs.GoodNames.{has_good_names}
 use Rattle.xq_ast.specs.declared.call.Call.{Call}
-use Rattle.xq_ast.specs.declared.call.Call.TheVariants.{Begin, BeginRead, Commit, Rollback, Checkpoint, ShowDocuments, Create, Drop, Load, Export}
+use Rattle.xq_ast.specs.declared.call.Call.TheVariants.{Begin, BeginRead, Commit, Rollback, Checkpoint, ShowDocuments, Create, Drop, Load, Export, Update, Query}
 use Rattle.xml_model.specs.declared.node.Doc.{Doc}
 use Rattle.xml_model.specs.declared.node.RefusedLine.{RefusedLine}
 use Rattle.xml_model.specs.Document.{IsValid}
@@ -55,3 +56,5 @@ leaves F (Create name) forest named = added_leaves name (forests.get F name) (Ok
 leaves F (Drop name) forest named = dropped_leaves name (forests.get F name) F forest
 leaves F (Load name lines) forest named = added_leaves name (forests.get F name) (read lines) F (read_is_valid lines) named forest
 leaves F (Export name) forest named = forest
+leaves F (Update what) forest named = forest
+leaves F (Query expr) forest named = forest

@@ -8,7 +8,7 @@ use Rattle.std.specs.FinMap as map
 use Rattle.std.specs.Ordering.{nat_cmp}
 use Rattle.std.specs.Cmp.Lexicographic.{slice_cmp}
 use Rattle.indexmap.specs.IndexMap.{IndexMap}
-use Rattle.xq_ast.specs.Parsed.{is_document_name}
+use Rattle.xq_ast.specs.Names.{is_document_name}
 use Rattle.xml_model.specs.declared.node.Doc.{Doc}
 use Rattle.xml_model.specs.contracts.node.Doc as the_doc
 use Rattle.xml_model.specs.Document.{IsValid}

@@ -1,19 +1,43 @@
 -- The locks that a call needs: names of documents in byte order, each once, with the stronger mode. What a call
 -- says and does depends on the documents of these names alone, and it changes those with the mode X alone.
-use Rattle.std.specs.Prelude.{◌≡◌, ℕ, Bool, true, false, ◌&&◌, ◌||◌, List, [], ◌∷◌}
+use Rattle.std.specs.Prelude.{◌≡◌, ℕ, Bool, true, false, ◌&&◌, ◌||◌, List, [], ◌∷◌, ◌++◌, map}
 use Rattle.std.specs.Str.{bytes_eq}
 use Rattle.std.specs.FinMap as forests
 use Rattle.xq_ast.specs.declared.call.Call.{Call}
-use Rattle.xq_ast.specs.declared.call.Call.TheVariants.{Begin, BeginRead, Commit, Rollback, Checkpoint, ShowDocuments, Create, Drop, Load, Export}
+use Rattle.xq_ast.specs.declared.call.Call.TheVariants.{Begin, BeginRead, Commit, Rollback, Checkpoint, ShowDocuments, Create, Drop, Load, Export, Update, Query}
+use Rattle.xq_ast.specs.declared.tree.Expr.{Expr}
+use Rattle.xq_ast.specs.declared.update.Update.{Update as UpdateCall}
+use Rattle.xq_ast.specs.declared.update.Update.TheVariants as update
 use Rattle.xq_ast.specs.declared.need.LockMode.{LockMode}
 use Rattle.xq_ast.specs.declared.need.LockMode.TheVariants.{S, X}
 use Rattle.xq_ast.specs.declared.need.Need.{Need}
 use Rattle.xq_ast.specs.Modes.{is_exclusive}
+use Rattle.doc_locks.specs.Locks.{with_needs, needs_of}
+use Rattle.xq_ast.specs.Documents.{documents}
 use Rattle.xml_model.specs.Forest.{Forest}
 use Rattle.xml_model.specs.Statement.{stmt}
 
 abbrev pub need : List ℕ → LockMode → List Need
 need name mode = record { name = name; mode = mode } ∷ []
+
+-- each document of an expression with this mode
+abbrev pub all_in : LockMode → Expr → List Need
+all_in mode expr = map (λ name. record { name = name; mode = mode }) (documents expr)
+
+-- what an update asks for: X on each document of its target, the expression whose nodes it changes, and S on each
+-- document of its other expression
+abbrev pub asked_by_update : UpdateCall → List Need
+asked_by_update (update.Into source target) = all_in S source ++ all_in X target
+asked_by_update (update.Preceding source target) = all_in S source ++ all_in X target
+asked_by_update (update.Following source target) = all_in S source ++ all_in X target
+asked_by_update (update.Delete target) = all_in X target
+asked_by_update (update.DeleteUndeep target) = all_in X target
+asked_by_update (update.Replace name target by) = all_in X target ++ all_in S by
+asked_by_update (update.Rename target name) = all_in X target
+
+-- the names in byte order, each once, with the stronger of its modes
+abbrev pub each_once : List Need → List Need
+each_once asked = needs_of (with_needs asked forests.empty)
 
 abbrev pub needs : Call → List Need
 needs Begin = []
@@ -26,6 +50,8 @@ needs (Create name) = need name X
 needs (Drop name) = need name X
 needs (Load name pyx_lines) = need name X
 needs (Export name) = need name S
+needs (Update what) = each_once (asked_by_update what)
+needs (Query expr) = each_once (all_in S expr)
 
 -- the name stands in the list with the mode X
 abbrev pub has_exclusive : List ℕ → List Need → Bool

@@ -1,12 +1,12 @@
 -- What a statement says and which forest it leaves. Statements are the calls that read or change documents;
 -- the calls that begin and end transactions and CHECKPOINT are none. Want of memory, faults of a device and the
 -- last numbers are not in it.
-use Rattle.std.specs.Prelude.{ℕ, Bool, true, false, List, [], ◌∷◌, map, length, nat_lt, if◌then◌else◌, Option, Some, None, Result, Ok, Err}
+use Rattle.std.specs.Prelude.{ℕ, Bool, true, false, List, [], length, nat_lt, if◌then◌else◌, Option, Some, None, Result, Ok, Err}
 use Rattle.std.specs.FinMap as forests
 use Rattle.xq_ast.specs.declared.call.Call.{Call}
-use Rattle.xq_ast.specs.declared.call.Call.TheVariants.{Begin, BeginRead, Commit, Rollback, Checkpoint, ShowDocuments, Create, Drop, Load, Export}
+use Rattle.xq_ast.specs.declared.call.Call.TheVariants.{Begin, BeginRead, Commit, Rollback, Checkpoint, ShowDocuments, Create, Drop, Load, Export, Update, Query}
 use Rattle.xq_ast.specs.declared.code.Code.{Code}
-use Rattle.xq_ast.specs.declared.code.Code.TheVariants.{Exists, FODC0002, ReplyTooLong, Pyx}
+use Rattle.xq_ast.specs.declared.code.Code.TheVariants.{Exists, FODC0002, ReplyTooLong, Pyx, NotBuilt}
 use Rattle.xml_model.specs.declared.limits.TheConstants.{REPLY_BYTES_MAX}
 use Rattle.xml_model.specs.declared.node.Doc.{Doc}
 use Rattle.xml_model.specs.declared.node.RefusedLine.{RefusedLine}
@@ -33,6 +33,8 @@ is_statement (Create name) = true
 is_statement (Drop name) = true
 is_statement (Load name pyx_lines) = true
 is_statement (Export name) = true
+is_statement (Update what) = true
+is_statement (Query expr) = true
 
 -- these lines, unless they and their newlines have more bytes than an answer may have
 abbrev pub answer_of : List Line → Answer
@@ -60,15 +62,18 @@ abbrev pub exported : Option Doc → Answer
 exported (Some doc) = answer_of (pyx doc)
 exported None = error FODC0002
 
--- what a call says of a forest, and the forest behind it
+-- what a call says of a forest, and the forest behind it; SHOW DOCUMENTS, updates and queries cannot be
+-- carried out yet
 abbrev pub stmt : Forest → Call → Outcome
 stmt F Begin = unchanged done F
 stmt F BeginRead = unchanged done F
 stmt F Commit = unchanged done F
 stmt F Rollback = unchanged done F
 stmt F Checkpoint = unchanged done F
-stmt F ShowDocuments = unchanged (answer_of (map (λ name. 61 ∷ name) (forests.keys F))) F
+stmt F ShowDocuments = unchanged (error NotBuilt) F
 stmt F (Create name) = added_where_free (forests.get F name) name (Ok (record { kids = [] })) F
 stmt F (Drop name) = dropped (forests.get F name) name F
 stmt F (Load name pyx_lines) = added_where_free (forests.get F name) name (read pyx_lines) F
 stmt F (Export name) = unchanged (exported (forests.get F name)) F
+stmt F (Update what) = unchanged (error NotBuilt) F
+stmt F (Query expr) = unchanged (error NotBuilt) F

@@ -2,7 +2,7 @@
 ghost use Rattle.std.specs.Prelude.{◌≡◌, ◌<◌, IsTrue, IfSome, OnOk, OnErr};
 ghost use Rattle.std.specs.FinMap as map;
 ghost use Rattle.std.specs.Option.{option_copied};
-ghost use Rattle.xq_ast.specs.Parsed.{is_document_name};
+ghost use Rattle.xq_ast.specs.Names.{is_document_name};
 ghost use Rattle.xml_model.specs.Document.{IsValid};
 ghost use Rattle.xml_model.specs.Changes.{AreValidChanges, no_changes, laid_over, unshared};
 

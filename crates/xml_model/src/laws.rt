@@ -2,7 +2,7 @@
 // These functions do nothing. The contract of each is a law, proved over the definitions alone.
 
 ghost use Rattle.std.specs.Prelude.{◌≡◌, ◌↔◌, List, ℕ, IsTrue};
-ghost use Rattle.xq_ast.specs.Parsed.{has_good_names};
+ghost use Rattle.xq_ast.specs.GoodNames.{has_good_names};
 ghost use Rattle.xq_ast.specs.declared.call.Call.{Call};
 ghost use Rattle.xq_ast.specs.declared.call.Call.TheVariants.{ShowDocuments};
 ghost use Rattle.xml_model.specs.declared.node.Doc.{Doc};

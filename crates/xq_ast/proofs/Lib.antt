@@ -4,8 +4,7 @@ pub mod Law
 pub mod Numbers
 pub mod Tables
 pub mod Words
-pub mod Readings
-pub mod ParsedRows
+mod FunctionRows
 pub mod Names
 pub mod Modes
 pub mod TokensAlone

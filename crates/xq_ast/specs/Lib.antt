@@ -2,6 +2,11 @@ pub mod CodeText
 pub mod CodeWords
 pub mod Modes
 pub mod Names
+pub mod Documents
+pub mod Everywhere
+pub mod GoodNames
+pub mod Functions
+pub mod Variables
 pub mod Tokens
 pub mod Grammar
 pub mod Parsed

@@ -1,8 +1,8 @@
--- Names of elements, attributes and instructions, and the characters of names. A byte from 128 on is a part of a
--- character beyond ASCII, so such characters need no case of their own.
+-- Names of elements, attributes and instructions, the characters of names, and names of documents. A byte from 128 on
+-- is a part of a character beyond ASCII, so such characters need no case of their own.
 use Rattle.std.specs.Prelude.{ℕ, Bool, false, not, List, [], ◌∷◌, length, ◌==◌, nat_le, ◌&&◌, ◌||◌}
 use Rattle.std.specs.List.{list_all}
-use Rattle.xq_ast.specs.declared.limits.TheConstants.{NAME_BYTES_MAX}
+use Rattle.xq_ast.specs.declared.limits.TheConstants.{NAME_BYTES_MAX, DOCUMENT_NAME_BYTES_MAX}
 
 abbrev pub is_letter : ℕ → Bool
 is_letter b = (nat_le 65 b && nat_le b 90) || (nat_le 97 b && nat_le b 122)
@@ -32,3 +32,7 @@ begins_part b = begins_name b && not (is_colon b)
 
 abbrev pub continues_part : ℕ → Bool
 continues_part b = continues_name b && not (is_colon b)
+
+-- a name of a document: 1 to 255 bytes, and no character below U+0020
+abbrev pub is_document_name : List ℕ → Bool
+is_document_name name = nat_le 1 (length name) && nat_le (length name) DOCUMENT_NAME_BYTES_MAX && list_all (nat_le 32) name

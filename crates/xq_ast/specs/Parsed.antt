@@ -1,18 +1,20 @@
 -- What a call's text is: the call that it spells, or why it is refused. The refusals are tested in the order of the
--- cases: too long, no tokens, nested too deep, no call, a bad name.
+-- cases: too long, no tokens, nested too deep, no call, a bad name, an unknown function, an unbound variable. The last
+-- three are each a pass over the whole call.
 use Rattle.std.specs.Prelude.{◌≡◌, ℕ, suc, ◌-◌, ◌<◌, ◌≤◌, Bool, true, false, ◌&&◌, ◌||◌, nat_le, bytes_eq, max, count_by, List, [], ◌∷◌, length, None, Some, Result, Ok, Err, codes}
-use Rattle.std.specs.List.{list_all}
-use Rattle.xq_ast.specs.declared.limits.TheConstants.{CALL_BYTES_MAX, BRACKETS_MAX, NESTING_WORDS_MAX, DOCUMENT_NAME_BYTES_MAX}
+use Rattle.xq_ast.specs.declared.limits.TheConstants.{CALL_BYTES_MAX, BRACKETS_MAX, NESTING_WORDS_MAX}
 use Rattle.xq_ast.specs.declared.token.Symbol.TheVariants.{OpenRound, CloseRound, OpenSquare, CloseSquare, OpenCurly, CloseCurly}
 use Rattle.xq_ast.specs.declared.token.Token.{Token}
 use Rattle.xq_ast.specs.declared.token.Token.TheVariants as token
 use Rattle.xq_ast.specs.declared.call.Call.{Call}
-use Rattle.xq_ast.specs.declared.call.Call.TheVariants.{Begin, BeginRead, Commit, Rollback, Checkpoint, ShowDocuments, Create, Drop, Load, Export}
 use Rattle.xq_ast.specs.declared.call.CallText.{CallText}
 use Rattle.xq_ast.specs.declared.code.Code.{Code}
-use Rattle.xq_ast.specs.declared.code.Code.TheVariants.{TooLong, XPST0003, NestedTooDeep, BadName}
+use Rattle.xq_ast.specs.declared.code.Code.TheVariants.{TooLong, XPST0003, NestedTooDeep, BadName, XPST0017, XPST0008}
 use Rattle.xq_ast.specs.Tokens.{tokens}
 use Rattle.xq_ast.specs.Grammar.{IsCall}
+use Rattle.xq_ast.specs.GoodNames.{has_good_names}
+use Rattle.xq_ast.specs.Functions.{has_known_functions}
+use Rattle.xq_ast.specs.Variables.{has_bound_variables}
 
 -- ---- nesting
 
@@ -40,25 +42,6 @@ is_nesting_word _ = false
 abbrev pub is_nested_well : List Token → Bool
 is_nested_well ts = nat_le (most_open 0 ts) BRACKETS_MAX && nat_le (count_by is_nesting_word ts) NESTING_WORDS_MAX
 
--- ---- names of documents
-
--- 1 to 255 bytes, and no character below U+0020
-abbrev pub is_document_name : List ℕ → Bool
-is_document_name name = nat_le 1 (length name) && nat_le (length name) DOCUMENT_NAME_BYTES_MAX && list_all (nat_le 32) name
-
--- the names in a call are names; each row says its own, so that a new one cannot pass unseen
-abbrev pub has_good_names : Call → Bool
-has_good_names Begin = true
-has_good_names BeginRead = true
-has_good_names Commit = true
-has_good_names Rollback = true
-has_good_names Checkpoint = true
-has_good_names ShowDocuments = true
-has_good_names (Create name) = is_document_name name
-has_good_names (Drop name) = is_document_name name
-has_good_names (Load name pyx) = is_document_name name
-has_good_names (Export name) = is_document_name name
-
 -- ---- the answer
 
 -- what these tokens are, with these PYX lines
@@ -66,7 +49,12 @@ pub data IsRead (ts : List Token) (pyx : List (List ℕ)) : Result Call Code →
   nested_too_deep : is_nested_well ts ≡ false → IsRead ts pyx (Err NestedTooDeep)
   no_call : is_nested_well ts ≡ true → ((call : Call) → IsCall ts pyx call → ⊥) → IsRead ts pyx (Err XPST0003)
   bad_name : {call : Call} → is_nested_well ts ≡ true → IsCall ts pyx call → has_good_names call ≡ false → IsRead ts pyx (Err BadName)
-  a_call : {call : Call} → is_nested_well ts ≡ true → IsCall ts pyx call → has_good_names call ≡ true → IsRead ts pyx (Ok call)
+  unknown_function : {call : Call} → is_nested_well ts ≡ true → IsCall ts pyx call → has_good_names call ≡ true → has_known_functions call ≡ false
+      → IsRead ts pyx (Err XPST0017)
+  unbound_variable : {call : Call} → is_nested_well ts ≡ true → IsCall ts pyx call → has_good_names call ≡ true → has_known_functions call ≡ true
+      → has_bound_variables call ≡ false → IsRead ts pyx (Err XPST0008)
+  a_call : {call : Call} → is_nested_well ts ≡ true → IsCall ts pyx call → has_good_names call ≡ true → has_known_functions call ≡ true
+      → has_bound_variables call ≡ true → IsRead ts pyx (Ok call)
 
 -- what a call's text is
 pub data Parsed (c : CallText) : Result Call Code → Type 0 where

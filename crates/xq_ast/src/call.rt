@@ -1,6 +1,8 @@
 //! Calls, as they stand in a script and as they are read.
 use crate::StrList;
 use crate::text::Str;
+use crate::tree::Expr;
+use crate::update::Update;
 
 /// A call as it stands in a script.
 #[derive(Debug, Drop)]
@@ -28,4 +30,8 @@ pub enum Call {
     /// `LOAD`, with the PYX lines of its text.
     Load { name: Str, pyx: StrList },
     Export { name: Str },
+    /// `UPDATE`
+    Update { what: Update },
+    /// An expression alone.
+    Query { expr: Expr },
 }

@@ -5,7 +5,6 @@ ghost use Rattle.xq_ast.specs.CodeText.{code_text, refusal_name, kind_name, InRa
 ghost use Rattle.xq_ast.specs.CodeWords.{IsWord, IsCut, AreWords, Misses, has_space};
 
 use crate::code::{Code, Mark, SpentKind};
-use crate::code_text::{first_word, name_of_kind};
 use crate::refusal::PyxRefusal;
 use crate::text::Str;
 
@@ -15,7 +14,7 @@ const NO_MARK: Mark = Mark {
 };
 
 /// The codes without numbers.
-const WORDS: [Code; 30] = [
+const WORDS: [Code; 31] = [
     Code::XPST0003,
     Code::XPST0008,
     Code::XPST0017,
@@ -44,6 +43,7 @@ const WORDS: [Code; 30] = [
     Code::TooManyItems,
     Code::ReplyTooLong,
     Code::NoMemory,
+    Code::NotBuilt,
     Code::Failed { mark: NO_MARK },
     Code::InDoubt { mark: NO_MARK },
 ];
@@ -55,7 +55,7 @@ fn code_among(codes: &[Code], text: &str) -> Option<Code>
     ensures none { IsNone result → Misses code_text text.now codes.now }
 {
     for code in codes {
-        if first_word(code) == text {
+        if code.word() == text {
             return Some(*code);
         }
     }

@@ -10,6 +10,7 @@ use crate::step::{PathStep, PathTest, Test};
 use crate::text::Str;
 use crate::token::{Token, TokenList};
 use crate::tree::{Sign, SignList};
+use std::alloc::Global;
 
 impl StrList {
     pub fn copy(&self) -> Result<StrList, NoMemory>
@@ -143,7 +144,7 @@ impl CallText {
 }
 
 impl Call {
-    pub fn copy(&self) -> Result<Call, NoMemory>
+    pub fn copy(&self, alloc: Global) -> Result<Call, NoMemory>
         ensures { IfOk result (λ c. c ≡ self.now) }
     {
         match self {
@@ -160,6 +161,12 @@ impl Call {
                 pyx: pyx.copy()?,
             }),
             Call::Export { name } => Ok(Call::Export { name: name.copy()? }),
+            Call::Update { what } => Ok(Call::Update {
+                what: what.copy(alloc)?,
+            }),
+            Call::Query { expr } => Ok(Call::Query {
+                expr: expr.copy(alloc)?,
+            }),
         }
     }
 }

@@ -16,6 +16,7 @@ mod code_reading;
 mod code_text;
 mod copy;
 mod copy_tree;
+mod documents;
 mod kind;
 mod limits;
 mod memory;
@@ -35,7 +36,7 @@ pub use code_reading::{cut, number_of, text_determines_code};
 pub use kind::Kind;
 pub use limits::{
     BRACKETS_MAX, CALL_BYTES_MAX, DOCUMENT_NAME_BYTES_MAX, INTEGER_MAX, NAME_BYTES_MAX,
-    NESTING_WORDS_MAX,
+    NESTING_WORDS_MAX, SINGLES_MAX,
 };
 pub use memory::NoMemory;
 pub use name::{begins_name, continues_name, is_document_name, is_name};

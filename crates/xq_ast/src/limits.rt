@@ -8,6 +8,10 @@ pub const BRACKETS_MAX: usize = 64;
 /// The most words `return` and `else` of a call, both together.
 pub const NESTING_WORDS_MAX: usize = 64;
 
+/// The most single expressions that stand one in another: each but the first stands in a bracket
+/// or behind a word that a `return` or an `else` belongs to.
+pub const SINGLES_MAX: usize = BRACKETS_MAX + NESTING_WORDS_MAX + 1;
+
 /// The most bytes of a document's name.
 pub const DOCUMENT_NAME_BYTES_MAX: usize = 255;
 

@@ -2,7 +2,6 @@
 ghost use Rattle.std.specs.Prelude.{◌≡◌, nat_le};
 ghost use Rattle.std.specs.List.{list_all};
 ghost use Rattle.xq_ast.specs.Names as spec;
-ghost use Rattle.xq_ast.specs.Parsed as parsing;
 
 use crate::limits::{DOCUMENT_NAME_BYTES_MAX, NAME_BYTES_MAX};
 
@@ -52,14 +51,14 @@ fn is_printed(bytes: &[u8]) -> bool
 }
 
 fn is_document_name_of(bytes: &[u8]) -> bool
-    ensures { result ≡ parsing.is_document_name bytes.now }
+    ensures { result ≡ spec.is_document_name bytes.now }
 {
     1 <= bytes.len() && (bytes.len() <= DOCUMENT_NAME_BYTES_MAX && is_printed(bytes))
 }
 
 /// Whether a text is a name of a document. Takes no memory.
 pub fn is_document_name(text: &str) -> bool
-    ensures { result ≡ parsing.is_document_name text.now }
+    ensures { result ≡ spec.is_document_name text.now }
 {
     is_document_name_of(text.as_bytes())
 }

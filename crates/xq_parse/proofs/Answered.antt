@@ -5,9 +5,9 @@ use Rattle.xq_ast.specs.declared.call.CallText.{CallText}
 use Rattle.xq_ast.specs.declared.code.Code.{Code}
 use Rattle.xq_ast.specs.Parsed.{Parsed}
 use Rattle.xq_ast.specs.Readings.{parsed}
-use Rattle.xq_ast.proofs.Readings.{parsed_holds}
+use Rattle.xq_parse.proofs.Readings.{parsed_holds}
 use Rattle.xq_parse.specs.declared.answer.ParseEnd.{ParseEnd}
-use Rattle.xq_parse.specs.declared.answer.ParseEnd.TheVariants.{TooLong, XPST0003, NestedTooDeep, BadName, NoMemory}
+use Rattle.xq_parse.specs.declared.answer.ParseEnd.TheVariants.{TooLong, XPST0003, NestedTooDeep, BadName, XPST0017, XPST0008, NoMemory}
 use Rattle.xq_parse.specs.Answers.{code_of}
 use Rattle.xq_parse.specs.Reads.{Gives}
 
@@ -21,6 +21,8 @@ is_refused c (Err TooLong) e = λ other. subst (Parsed c) e (parsed_holds c)
 is_refused c (Err XPST0003) e = λ other. subst (Parsed c) e (parsed_holds c)
 is_refused c (Err NestedTooDeep) e = λ other. subst (Parsed c) e (parsed_holds c)
 is_refused c (Err BadName) e = λ other. subst (Parsed c) e (parsed_holds c)
+is_refused c (Err XPST0017) e = λ other. subst (Parsed c) e (parsed_holds c)
+is_refused c (Err XPST0008) e = λ other. subst (Parsed c) e (parsed_holds c)
 is_refused c (Err NoMemory) e = λ other. absurd (other refl)
 
 pub is_parsed : (c : CallText) (answer : Result Call Code) → parsed c ≡ answer → Parsed c answer

@@ -2,3 +2,5 @@ pub mod Answers
 pub mod Reads
 pub mod Spellings
 pub mod Pieces
+pub mod Passes
+pub mod Operands

@@ -2,6 +2,7 @@
 ghost use Rattle.std.specs.Prelude.{◌≡◌};
 ghost use Rattle.xq_parse.specs.Answers.{code_of};
 
+use std::alloc::AllocError;
 use thiserror::Error;
 use xq_ast::{Code, NoMemory};
 
@@ -18,9 +19,16 @@ pub enum ParseEnd {
     /// It is tested before whether a call has the tokens.
     #[error("NestedTooDeep")]
     NestedTooDeep,
-    /// A document's name is empty, longer than 255 bytes or has a character below U+0020.
+    /// A document's name is empty, longer than 255 bytes or has a character below U+0020; or a
+    /// name in a constructor or in `rename` is longer than 255 bytes.
     #[error("BadName")]
     BadName,
+    /// No function has this name with this number of arguments.
+    #[error("XPST0017")]
+    XPST0017,
+    /// A variable is not bound where it stands.
+    #[error("XPST0008")]
+    XPST0008,
     /// There was no memory.
     #[error("NoMemory")]
     NoMemory,
@@ -37,6 +45,17 @@ impl From<NoMemory> for ParseEnd {
     }
 }
 
+impl From<AllocError> for ParseEnd {
+    ghost use Rattle.std.specs.Prelude.{◌≡◌};
+    ghost use Rattle.xq_parse.specs.declared.answer.ParseEnd.TheVariants.{NoMemory};
+
+    ghost from_gives = { λ _ e. e ≡ NoMemory };
+
+    fn from(_: AllocError) -> ParseEnd {
+        ParseEnd::NoMemory
+    }
+}
+
 impl ParseEnd {
     /// The code that answers a call whose text is refused so.
     pub fn code(&self) -> Code
@@ -47,6 +66,8 @@ impl ParseEnd {
             ParseEnd::XPST0003 => Code::XPST0003,
             ParseEnd::NestedTooDeep => Code::NestedTooDeep,
             ParseEnd::BadName => Code::BadName,
+            ParseEnd::XPST0017 => Code::XPST0017,
+            ParseEnd::XPST0008 => Code::XPST0008,
             ParseEnd::NoMemory => Code::NoMemory,
         }
     }

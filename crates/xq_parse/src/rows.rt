@@ -1,12 +1,15 @@
 //! The rows of the grammar.
-ghost use Rattle.std.specs.Prelude.{◌≡◌, ℕ, List};
+ghost use Rattle.std.specs.Prelude.{◌≡◌, ◌∷◌, ℕ, List};
 ghost use Rattle.xq_ast.specs.Readings as spec;
-ghost use Rattle.xq_ast.specs.Parsed.{has_good_names};
 ghost use Rattle.xq_ast.specs.declared.call.Call.{Call};
+ghost use Rattle.xq_ast.specs.declared.limits.TheConstants.{SINGLES_MAX};
+ghost use Rattle.xq_ast.specs.declared.token.Token.TheVariants.{Name};
 ghost use Rattle.xq_parse.specs.Reads.{Reads};
 
 use crate::answer::ParseEnd;
-use xq_ast::{Call, Str, StrList, Token, is_document_name};
+use crate::cursor::Parser;
+use std::alloc::Global;
+use xq_ast::{Call, SINGLES_MAX, Str, StrList, Token};
 
 /// A call that is its first word alone.
 fn alone(call: Call, rest: &[Token]) -> Result<Call, ParseEnd>
@@ -49,15 +52,57 @@ fn begin(rest: &[Token]) -> Result<Call, ParseEnd>
     }
 }
 
-/// The row that begins with this word.
-fn row(word: &str, rest: &[Token], pyx: &StrList) -> Result<Call, ParseEnd>
-    ensures { Reads (λ c. c) result (spec.row word.now rest.now pyx.now) }
+/// What follows the word `SHOW`.
+fn show(rest: &[Token]) -> Result<Call, ParseEnd>
+    ensures { Reads (λ c. c) result (spec.show rest.now) }
+{
+    match rest {
+        [Token::Name(word)] if word.as_str() == "DOCUMENTS" => Ok(Call::ShowDocuments),
+        _ => Err(ParseEnd::XPST0003),
+    }
+}
+
+/// What follows the word `UPDATE`, with nothing behind it.
+fn updating(alloc: Global, rest: &[Token]) -> Result<Call, ParseEnd>
+    ensures { Reads (λ c. c) result (spec.updating (spec.single SINGLES_MAX) rest.now) }
+{
+    let mut parser = Parser::new(alloc, rest);
+    let what = parser.update(SINGLES_MAX)?;
+    match parser.left() {
+        [] => Ok(Call::Update { what }),
+        _ => Err(ParseEnd::XPST0003),
+    }
+}
+
+/// The query that all of these tokens are.
+fn query(alloc: Global, tokens: &[Token]) -> Result<Call, ParseEnd>
+    ensures { Reads (λ c. c) result (spec.query (spec.single SINGLES_MAX) tokens.now) }
+{
+    let mut parser = Parser::new(alloc, tokens);
+    let expr = parser.expr(SINGLES_MAX)?;
+    match parser.left() {
+        [] => Ok(Call::Query { expr }),
+        _ => Err(ParseEnd::XPST0003),
+    }
+}
+
+/// The row that begins with this word, of which `rest` follows it; or the query that all tokens are.
+fn row(
+    alloc: Global,
+    word: &str,
+    rest: &[Token],
+    tokens: &[Token],
+    pyx: &StrList,
+) -> Result<Call, ParseEnd>
+    requires { tokens.now ≡ Name word.now ∷ rest.now }
+    ensures { Reads (λ c. c) result (spec.row (spec.single SINGLES_MAX) word.now rest.now pyx.now) }
 {
     match word {
         "BEGIN" => begin(rest),
         "COMMIT" => alone(Call::Commit, rest),
         "ROLLBACK" => alone(Call::Rollback, rest),
         "CHECKPOINT" => alone(Call::Checkpoint, rest),
+        "SHOW" => show(rest),
         "CREATE" => Ok(Call::Create {
             name: document(rest)?,
         }),
@@ -69,34 +114,17 @@ fn row(word: &str, rest: &[Token], pyx: &StrList) -> Result<Call, ParseEnd>
             pyx: pyx.copy()?,
         }),
         "EXPORT" => Ok(Call::Export { name: named(rest)? }),
-        _ => Err(ParseEnd::XPST0003),
+        "UPDATE" => updating(alloc, rest),
+        _ => query(alloc, tokens),
     }
 }
 
 /// The call that these tokens are.
-pub(crate) fn call_of(tokens: &[Token], pyx: &StrList) -> Result<Call, ParseEnd>
+pub(crate) fn call_of(alloc: Global, tokens: &[Token], pyx: &StrList) -> Result<Call, ParseEnd>
     ensures { Reads (λ c. c) result (spec.call_of tokens.now pyx.now) }
 {
     match tokens {
-        [Token::Name(word), rest @ ..] => row(word.as_str(), rest, pyx),
-        _ => Err(ParseEnd::XPST0003),
-    }
-}
-
-/// Whether the names in a call are names. Each row says its own.
-pub(crate) fn has_good_names(call: &Call) -> bool
-    ensures { result ≡ has_good_names call.now }
-{
-    match call {
-        Call::Create { name }
-        | Call::Drop { name }
-        | Call::Load { name, .. }
-        | Call::Export { name } => is_document_name(name.as_str()),
-        Call::Begin
-        | Call::BeginRead
-        | Call::Commit
-        | Call::Rollback
-        | Call::Checkpoint
-        | Call::ShowDocuments => true,
+        [Token::Name(word), rest @ ..] => row(alloc, word.as_str(), rest, tokens, pyx),
+        _ => query(alloc, tokens),
     }
 }

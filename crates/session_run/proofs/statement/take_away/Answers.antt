@@ -1,6 +1,6 @@
 use Rattle.std.proofs.Common.{None, IsTrue, sym, ap, subst, refl}
 use Rattle.std.specs.FinMap as map
-use Rattle.xq_ast.specs.Parsed.{is_document_name}
+use Rattle.xq_ast.specs.Names.{is_document_name}
 use Rattle.session_run.proofs.Statements.{drop_there, drop_missing}
 use Rattle.session_run.proofs.statement.take_away.Goals as goal
 

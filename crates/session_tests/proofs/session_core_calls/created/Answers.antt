@@ -1,5 +1,5 @@
 use Rattle.std.proofs.Common.{[], IsTrue, refl, sym, subst}
-use Rattle.xq_ast.specs.Parsed.{is_document_name}
+use Rattle.xq_ast.specs.Names.{is_document_name}
 use Rattle.xml_model.specs.Document.{IsValid}
 use Rattle.xml_model.proofs.ReadIsValid.{read_is_valid}
 use Rattle.session_tests.proofs.session_core_calls.created.Goals as goal

@@ -1,6 +1,0 @@
-use Rattle.std.proofs.Common.{◌≡◌, ◌∷◌, take, map as list_map}
-use Rattle.session_run.proofs.statement.marked.Given as goal
-
--- the names so far are marked
-abbrev pub invariant-loop-name : goal.invariant-loop-name
-invariant-loop-name l = l.lines ≡ list_map (λ name. 61 ∷ name) (take l.name-index l.names)
