@@ -7,12 +7,13 @@ ghost use Rattle.page_bytes.specs.declared.ids.PageId.{PageId};
 ghost use Rattle.page_bytes.specs.Order.{page_cmp};
 ghost use Rattle.page_bytes.specs.Known.{is_unknown};
 ghost use Rattle.page_bytes.specs.Changes.{ids_of, change_of, IsChange, IsLongChange};
-ghost use Rattle.page_bytes.specs.Head.{head_of, next_page, LAST_PAGE};
+ghost use Rattle.page_bytes.specs.Head.{head_of, next_page, with_next_page, LAST_PAGE};
 ghost use Rattle.page_bytes.specs.Work.{work_over, without_page, with_space, without_space, first_bytes, fresh_page, with_fresh, with_pages};
 ghost use Rattle.page_bytes.specs.Refusal.{RefusedBy, edit_refusal, free_refusal, fresh_refusal};
 ghost use Rattle.page_bytes.specs.Inside.{Owns};
 ghost use Rattle.std.specs.Option.{option_or};
 
+use crate::changed::Changed;
 use crate::changes::{Left, changes};
 use crate::end::{NoMemory, PageEnd};
 use crate::fields::read_u64;
@@ -31,7 +32,7 @@ use std::marker::Model;
 pub struct Workspace {
     alloc: Global,
     below: PageTable<Page>,
-    drafts: PageTable<Draft>,
+    drafts: PageTable<Changed>,
     gone: PageTable<()>,
     whole: SpaceSet,
 }
@@ -129,25 +130,31 @@ impl Workspace {
         ensures refused { RefusedBy (edit_refusal self.old.now id) result }
         ensures first { IfOk result (λ draft. draft.now ≡ first_bytes self.old.now id) }
     {
+        let alloc = self.alloc;
         if self.drafts.has(id) {
-            return Ok(self.drafts.lend(id));
+            return Ok(self.drafts.lend(id).edit(alloc)?);
         }
-        let draft = self.first_draft(id)?;
-        self.drafts.insert(id, draft)?;
-        Ok(self.drafts.lend(id))
-    }
-
-    fn first_draft(&self, id: PageId) -> Result<Draft, PageEnd>
-        ensures refused { RefusedBy (edit_refusal self.now.now id) result }
-        ensures first { IfOk result (λ draft. draft ≡ first_bytes self.now.now id) }
-    {
-        if let Some(bytes) = self.page(id) {
-            return Ok(Draft::copy_of(self.alloc, bytes)?);
+        if let Some(page) = self.kept(id)? {
+            self.drafts.insert(id, Changed::of(page))?;
+            return Ok(self.drafts.lend(id).edit(alloc)?);
         }
         if !self.absent(id) {
             return Err(PageEnd::Need { page: id });
         }
-        Ok(Draft::zero(self.alloc)?)
+        let draft = Draft::zero(alloc)?;
+        let page = Page::with_bytes(alloc, &[0; 4096])?;
+        self.drafts.insert(id, Changed::of(page))?;
+        Ok(self.drafts.lend(id).renew(draft))
+    }
+
+    // The page that is there, its bytes copied.
+    fn kept(&self, id: PageId) -> Result<Option<Page>, NoMemory>
+        ensures { IfOk result (λ page. page ≡ map.get self.now.now.pages id) }
+    {
+        match self.page(id) {
+            Some(bytes) => Ok(Some(Page::with_bytes(self.alloc, bytes)?)),
+            None => Ok(None),
+        }
     }
 
     /// Takes a page away.
@@ -186,11 +193,22 @@ impl Workspace {
         let head = PageId { space, number: 0 };
         let number = self.next_number(space)?;
         let id = PageId { space, number };
-        let draft = Draft::zero(self.alloc)?;
-        own(self.alloc, &mut self.drafts, &self.below, head)?;
-        self.drafts.insert(id, draft)?;
-        self.drafts.lend(head).write_u64(NEXT_PAGE_AT, number + 1);
+        let page = Page::with_bytes(self.alloc, &[0; 4096])?;
+        let raised = self.raised(head, number + 1)?;
+        own(&mut self.drafts, &self.below, head)?;
+        self.drafts.insert(id, Changed::of(page))?;
+        *self.drafts.lend(head) = Changed::of(raised);
         Ok(id)
+    }
+
+    // The head with another next number.
+    fn raised(&self, head: PageId, number: u64) -> Result<Page, PageEnd>
+        ensures refused { OnErr result (RefusedBy (free_refusal self.now.now head) result) }
+        ensures raised { IfOk result (λ page. page ≡ with_next_page (first_bytes self.now.now head) number) }
+    {
+        let mut draft = Draft::copy_of(self.alloc, self.find(head)?)?;
+        draft.write_u64(NEXT_PAGE_AT, number);
+        Ok(Page::of(self.alloc, draft)?)
     }
 
     fn next_number(&self, space: Space) -> Result<u64, PageEnd>
@@ -215,7 +233,9 @@ impl Workspace {
         Ok(number)
     }
 
-    /// The same workspace. Its pages are shared; of each page that has changed the draft's bytes are copied.
+    /// The same workspace. All its pages are shared, those that have changed too, so this takes the time and memory of the
+    /// tables' entries, and no page's bytes are copied. The first edit of a changed page in either workspace after this
+    /// copies that page's bytes.
     pub fn copy(&self) -> Result<Workspace, NoMemory>
         ensures { IfOk result (λ copy. copy ≡ self.now) }
     {
@@ -255,10 +275,9 @@ impl Workspace {
     }
 }
 
-// Makes a draft of a page that is there, unless it has one.
+// Makes a draft of a page that is there, unless it has one. The draft shares the bytes of the page below.
 fn own(
-    alloc: Global,
-    drafts: &mut PageTable<Draft>,
+    drafts: &mut PageTable<Changed>,
     below: &PageTable<Page>,
     id: PageId,
 ) -> Result<(), NoMemory>
@@ -270,6 +289,5 @@ fn own(
         return Ok(());
     }
     let page = below.get(id).unwrap();
-    let draft = Draft::copy_of(alloc, page.bytes())?;
-    drafts.insert(id, draft)
+    drafts.insert(id, Changed::of(page.copy()?))
 }
