@@ -132,29 +132,37 @@ impl Workspace {
     {
         let alloc = self.alloc;
         if self.drafts.has(id) {
-            return Ok(self.drafts.lend(id).edit(alloc)?);
+            return match self.drafts.lend(id).edit(alloc) {
+                Ok(draft) => Ok(draft),
+                Err(NoMemory) => Err(PageEnd::NoMemory),
+            };
         }
-        if let Some(page) = self.kept(id)? {
+        let page = self.first_page(id)?;
+        if self.page(id).is_some() {
             self.drafts.insert(id, Changed::of(page))?;
-            return Ok(self.drafts.lend(id).edit(alloc)?);
+            return match self.drafts.lend(id).edit(alloc) {
+                Ok(draft) => Ok(draft),
+                Err(NoMemory) => Err(PageEnd::NoMemory),
+            };
         }
-        if !self.absent(id) {
-            return Err(PageEnd::Need { page: id });
-        }
-        let draft = Draft::zero(alloc)?;
-        let page = Page::with_bytes(alloc, &[0; 4096])?;
+        let draft = Draft::copy_of(alloc, page.bytes())?;
         self.drafts.insert(id, Changed::of(page))?;
         Ok(self.drafts.lend(id).renew(draft))
     }
 
-    // The page that is there, its bytes copied.
-    fn kept(&self, id: PageId) -> Result<Option<Page>, NoMemory>
-        ensures { IfOk result (λ page. page ≡ map.get self.now.now.pages id) }
+    // The page that an edit begins with.
+    fn first_page(&self, id: PageId) -> Result<Page, PageEnd>
+        ensures refused { RefusedBy (edit_refusal self.now.now id) result }
+        ensures first { IfOk result (λ page. page ≡ first_bytes self.now.now id) }
     {
-        match self.page(id) {
-            Some(bytes) => Ok(Some(Page::with_bytes(self.alloc, bytes)?)),
-            None => Ok(None),
+        if let Some(bytes) = self.page(id) {
+            return Ok(Page::with_bytes(self.alloc, bytes)?);
         }
+        if !self.absent(id) {
+            return Err(PageEnd::Need { page: id });
+        }
+        let zeros = Draft::zero(self.alloc)?;
+        Ok(Page::of(self.alloc, zeros)?)
     }
 
     /// Takes a page away.
@@ -201,14 +209,14 @@ impl Workspace {
         Ok(id)
     }
 
-    // The head with another next number.
-    fn raised(&self, head: PageId, number: u64) -> Result<Page, PageEnd>
-        ensures refused { OnErr result (RefusedBy (free_refusal self.now.now head) result) }
-        ensures raised { IfOk result (λ page. page ≡ with_next_page (first_bytes self.now.now head) number) }
+    // The head, which is there, with another next number.
+    fn raised(&self, head: PageId, number: u64) -> Result<Page, NoMemory>
+        requires { IsSome (map.get self.now.now.pages head) }
+        ensures { IfOk result (λ page. page ≡ with_next_page (first_bytes self.now.now head) number) }
     {
-        let mut draft = Draft::copy_of(self.alloc, self.find(head)?)?;
+        let mut draft = Draft::copy_of(self.alloc, self.page(head).unwrap())?;
         draft.write_u64(NEXT_PAGE_AT, number);
-        Ok(Page::of(self.alloc, draft)?)
+        Page::of(self.alloc, draft)
     }
 
     fn next_number(&self, space: Space) -> Result<u64, PageEnd>
@@ -276,11 +284,7 @@ impl Workspace {
 }
 
 // Makes a draft of a page that is there, unless it has one. The draft shares the bytes of the page below.
-fn own(
-    drafts: &mut PageTable<Changed>,
-    below: &PageTable<Page>,
-    id: PageId,
-) -> Result<(), NoMemory>
+fn own(drafts: &mut PageTable<Changed>, below: &PageTable<Page>, id: PageId) -> Result<(), NoMemory>
     requires { IsSome (option_or (map.get drafts.old id) (map.get below.now id)) }
     ensures ok { OnOk result (Owns drafts.old below.now id drafts.new) }
     ensures err { OnErr result (drafts.new ≡ drafts.old) }
