@@ -1,10 +1,10 @@
 -- What a refusal says of another answer.
-use Rattle.std.proofs.Common.{◌≡◌, ℕ, List, Bool, true, false, not, ◌&&◌, ◌||◌, is_some, Option, Some, None, Ok, Err, refl, sym, subst, if◌then◌else◌}
+use Rattle.std.proofs.Common.{◌≡◌, ℕ, List, Bool, true, false, not, ◌&&◌, ◌||◌, is_some, Option, Some, None, Result, Ok, Err, IsErrAnd, refl, sym, subst, if◌then◌else◌}
 use Rattle.std.specs.FinMap as map
 use Rattle.page_bytes.specs.declared.ids.Space.{Space}
 use Rattle.page_bytes.specs.declared.ids.PageId.{PageId}
 use Rattle.page_bytes.specs.declared.end.PageEnd.{PageEnd}
-use Rattle.page_bytes.specs.declared.end.PageEnd.TheVariants.{Need, Damaged}
+use Rattle.page_bytes.specs.declared.end.PageEnd.TheVariants.{Need, Damaged, NoMemory}
 use Rattle.page_bytes.specs.Known.{Known, is_unknown}
 use Rattle.page_bytes.specs.Refusal.{RefusedBy, edit_refusal, free_refusal, fresh_refusal, head_refusal}
 use Rattle.page_bytes.specs.Head.{head_of}
@@ -32,3 +32,19 @@ fresh_refusal-head X k space e is =
     subst (λ r. RefusedBy {X = X} r (Err e))
     (sym (same_refusal (head_of space) (map.get k.pages (head_of space)) (map.contains_key k.whole space || map.contains_key k.freed (head_of space)) e is))
     refl
+
+-- an edit of a page of which something is known stops for want of memory alone
+pub edit_stopped : (X : Type 0) (k : Known) (id : PageId) → is_unknown k id ≡ false → RefusedBy {X = X} (edit_refusal k id) (Err NoMemory)
+edit_stopped X k id known = subst (λ b. RefusedBy {X = X} (if b then Some (Need id) else None) (Err NoMemory)) (sym known) refl
+
+-- where a value was answered there was no refusal, so the call may stop for want of memory
+pub RefusedBy-stopped : {X : Type 0} (Y : Type 0) (refusal : Option PageEnd) (x : X) → RefusedBy refusal (Ok x) → RefusedBy {X = Y} refusal (Err NoMemory)
+RefusedBy-stopped Y (Some e) x is = cc
+RefusedBy-stopped Y None x is = refl
+
+-- and so it may by an answer that hands on a want of memory
+pub RefusedBy-handed : {X Y : Type 0} (refusal : Option PageEnd) (x : X) (r : Result Y PageEnd) → RefusedBy refusal (Ok x) → IsErrAnd r (λ end. end ≡ NoMemory)
+    → RefusedBy refusal r
+RefusedBy-handed (Some e) x r is handed = cc
+RefusedBy-handed None x (Ok y) is handed = tt
+RefusedBy-handed None x (Err e) is handed = handed

@@ -1,6 +1,6 @@
 -- What each change of a workspace's parts does to what the workspace is seen as.
-use Rattle.std.proofs.Common.{◌≡◌, ℕ, zero, suc, ◌+◌, ◌-◌, ◌<◌, Bool, true, false, not, ◌&&◌, ◌||◌, List, Option, Some, None, refl, sym, ap, ◌∙◌, cond, is_some, unwrap_or, true≢false, arith}
-use Rattle.std.specs.Option.{option_or}
+use Rattle.std.proofs.Common.{◌≡◌, ℕ, zero, suc, ◌+◌, ◌-◌, ◌<◌, Bool, true, false, not, ◌&&◌, ◌||◌, List, Option, Some, None, refl, sym, ap, ◌∙◌, cond, is_some, unwrap_or, true≢false, Bor, arith}
+use Rattle.std.specs.Option.{option_or, option_copied}
 use Rattle.std.specs.declared.cmp.Ordering.{Ordering}
 use Rattle.std.specs.declared.cmp.Ordering.TheVariants.{Less, Equal, Greater}
 use Rattle.std.specs.Ordering.{eq_by_cmp, is_eq}
@@ -183,6 +183,11 @@ first_bytes-there k id x is = ap (λ o. unwrap_or o zeros) (sym is)
 pub some : {X : Type 0} (o : Option X) → is_some o ≡ true → (x : X) × (o ≡ Some x)
 some None is = absurd (true≢false (sym is))
 some (Some x) is = (x, refl)
+
+-- a reference that is there has a value behind it
+pub some_copied : {X : Type 0} (o : Option (Bor X)) → is_some o ≡ true → (x : X) × (option_copied o ≡ Some x)
+some_copied None is = absurd (true≢false (sym is))
+some_copied (Some r) is = (r.now, refl)
 
 -- what is there, put in again, changes nothing
 pub insert-same : {X : Type 0} (m : map.FinMap page_cmp X) (k : PageId) (x : X) → map.get m k ≡ Some x → map.insert m k x ≡ m

@@ -10,6 +10,8 @@ pub mod Changes
 pub mod Inside
 pub mod Lends
 pub mod LendsBytes
+pub mod LendsChanged
+pub mod LendsDraft
 pub mod LendsPage
 pub mod Links
 pub mod Answers

@@ -5,9 +5,10 @@ ghost use Rattle.page_bytes.specs.Changes.{IsChange};
 ghost use Rattle.page_bytes.specs.Inside.{now_of, Notes, IsListed, KeepsListed, AreLong};
 ghost use Rattle.page_bytes.specs.declared.ids.PageId.{PageId};
 
+use crate::changed::Changed;
 use crate::end::NoMemory;
 use crate::ids::PageId;
-use crate::page::{Draft, Page};
+use crate::page::Page;
 use crate::table::{PageTable, SpaceSet};
 use std::alloc::Global;
 
@@ -15,7 +16,7 @@ use std::alloc::Global;
 #[derive(Drop)]
 pub struct Left {
     pub below: PageTable<Page>,
-    pub drafts: PageTable<Draft>,
+    pub drafts: PageTable<Changed>,
     pub gone: PageTable<()>,
     pub whole: SpaceSet,
 }
@@ -63,7 +64,7 @@ fn note_new(
     ensures noted { OnOk result (KeepsListed left.old.drafts changes.old left.new.drafts changes.new) }
 {
     while let Some((id, draft)) = left.drafts.take_first() {
-        let page = Page::of(alloc, draft)?;
+        let page = draft.into_page(alloc)?;
         changes.insert(id, Some(page))?;
     }
     Ok(())
@@ -75,7 +76,7 @@ fn note(
     left: &Left,
     id: PageId,
     page: Page,
-    draft: Option<Draft>,
+    draft: Option<Changed>,
 ) -> Result<(), NoMemory>
     ensures long { AreLong changes.old → OnOk result (AreLong changes.new) }
     ensures notes { OnOk result (Notes changes.old id (Some page) (now_of left.now.gone left.now.whole id draft (Some page)) changes.new) }
@@ -84,7 +85,7 @@ fn note(
         if draft.bytes() == page.bytes() {
             return Ok(());
         }
-        let page = Page::of(alloc, draft)?;
+        let page = draft.into_page(alloc)?;
         return changes.insert(id, Some(page));
     }
     if left.whole.has(id.space) {

@@ -11,6 +11,7 @@
 //! crates write, and test each before they believe it.
 #![tactic(auto)]
 
+mod changed;
 mod changes;
 mod end;
 mod fields;

@@ -12,7 +12,7 @@ pub const PAGE_BYTES: usize = 4096;
 /// A page: 4,096 bytes that never change. Copies share them.
 #[derive(Drop)]
 pub struct Page {
-    bytes: Arc<[u8; 4096]>,
+    bytes: Arc<Draft>,
 }
 
 impl Model for Page {
@@ -40,29 +40,35 @@ impl Model for Draft {
 }
 
 impl Page {
+    ghost use Rattle.std.specs.Borrow.{sem};
+    ghost use Rattle.page_bytes.specs.LendsDraft.{lends_draft};
+
     /// The page with the draft's bytes.
     pub fn of(alloc: Global, draft: Draft) -> Result<Page, NoMemory>
         ensures bytes { IfOk result (λ p. p ≡ draft) }
         ensures long { IfOk result (λ p. length p ≡ 4096) }
     {
-        Page::with_bytes(alloc, draft.bytes())
-    }
-
-    fn with_bytes(alloc: Global, bytes: &[u8; 4096]) -> Result<Page, NoMemory>
-        ensures bytes { IfOk result (λ p. p ≡ bytes.now) }
-        ensures long { IfOk result (λ p. length p ≡ 4096) }
-    {
-        match Arc::new(alloc, *bytes) {
+        tell_length(draft.bytes());
+        match Arc::new(alloc, draft) {
             Ok(bytes) => Ok(Page { bytes }),
             Err(_) => Err(NoMemory),
         }
+    }
+
+    /// The page with these bytes, which are copied.
+    pub(crate) fn with_bytes(alloc: Global, bytes: &[u8; 4096]) -> Result<Page, NoMemory>
+        ensures bytes { IfOk result (λ p. p ≡ bytes.now) }
+        ensures long { IfOk result (λ p. length p ≡ 4096) }
+    {
+        Page::of(alloc, Draft::copy_of(alloc, bytes)?)
     }
 
     /// The bytes.
     pub fn bytes(&self) -> &[u8; 4096]
         ensures { result.now ≡ self.now }
     {
-        &self.bytes
+        let draft: &Draft = &self.bytes;
+        draft.bytes()
     }
 
     /// The same page. Its bytes are shared, and not copied.
@@ -73,6 +79,24 @@ impl Page {
             Ok(bytes) => Ok(Page { bytes }),
             Err(_) => Err(NoMemory),
         }
+    }
+
+    // The bytes, to write to. They are copied first where another page shares them, so no other page sees what is written.
+    pub(crate) fn own(&mut self) -> Result<&mut Draft, NoMemory>
+        ensures* writes_back { sem 𝓛 (lends_draft self.entry result) }
+        ensures value { IfOk result (λ draft. draft.now ≡ self.old) }
+    {
+        match Arc::make_mut(&mut self.bytes) {
+            Ok(draft) => Ok(draft),
+            Err(_) => Err(NoMemory),
+        }
+    }
+
+    // Says how long a page is.
+    pub(crate) fn tell_length(&self)
+        ensures { length self.now ≡ 4096 }
+    {
+        tell_length(self.bytes());
     }
 }
 
@@ -130,4 +154,10 @@ impl Draft {
     {
         &mut self.bytes
     }
+}
+
+fn tell_length(bytes: &[u8; 4096])
+    ensures { length bytes.now ≡ 4096 }
+{
+    let _first = bytes[0];
 }

@@ -61,7 +61,8 @@ impl PageSet {
         self.pages.insert(id, page)
     }
 
-    /// The same set. Its pages are shared, and none is copied.
+    /// The same set. Its pages are shared, so this takes the time and memory of the table's entries, and no page's bytes are
+    /// copied.
     pub fn copy(&self) -> Result<PageSet, NoMemory>
         ensures { IfOk result (λ copy. copy ≡ self.now) }
     {

@@ -4,10 +4,11 @@ ghost use Rattle.std.specs.FinMap as map;
 ghost use Rattle.std.specs.Option.{option_copied};
 ghost use Rattle.page_bytes.specs.Changes.{listed};
 
+use crate::changed::Changed;
 use crate::end::NoMemory;
 use crate::ids::{PageId, Space};
 use crate::lists::PageChange;
-use crate::page::{Draft, Page};
+use crate::page::Page;
 use std::alloc::{AllocError, Global};
 use std::collections::BTreeMap;
 use std::marker::Model;
@@ -100,9 +101,9 @@ impl<V: Drop> PageTable<V> {
     }
 }
 
-impl PageTable<Draft> {
-    /// The same table. The drafts' bytes are copied.
-    pub fn copy(&self) -> Result<PageTable<Draft>, NoMemory>
+impl PageTable<Changed> {
+    /// The same table. Its pages are shared.
+    pub fn copy(&self) -> Result<PageTable<Changed>, NoMemory>
         ensures { IfOk result (λ copy. copy ≡ self.now) }
     {
         match self.entries.clone() {

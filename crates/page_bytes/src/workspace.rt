@@ -7,12 +7,13 @@ ghost use Rattle.page_bytes.specs.declared.ids.PageId.{PageId};
 ghost use Rattle.page_bytes.specs.Order.{page_cmp};
 ghost use Rattle.page_bytes.specs.Known.{is_unknown};
 ghost use Rattle.page_bytes.specs.Changes.{ids_of, change_of, IsChange, IsLongChange};
-ghost use Rattle.page_bytes.specs.Head.{head_of, next_page, LAST_PAGE};
+ghost use Rattle.page_bytes.specs.Head.{head_of, next_page, with_next_page, LAST_PAGE};
 ghost use Rattle.page_bytes.specs.Work.{work_over, without_page, with_space, without_space, first_bytes, fresh_page, with_fresh, with_pages};
 ghost use Rattle.page_bytes.specs.Refusal.{RefusedBy, edit_refusal, free_refusal, fresh_refusal};
 ghost use Rattle.page_bytes.specs.Inside.{Owns};
 ghost use Rattle.std.specs.Option.{option_or};
 
+use crate::changed::Changed;
 use crate::changes::{Left, changes};
 use crate::end::{NoMemory, PageEnd};
 use crate::fields::read_u64;
@@ -31,7 +32,7 @@ use std::marker::Model;
 pub struct Workspace {
     alloc: Global,
     below: PageTable<Page>,
-    drafts: PageTable<Draft>,
+    drafts: PageTable<Changed>,
     gone: PageTable<()>,
     whole: SpaceSet,
 }
@@ -129,25 +130,39 @@ impl Workspace {
         ensures refused { RefusedBy (edit_refusal self.old.now id) result }
         ensures first { IfOk result (λ draft. draft.now ≡ first_bytes self.old.now id) }
     {
+        let alloc = self.alloc;
         if self.drafts.has(id) {
-            return Ok(self.drafts.lend(id));
+            return match self.drafts.lend(id).edit(alloc) {
+                Ok(draft) => Ok(draft),
+                Err(NoMemory) => Err(PageEnd::NoMemory),
+            };
         }
-        let draft = self.first_draft(id)?;
-        self.drafts.insert(id, draft)?;
-        Ok(self.drafts.lend(id))
+        let page = self.first_page(id)?;
+        if self.page(id).is_some() {
+            self.drafts.insert(id, Changed::of(page))?;
+            return match self.drafts.lend(id).edit(alloc) {
+                Ok(draft) => Ok(draft),
+                Err(NoMemory) => Err(PageEnd::NoMemory),
+            };
+        }
+        let draft = Draft::copy_of(alloc, page.bytes())?;
+        self.drafts.insert(id, Changed::of(page))?;
+        Ok(self.drafts.lend(id).renew(draft))
     }
 
-    fn first_draft(&self, id: PageId) -> Result<Draft, PageEnd>
+    // The page that an edit begins with.
+    fn first_page(&self, id: PageId) -> Result<Page, PageEnd>
         ensures refused { RefusedBy (edit_refusal self.now.now id) result }
-        ensures first { IfOk result (λ draft. draft ≡ first_bytes self.now.now id) }
+        ensures first { IfOk result (λ page. page ≡ first_bytes self.now.now id) }
     {
         if let Some(bytes) = self.page(id) {
-            return Ok(Draft::copy_of(self.alloc, bytes)?);
+            return Ok(Page::with_bytes(self.alloc, bytes)?);
         }
         if !self.absent(id) {
             return Err(PageEnd::Need { page: id });
         }
-        Ok(Draft::zero(self.alloc)?)
+        let zeros = Draft::zero(self.alloc)?;
+        Ok(Page::of(self.alloc, zeros)?)
     }
 
     /// Takes a page away.
@@ -186,11 +201,22 @@ impl Workspace {
         let head = PageId { space, number: 0 };
         let number = self.next_number(space)?;
         let id = PageId { space, number };
-        let draft = Draft::zero(self.alloc)?;
-        own(self.alloc, &mut self.drafts, &self.below, head)?;
-        self.drafts.insert(id, draft)?;
-        self.drafts.lend(head).write_u64(NEXT_PAGE_AT, number + 1);
+        let page = Page::with_bytes(self.alloc, &[0; 4096])?;
+        let raised = self.raised(head, number + 1)?;
+        own(&mut self.drafts, &self.below, head)?;
+        self.drafts.insert(id, Changed::of(page))?;
+        *self.drafts.lend(head) = Changed::of(raised);
         Ok(id)
+    }
+
+    // The head, which is there, with another next number.
+    fn raised(&self, head: PageId, number: u64) -> Result<Page, NoMemory>
+        requires { IsSome (map.get self.now.now.pages head) }
+        ensures { IfOk result (λ page. page ≡ with_next_page (first_bytes self.now.now head) number) }
+    {
+        let mut draft = Draft::copy_of(self.alloc, self.page(head).unwrap())?;
+        draft.write_u64(NEXT_PAGE_AT, number);
+        Page::of(self.alloc, draft)
     }
 
     fn next_number(&self, space: Space) -> Result<u64, PageEnd>
@@ -215,7 +241,9 @@ impl Workspace {
         Ok(number)
     }
 
-    /// The same workspace. Its pages are shared; of each page that has changed the draft's bytes are copied.
+    /// The same workspace. All its pages are shared, those that have changed too, so this takes the time and memory of the
+    /// tables' entries, and no page's bytes are copied. The first edit of a changed page in either workspace after this
+    /// copies that page's bytes.
     pub fn copy(&self) -> Result<Workspace, NoMemory>
         ensures { IfOk result (λ copy. copy ≡ self.now) }
     {
@@ -255,13 +283,8 @@ impl Workspace {
     }
 }
 
-// Makes a draft of a page that is there, unless it has one.
-fn own(
-    alloc: Global,
-    drafts: &mut PageTable<Draft>,
-    below: &PageTable<Page>,
-    id: PageId,
-) -> Result<(), NoMemory>
+// Makes a draft of a page that is there, unless it has one. The draft shares the bytes of the page below.
+fn own(drafts: &mut PageTable<Changed>, below: &PageTable<Page>, id: PageId) -> Result<(), NoMemory>
     requires { IsSome (option_or (map.get drafts.old id) (map.get below.now id)) }
     ensures ok { OnOk result (Owns drafts.old below.now id drafts.new) }
     ensures err { OnErr result (drafts.new ≡ drafts.old) }
@@ -270,6 +293,5 @@ fn own(
         return Ok(());
     }
     let page = below.get(id).unwrap();
-    let draft = Draft::copy_of(alloc, page.bytes())?;
-    drafts.insert(id, draft)
+    drafts.insert(id, Changed::of(page.copy()?))
 }
