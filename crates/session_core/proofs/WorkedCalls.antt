@@ -42,25 +42,25 @@ abbrev pub export : CallText
 export = plain (codes "EXPORT 'd'")
 
 pub begin_is : Parsed begin (Ok Begin)
-begin_is = parsing.read (omega arith) refl (parsing.a_call refl grammar.begin refl)
+begin_is = parsing.read (omega arith) refl (parsing.a_call refl grammar.begin refl refl refl)
 
 pub begin_read_is : Parsed begin_read (Ok BeginRead)
-begin_read_is = parsing.read (omega arith) refl (parsing.a_call refl grammar.begin_read refl)
+begin_read_is = parsing.read (omega arith) refl (parsing.a_call refl grammar.begin_read refl refl refl)
 
 pub commit_is : Parsed commit (Ok Commit)
-commit_is = parsing.read (omega arith) refl (parsing.a_call refl grammar.commit refl)
+commit_is = parsing.read (omega arith) refl (parsing.a_call refl grammar.commit refl refl refl)
 
 pub rollback_is : Parsed rollback (Ok Rollback)
-rollback_is = parsing.read (omega arith) refl (parsing.a_call refl grammar.rollback refl)
+rollback_is = parsing.read (omega arith) refl (parsing.a_call refl grammar.rollback refl refl refl)
 
 pub create_is : Parsed create (Ok (Create d))
-create_is = parsing.read (omega arith) refl (parsing.a_call refl grammar.create refl)
+create_is = parsing.read (omega arith) refl (parsing.a_call refl grammar.create refl refl refl)
 
 pub load_is : Parsed load (Ok (Load d element))
-load_is = parsing.read (omega arith) refl (parsing.a_call refl grammar.load refl)
+load_is = parsing.read (omega arith) refl (parsing.a_call refl grammar.load refl refl refl)
 
 pub export_is : Parsed export (Ok (Export d))
-export_is = parsing.read (omega arith) refl (parsing.a_call refl grammar.export refl)
+export_is = parsing.read (omega arith) refl (parsing.a_call refl grammar.export refl refl refl)
 
 abbrev pub shared : List Need
 shared = record { name = d; mode = S } ∷ []

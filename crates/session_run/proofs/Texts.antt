@@ -8,10 +8,10 @@ use Rattle.xq_ast.specs.declared.code.Code.TheVariants as codes
 use Rattle.xq_ast.specs.Parsed.{Parsed, read, a_call}
 use Rattle.xq_ast.specs.GoodNames.{has_good_names}
 use Rattle.xq_ast.specs.Readings.{parsed}
-use Rattle.xq_ast.proofs.Readings.{parsed_holds}
+use Rattle.xq_parse.proofs.Readings.{parsed_holds}
 use Rattle.xq_parse.specs.Answers.{code_of}
 use Rattle.xq_parse.specs.declared.answer.ParseEnd.{ParseEnd}
-use Rattle.xq_parse.specs.declared.answer.ParseEnd.TheVariants.{TooLong, XPST0003, NestedTooDeep, BadName, NoMemory}
+use Rattle.xq_parse.specs.declared.answer.ParseEnd.TheVariants.{TooLong, XPST0003, NestedTooDeep, BadName, XPST0017, XPST0008, NoMemory}
 use Rattle.xml_model.specs.Needs.{needs}
 use Rattle.session_core.specs.declared.event.Says.TheVariants as says
 use Rattle.session_core.specs.declared.event.State.TheVariants.{InDoubt}
@@ -32,7 +32,7 @@ use Rattle.session_run.specs.Called.{IsCalled, IsUnclosed, AddsClosing, ClosesRe
 
 -- its names are names of documents
 pub good_names : (text : CallText) (call : Call) → Parsed text (Ok call) → IsTrue (has_good_names call)
-good_names text call (read short spelled (a_call nested is good)) = good
+good_names text call (read short spelled (a_call nested is good known bound)) = good
 
 module _ (s : ℕ) (text : CallText) (call : Call) (is : Parsed text (Ok call)) where
   answers_read : (e : Event) (before : List Event) → AnswersText text e before
@@ -125,6 +125,8 @@ module _ (s : ℕ) (text : CallText) (old new : Kept) where
   called_end XPST0003 is right grown = called_refused codes.XPST0003 (is (λ e. cc)) right grown
   called_end NestedTooDeep is right grown = called_refused codes.NestedTooDeep (is (λ e. cc)) right grown
   called_end BadName is right grown = called_refused codes.BadName (is (λ e. cc)) right grown
+  called_end XPST0017 is right grown = called_refused codes.XPST0017 (is (λ e. cc)) right grown
+  called_end XPST0008 is right grown = called_refused codes.XPST0008 (is (λ e. cc)) right grown
   called_end NoMemory is right grown = called_lost grown
 
 -- which is right
@@ -142,6 +144,12 @@ right_end B s before NestedTooDeep certain =
 right_end B s before BadName certain =
     unrun_here B s before None (says.Error codes.BadName)
     (answers.AnswersInOrder.refuses_text (record { code = codes.BadName; refusal = refl; says_so = refl; not_in_doubt = certain })) refl refl tt
+right_end B s before XPST0017 certain =
+    unrun_here B s before None (says.Error codes.XPST0017)
+    (answers.AnswersInOrder.refuses_text (record { code = codes.XPST0017; refusal = refl; says_so = refl; not_in_doubt = certain })) refl refl tt
+right_end B s before XPST0008 certain =
+    unrun_here B s before None (says.Error codes.XPST0008)
+    (answers.AnswersInOrder.refuses_text (record { code = codes.XPST0008; refusal = refl; says_so = refl; not_in_doubt = certain })) refl refl tt
 right_end B s before NoMemory certain = lacking B s before None
 
 -- what follows from P holds of each Err answer, where P does

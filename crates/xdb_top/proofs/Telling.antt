@@ -7,7 +7,7 @@ use Rattle.xq_ast.specs.declared.code.Code.{Code}
 use Rattle.xq_ast.specs.declared.code.Code.TheVariants as codes
 use Rattle.xq_ast.specs.declared.need.Need.{Need}
 use Rattle.xq_ast.specs.Parsed.{Parsed}
-use Rattle.xq_ast.proofs.Readings.{one_answer}
+use Rattle.xq_parse.proofs.Readings.{one_answer}
 use Rattle.xml_model.specs.Needs.{needs}
 use Rattle.session_core.specs.declared.event.BeginKind.TheVariants as kinds
 use Rattle.session_core.specs.declared.event.State.TheVariants.{Idle, Updating}
