@@ -4,9 +4,11 @@ pub mod Complete
 pub mod Follow
 pub mod Fronts
 pub mod Fuel
+pub mod Loops
 pub mod Nesting
 pub mod Singles
 pub mod Sound
 pub mod Steps
 pub mod Taken
 pub mod Turns
+pub mod Signs
