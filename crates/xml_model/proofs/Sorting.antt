@@ -5,42 +5,22 @@ use Rattle.std.specs.Ordering.{nat_cmp, eq_by_cmp, is_lt, is_eq}
 use Rattle.std.specs.Cmp.Lexicographic.{slice_cmp, nat_list_eq_equiv}
 use Rattle.std.specs.declared.cmp.Ordering.{Ordering}
 use Rattle.std.specs.declared.cmp.Ordering.TheVariants.{Less, Equal, Greater}
-use Rattle.std.specs.List.{IsDistinct, AllByRecursion, dedup, dedup_from}
-use Rattle.std.specs.List.Sorted.{IsPermutation, IsSorted, IsStrictlySortedBy}
+use Rattle.std.specs.List.{IsDistinct}
+use Rattle.std.specs.List.Sorted.{IsPermutation, IsSorted}
 use Rattle.std.specs.Str.{bytes_eq}
-use Rattle.std.specs.String.{string_eq, string_cmp, string_eq_equiv, string_cmp_total}
+use Rattle.std.specs.String.{string_eq, string_cmp, string_eq_equiv}
 use Rattle.std.specs.declared.string.String.{String}
 use Rattle.std.specs.declared.sync.Arc.{Arc}
 use Rattle.std.specs.FinMap as forests
 use Rattle.std.specs.FinMap.{find, is_sorted, nat_cmp-IsAntisymmetric, slice_cmp-IsAntisymmetric}
 use Rattle.std.specs.FinMap.Entries.{below_all}
-use Rattle.std.proofs.lemmas.List.Kept.{IsStrictlySortedBy-dedup}
-use Rattle.std.proofs.lemmas.Map.Text.{is_eq-slice_cmp}
 use Rattle.indexmap.proofs.MapLemmas.{lookup_permutation}
 use Rattle.xml_model.specs.declared.node.Doc.{Doc}
 use Rattle.xml_model.specs.Forest.{no_documents}
 use Rattle.xml_model.specs.Changes.{laid_over, unshared, changes_of_entries}
+use Rattle.doc_locks.proofs.Sorting.{rising, sorted_pairs}
 use Rattle.xml_model.proofs.Entries.{pairs_of, entry_of, find-texts, get-entries}
 use Rattle.xml_model.proofs.Laying.{seen_as, seen-cond, same_forest, get-laid-nothing}
-
--- ---- distinct names stay when repeated ones are taken out
-
-unrepeated : {A : Type 0} (k : String A) (xs : List (String A)) → IsDistinct string_eq (k ∷ xs) → dedup_from string_eq k xs ≡ k ∷ xs
-unfolding IsDistinct
-unrepeated k [] distinct = refl
-unrepeated k (x ∷ xs) distinct =
-    ap (λ b. cond b (dedup_from string_eq k xs) (k ∷ dedup_from string_eq x xs)) (string_eq_equiv.symm x k ∙ distinct.0.0)
-    ∙ ap (λ l. k ∷ l) (unrepeated x xs distinct.1)
-
-same_dedup : {A : Type 0} (xs : List (String A)) → IsDistinct string_eq xs → dedup string_eq xs ≡ xs
-same_dedup [] distinct = refl
-same_dedup (x ∷ xs) distinct = unrepeated x xs distinct
-
-tied_texts : {A : Type 0} (x y : String A) → string_eq x y ≡ eq_by_cmp string_cmp x y
-tied_texts x y = sym (is_eq-slice_cmp (string_bytes x) (string_bytes y))
-
-rising : {A : Type 0} (xs : List (String A)) → IsSorted string_cmp xs → IsDistinct string_eq xs → IsStrictlySortedBy string_cmp xs
-rising xs sorted distinct = subst (IsStrictlySortedBy string_cmp) (same_dedup xs distinct) (IsStrictlySortedBy-dedup string_cmp_total tied_texts xs sorted)
 
 -- ---- the entries that have a document
 
@@ -83,17 +63,6 @@ tied : (r : Ordering) → is_eq r ≡ true → r ≡ Equal
 tied Less e = absurd (true≢false (sym e))
 tied Equal e = refl
 tied Greater e = absurd (true≢false (sym e))
-
-below_pairs : {A Z : Type 0} (k : String A) (es : List (String A × Option (Arc Doc Z))) → AllByRecursion (λ y. string_cmp k y ≡ Less) (keys_of es)
-    → below_all (slice_cmp nat_cmp) (string_bytes k) (pairs_of es) ≡ true
-below_pairs k [] below = refl
-below_pairs k (e ∷ es) below = ap (λ r. is_lt r && below_all (slice_cmp nat_cmp) (string_bytes k) (pairs_of es)) below.0 ∙ below_pairs k es below.1
-
-sorted_pairs : {A Z : Type 0} (es : List (String A × Option (Arc Doc Z))) → IsStrictlySortedBy string_cmp (keys_of es)
-    → is_sorted (slice_cmp nat_cmp) (pairs_of es) ≡ true
-unfolding IsStrictlySortedBy
-sorted_pairs [] rise = refl
-sorted_pairs (e ∷ es) rise = ap (λ b. b && is_sorted (slice_cmp nat_cmp) (pairs_of es)) (below_pairs e.0 es rise.0) ∙ sorted_pairs es rise.1
 
 below-with : (k name : List ℕ) (o : Option Doc) (ds : List (List ℕ × Doc)) → is_lt (slice_cmp nat_cmp k name) ≡ true → below_all (slice_cmp nat_cmp) k ds ≡ true
     → below_all (slice_cmp nat_cmp) k (with_kept name o ds) ≡ true
@@ -158,7 +127,7 @@ names-sorted es fs moves distinct sorted =
     sym (names-kept fs) ∙ ap (list_map (λ p. p.0)) (sym (forests.entries-from_sorted (slice_cmp nat_cmp) (kept (pairs_of fs)) in_order)) ∙ ap forests.keys same
   where
     rise : is_sorted (slice_cmp nat_cmp) (pairs_of fs) ≡ true
-    rise = sorted_pairs fs (rising (keys_of fs) sorted distinct)
+    rise = sorted_pairs unshared fs (rising (keys_of fs) sorted distinct)
 
     in_order : T (is_sorted (slice_cmp nat_cmp) (kept (pairs_of fs)))
     in_order = subst T (sym (sorted-kept (pairs_of fs) rise)) tt

@@ -4,6 +4,7 @@ pub mod Law
 pub mod Numbers
 pub mod Tables
 pub mod Words
+mod FunctionRows
 pub mod Names
 pub mod Modes
 pub mod TokensAlone

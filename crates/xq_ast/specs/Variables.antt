@@ -45,10 +45,15 @@ abbrev pub and_position : List ℕ → Option (List ℕ) → Bound
 and_position name None = name ∷ []
 and_position name (Some at) = name ∷ at ∷ []
 
--- one binding after another, and then what stands behind all of them
-abbrev pub within : List Binding → PartTest → PartTest
-within [] rest bound = rest bound
-within (b ∷ bs) rest bound = b.source bound && within bs rest (bound ++ b.names)
+-- what each binding binds its names to, where those of the bindings before it are bound too
+abbrev pub sources_bound : List Binding → PartTest
+sources_bound [] bound = true
+sources_bound (b ∷ bs) bound = b.source bound && sources_bound bs (bound ++ b.names)
+
+-- the names of all bindings
+abbrev pub names_of : List Binding → Bound
+names_of [] = []
+names_of (b ∷ bs) = b.names ++ names_of bs
 
 -- what stands behind the bindings
 abbrev pub behind : Option PartTest → List PartTest → PartTest → PartTest
@@ -64,7 +69,7 @@ expr_step (Expr-F.Int value) bound = true
 expr_step (Expr-F.Var name) bound = is_bound name bound
 expr_step Expr-F.Context bound = true
 expr_step (Expr-F.Seq parts) bound = all_bound parts bound
-expr_step (Expr-F.Flwor binds filter keys result) bound = within binds (behind filter keys result) bound
+expr_step (Expr-F.Flwor binds filter keys result) bound = sources_bound binds bound && behind filter keys result (bound ++ names_of binds)
 expr_step (Expr-F.If test good other) bound = test bound && (good bound && other bound)
 expr_step (Expr-F.Or parts) bound = all_bound parts bound
 expr_step (Expr-F.And parts) bound = all_bound parts bound

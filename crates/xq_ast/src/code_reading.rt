@@ -5,7 +5,6 @@ ghost use Rattle.xq_ast.specs.CodeText.{code_text, refusal_name, kind_name, InRa
 ghost use Rattle.xq_ast.specs.CodeWords.{IsWord, IsCut, AreWords, Misses, has_space};
 
 use crate::code::{Code, Mark, SpentKind};
-use crate::code_text::{first_word, name_of_kind};
 use crate::refusal::PyxRefusal;
 use crate::text::Str;
 
@@ -56,7 +55,7 @@ fn code_among(codes: &[Code], text: &str) -> Option<Code>
     ensures none { IsNone result → Misses code_text text.now codes.now }
 {
     for code in codes {
-        if first_word(code) == text {
+        if code.word() == text {
             return Some(*code);
         }
     }

@@ -1,11 +1,15 @@
 pub mod Answered
 pub mod Behind
+pub mod Calls
 pub mod Complete
 pub mod Follow
 pub mod Fronts
 pub mod Fuel
 pub mod Loops
 pub mod Nesting
+pub mod ParsedRows
+pub mod Readings
+pub mod Scopes
 pub mod Singles
 pub mod Sound
 pub mod Steps

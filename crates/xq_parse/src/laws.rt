@@ -12,13 +12,13 @@ ghost use Rattle.xq_ast.specs.Parsed.{Parsed};
 ghost use Rattle.xq_ast.specs.Readings.{parsed};
 
 /// No tokens are two calls.
-#[tactic(auto, using(xq_ast::proofs::Readings::one_call))]
+#[tactic(auto, using(crate::proofs::Readings::one_call))]
 pub fn tokens_are_one_call()
     ensures { (ts : List Token) (pyx : List (List ℕ)) (a b : Call) → IsCall ts pyx a → IsCall ts pyx b → a ≡ b }
 {}
 
 /// Each text is a call or is refused, and in one way: as the function that reads it says.
-#[tactic(auto, using(xq_ast::proofs::Readings::parsed_is, crate::proofs::Answered::is_parsed))]
+#[tactic(auto, using(crate::proofs::Readings::parsed_is, crate::proofs::Answered::is_parsed))]
 pub fn text_has_one_answer()
     ensures { (c : CallText) (answer : Result Call Code) → Parsed c answer ↔ (parsed c ≡ answer) }
 {}

@@ -1,5 +1,5 @@
 //! Whether the variables of a call are bound where they stand.
-ghost use Rattle.std.specs.Prelude.{◌≡◌, ◌&&◌, ◌++◌, [], ◌∷◌, map, take, length, IfOk, OnOk};
+ghost use Rattle.std.specs.Prelude.{◌≡◌, ◌&&◌, ◌++◌, [], ◌∷◌, map, IfOk, OnOk};
 ghost use Rattle.std.specs.Option.{option_map};
 ghost use Rattle.xq_ast.specs.Variables as spec;
 
@@ -131,60 +131,23 @@ fn start_is_bound(bound: &mut StrList, start: &Start) -> Result<bool, NoMemory>
     }
 }
 
-// What stands behind the bindings of a FLWOR expression.
+// Whether the sources of the bindings are bound. The variables of the bindings stay bound.
 #[cycle(variables)]
-fn behind_is_bound(
-    bound: &mut StrList,
-    filter: &Option<Boxed<Expr>>,
-    keys: &SortKeyList,
-    body: &Expr,
-) -> Result<bool, NoMemory>
-    ensures bound { IfOk result (λ good. good ≡ spec.behind (option_map spec.binds_in filter.now) (map spec.key_binds keys.now) (spec.binds_in body.now) bound.old) }
-    ensures same { OnOk result (bound.new ≡ bound.old) }
+fn sources_are_bound(bound: &mut StrList, binds: &BindList) -> Result<bool, NoMemory>
+    ensures bound { IfOk result (λ good. good ≡ spec.sources_bound (map spec.bind_binding binds.now) bound.old) }
+    ensures names { OnOk result (bound.new ≡ bound.old ++ spec.names_of (map spec.bind_binding binds.now)) }
 {
-    Ok(content_is_bound(bound, filter)? && (keys_are_bound(bound, keys)? && expr_is_bound(bound, body)?))
-}
-
-// The bindings and what stands behind them. The variables of the bindings stay bound.
-#[cycle(variables)]
-fn within_is_bound(
-    bound: &mut StrList,
-    binds: &BindList,
-    filter: &Option<Boxed<Expr>>,
-    keys: &SortKeyList,
-    body: &Expr,
-) -> Result<bool, NoMemory>
-    ensures bound { IfOk result (λ good. good ≡ spec.within (map spec.bind_binding binds.now) (spec.behind (option_map spec.binds_in filter.now) (map spec.key_binds keys.now) (spec.binds_in body.now)) bound.old) }
-    ensures front { OnOk result (take (length bound.old) bound.new ≡ bound.old) }
-{
+    let mut good = true;
     for bind in binds.as_slice() {
-        if !source_is_bound(bound, bind)? {
-            return Ok(false);
-        }
+        good = good && source_is_bound(bound, bind)?;
         bind_names(bound, bind)?;
     }
-    behind_is_bound(bound, filter, keys, body)
-}
-
-#[cycle(variables)]
-fn flwor_is_bound(
-    bound: &mut StrList,
-    binds: &BindList,
-    filter: &Option<Boxed<Expr>>,
-    keys: &SortKeyList,
-    body: &Expr,
-) -> Result<bool, NoMemory>
-    ensures bound { IfOk result (λ good. good ≡ spec.within (map spec.bind_binding binds.now) (spec.behind (option_map spec.binds_in filter.now) (map spec.key_binds keys.now) (spec.binds_in body.now)) bound.old) }
-    ensures same { OnOk result (bound.new ≡ bound.old) }
-{
-    let before = bound.len();
-    let good = within_is_bound(bound, binds, filter, keys, body)?;
-    bound.truncate(before);
     Ok(good)
 }
 
 // Whether all variables of an expression are bound, where these are bound around it.
 #[cycle(variables)]
+#[tactic(auto, using(crate::proofs::Scopes::taken_back))]
 fn expr_is_bound(bound: &mut StrList, expr: &Expr) -> Result<bool, NoMemory>
     ensures bound { IfOk result (λ good. good ≡ spec.binds_in expr.now bound.old) }
     ensures same { OnOk result (bound.new ≡ bound.old) }
@@ -200,10 +163,19 @@ fn expr_is_bound(bound: &mut StrList, expr: &Expr) -> Result<bool, NoMemory>
             filter,
             keys,
             result,
-        } => flwor_is_bound(bound, binds, filter, keys, result.get()),
+        } => {
+            let before = bound.len();
+            let good = sources_are_bound(bound, binds)?
+                && (content_is_bound(bound, filter)?
+                    && (keys_are_bound(bound, keys)? && expr_is_bound(bound, result.get())?));
+            bound.truncate(before);
+            Ok(good)
+        }
         Expr::If { test, yes, no } => {
-            Ok(expr_is_bound(bound, test.get())?
-                && (expr_is_bound(bound, yes.get())? && expr_is_bound(bound, no.get())?))
+            Ok(
+                expr_is_bound(bound, test.get())?
+                    && (expr_is_bound(bound, yes.get())? && expr_is_bound(bound, no.get())?),
+            )
         }
         Expr::Or { parts } => are_bound(bound, parts),
         Expr::And { parts } => are_bound(bound, parts),

@@ -4,8 +4,7 @@ ghost use Rattle.std.specs.Fmt.{decimal};
 ghost use Rattle.std.specs.Io.KnownBytes.{append_known};
 ghost use Rattle.byte_edge.specs.Faults.{HasCause};
 ghost use Rattle.byte_edge.specs.Took.{AppendedPrefix};
-ghost use Rattle.xq_ast.specs.CodeText.{code_text, kind_name};
-ghost use Rattle.xq_ast.specs.CodeWords.{IsWord};
+ghost use Rattle.xq_ast.specs.CodeText.{code_text};
 ghost use Rattle.xml_model.specs.Pyx.{text_of};
 ghost use Rattle.session_core.specs.declared.event.Event.TheVariants as events;
 ghost use Rattle.session_core.specs.declared.event.Says.TheVariants as answers;
@@ -17,7 +16,7 @@ ghost use Rattle.byte_edge.specs.Sending.{Sends, stage};
 use crate::journals::pieces::{Piece, send_pieces};
 use byte_edge::{Pending, Sink, WriteFault, flush, send_byte, send_bytes};
 use session_core::{BeginKind, Event, Journal, Says};
-use xq_ast::{Code, LockMode, Need, NeedList, SpentKind, Str, StrList};
+use xq_ast::{Code, LockMode, Need, NeedList, Str, StrList};
 
 fn word_of_mode(mode: LockMode) -> &'static str
     ensures { result.now ≡ spec.mode_text mode }
@@ -229,59 +228,6 @@ fn send_settled<W: Sink>(
     )
 }
 
-// The first word of a code's text, which is the whole text where it has no number.
-fn word_of_code(code: &Code) -> &'static str
-    ensures { IsWord code.now → result.now ≡ code_text code.now }
-{
-    match code {
-        Code::XPST0003 => "XPST0003",
-        Code::XPST0008 => "XPST0008",
-        Code::XPST0017 => "XPST0017",
-        Code::XPDY0002 => "XPDY0002",
-        Code::XPTY0004 => "XPTY0004",
-        Code::XPTY0019 => "XPTY0019",
-        Code::XPTY0020 => "XPTY0020",
-        Code::XQTY0024 => "XQTY0024",
-        Code::XQDY0025 => "XQDY0025",
-        Code::FOAR0001 => "FOAR0001",
-        Code::FOAR0002 => "FOAR0002",
-        Code::FODC0002 => "FODC0002",
-        Code::FORG0001 => "FORG0001",
-        Code::FORG0006 => "FORG0006",
-        Code::TooLong => "TooLong",
-        Code::NestedTooDeep => "NestedTooDeep",
-        Code::BadName => "BadName",
-        Code::NoTransaction => "NoTransaction",
-        Code::InTransaction => "InTransaction",
-        Code::ReadOnly => "ReadOnly",
-        Code::Updating => "Updating",
-        Code::Exists => "Exists",
-        Code::TooDeep => "TooDeep",
-        Code::TooManyNodes => "TooManyNodes",
-        Code::TooMuchText => "TooMuchText",
-        Code::TooManyItems => "TooManyItems",
-        Code::ReplyTooLong => "ReplyTooLong",
-        Code::NoMemory => "NoMemory",
-        Code::Failed { .. } => "Failed",
-        Code::InDoubt { .. } => "InDoubt",
-        Code::Pyx { .. } => "Pyx",
-        Code::Spent { .. } => "Spent",
-        Code::Damaged { .. } => "Damaged",
-    }
-}
-
-fn word_of_kind(kind: SpentKind) -> &'static str
-    ensures { result.now ≡ kind_name kind }
-{
-    match kind {
-        SpentKind::Commit => "commit",
-        SpentKind::Generation => "generation",
-        SpentKind::Page => "page",
-        SpentKind::Slot => "slot",
-        SpentKind::Log => "log",
-    }
-}
-
 #[tactic(auto, using(xq_ast::proofs::Words::word_of_the_rest))]
 fn send_code<W: Sink>(to: &mut W, pending: &mut Pending, code: &Code) -> Result<(), WriteFault>
     ensures { Sends result (code_text code.now)
@@ -304,7 +250,7 @@ fn send_code<W: Sink>(to: &mut W, pending: &mut Pending, code: &Code) -> Result<
             pending,
             &[
                 Piece::Words("Spent "),
-                Piece::Words(word_of_kind(*kind)),
+                Piece::Words(kind.name()),
                 Piece::Words(" "),
                 Piece::Number(*number),
             ],
@@ -325,7 +271,7 @@ fn send_code<W: Sink>(to: &mut W, pending: &mut Pending, code: &Code) -> Result<
                 Piece::Number(*page),
             ],
         ),
-        word => send_bytes(to, pending, word_of_code(word).as_bytes()),
+        word => send_bytes(to, pending, word.word().as_bytes()),
     }
 }
 

@@ -1,6 +1,5 @@
-use Rattle.std.proofs.Common.{◌≡◌, drop, map, take, length}
-use Rattle.std.specs.Option.{option_map}
-use Rattle.xq_ast.specs.Variables.{all_bound, within, behind, binds_in, bind_binding, key_binds, sum_binds, product_binds, step_binds}
+use Rattle.std.proofs.Common.{◌≡◌, ◌&&◌, ◌++◌, drop, map}
+use Rattle.xq_ast.specs.Variables.{all_bound, sources_bound, names_of, binds_in, bind_binding, key_binds, sum_binds, product_binds, step_binds}
 use Rattle.xq_parse.proofs.variables.+variables.Given as goal
 
 abbrev pub invariant-are_bound-loop-expr : goal.invariant-are_bound-loop-expr
@@ -23,9 +22,9 @@ abbrev pub invariant-steps_are_bound-loop-step : goal.invariant-steps_are_bound-
 invariant-steps_are_bound-loop-step l =
     (l.bound ≡ l.initial.bound) × (all_bound (map step_binds (drop l.step-index l.step-items)) l.initial.bound ≡ all_bound (map step_binds l.step-items) l.initial.bound)
 
-abbrev pub invariant-within_is_bound-loop-bind : goal.invariant-within_is_bound-loop-bind
-invariant-within_is_bound-loop-bind l = record {
-  left : within (map bind_binding (drop l.bind-index l.bind-items)) (behind (option_map binds_in l.fn.filter) (map key_binds l.fn.keys) (binds_in l.fn.body)) l.bound
-      ≡ within (map bind_binding l.bind-items) (behind (option_map binds_in l.fn.filter) (map key_binds l.fn.keys) (binds_in l.fn.body)) l.initial.bound;
-  front : take (length l.initial.bound) l.bound ≡ l.initial.bound;
+abbrev pub invariant-sources_are_bound-loop-bind : goal.invariant-sources_are_bound-loop-bind
+invariant-sources_are_bound-loop-bind l = record {
+  sources : (l.good && sources_bound (map bind_binding (drop l.bind-index l.bind-items)) l.bound)
+      ≡ sources_bound (map bind_binding l.bind-items) l.initial.bound;
+  names : l.bound ++ names_of (map bind_binding (drop l.bind-index l.bind-items)) ≡ l.initial.bound ++ names_of (map bind_binding l.bind-items);
 }
