@@ -5,6 +5,7 @@ pub mod Complete
 pub mod Follow
 pub mod Fronts
 pub mod Fuel
+pub mod Loops
 pub mod Nesting
 pub mod ParsedRows
 pub mod Readings
@@ -14,3 +15,4 @@ pub mod Sound
 pub mod Steps
 pub mod Taken
 pub mod Turns
+pub mod Signs

@@ -1,8 +1,10 @@
 -- How an operand begins, as the definitions of rows see it.
-use Rattle.std.specs.Prelude.{Some}
+use Rattle.std.specs.Prelude.{Bool, true, false, Some}
 use Rattle.xq_ast.specs.Tokens.{◌>>=◌}
 use Rattle.xq_ast.specs.Grammar.{group_of}
 use Rattle.xq_ast.specs.declared.tree.Expr.{Expr}
+use Rattle.xq_ast.specs.declared.tree.Sign.{Sign}
+use Rattle.xq_ast.specs.declared.tree.Sign.TheVariants.{Plus, Minus}
 use Rattle.xq_ast.specs.Readings as spec
 use Rattle.xq_ast.specs.Readings.{Reader}
 use Rattle.xq_parse.specs.declared.operand.Operand.{Operand}
@@ -47,3 +49,8 @@ abbrev pub relation_of : Relation → spec.Relation
 relation_of Into = spec.Relation.into
 relation_of Preceding = spec.Relation.preceding
 relation_of Following = spec.Relation.following
+
+-- the sign of an operator of a sum
+abbrev pub sign_of : Bool → Sign
+sign_of true = Minus
+sign_of false = Plus

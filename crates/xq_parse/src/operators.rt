@@ -2,6 +2,7 @@
 ghost use Rattle.std.specs.Prelude.{◌≡◌, ◌∷◌, IfOk};
 ghost use Rattle.xq_ast.specs.Grammar as grammar;
 ghost use Rattle.xq_ast.specs.Readings as spec;
+ghost use Rattle.xq_parse.specs.Operands.{sign_of};
 ghost use Rattle.xq_parse.specs.Reads.{Reads, Finds};
 
 use crate::ahead::{union_op, word};
@@ -92,6 +93,12 @@ fn signed_of(alloc: Global, signs: SignList, inner: Expr) -> Result<Expr, NoMemo
     })
 }
 
+fn sign_of(minus: bool) -> Sign
+    ensures { result ≡ sign_of minus }
+{
+    if minus { Sign::Minus } else { Sign::Plus }
+}
+
 impl<'a> Parser<'a> {
     /// Takes the operator of a comparison, where one comes next.
     fn compare_op(&mut self) -> Option<CompareOp>
@@ -157,13 +164,14 @@ impl<'a> Parser<'a> {
     {
         let mut signs = SignList::new(self.alloc());
         'signs: while let Some(minus) = self.sum_op() {
-            signs.push(if minus { Sign::Minus } else { Sign::Plus })?;
+            signs.push(sign_of(minus))?;
         }
         Ok(signs)
     }
 
     /// `And (or And)*`
     #[cycle(rows)]
+    #[tactic(auto, unfolding(xq_ast::specs::Readings::or))]
     pub(crate) fn or(&mut self, depth: usize) -> Result<Expr, ParseEnd>
         ensures { Reads (λ e. (e, self.new)) result (spec.or (spec.single depth) self.old) }
     {
@@ -177,6 +185,7 @@ impl<'a> Parser<'a> {
 
     /// `Comparison (and Comparison)*`
     #[cycle(rows)]
+    #[tactic(auto, unfolding(xq_ast::specs::Readings::and))]
     fn and(&mut self, depth: usize) -> Result<Expr, ParseEnd>
         ensures { Reads (λ e. (e, self.new)) result (spec.and (spec.single depth) self.old) }
     {
@@ -190,6 +199,7 @@ impl<'a> Parser<'a> {
 
     /// `Range [(= | != | < | <= | > | >=) Range]`
     #[cycle(rows)]
+    #[tactic(auto, unfolding(xq_ast::specs::Readings::comp))]
     fn comparison(&mut self, depth: usize) -> Result<Expr, ParseEnd>
         ensures { Reads (λ e. (e, self.new)) result (spec.comp (spec.single depth) self.old) }
     {
@@ -207,6 +217,7 @@ impl<'a> Parser<'a> {
 
     /// `Sum [to Sum]`
     #[cycle(rows)]
+    #[tactic(auto, unfolding(xq_ast::specs::Readings::range))]
     fn range(&mut self, depth: usize) -> Result<Expr, ParseEnd>
         ensures { Reads (λ e. (e, self.new)) result (spec.range (spec.single depth) self.old) }
     {
@@ -223,6 +234,7 @@ impl<'a> Parser<'a> {
 
     /// `Product ((+ | -) Product)*`
     #[cycle(rows)]
+    #[tactic(auto, unfolding(xq_ast::specs::Readings::sum))]
     fn sum(&mut self, depth: usize) -> Result<Expr, ParseEnd>
         ensures { Reads (λ e. (e, self.new)) result (spec.sum (spec.single depth) self.old) }
     {
@@ -237,6 +249,7 @@ impl<'a> Parser<'a> {
 
     /// `Union ((* | idiv | mod) Union)*`
     #[cycle(rows)]
+    #[tactic(auto, unfolding(xq_ast::specs::Readings::product))]
     fn product(&mut self, depth: usize) -> Result<Expr, ParseEnd>
         ensures { Reads (λ e. (e, self.new)) result (spec.product (spec.single depth) self.old) }
     {
@@ -251,6 +264,7 @@ impl<'a> Parser<'a> {
 
     /// `Signed ((| or the word union) Signed)*`
     #[cycle(rows)]
+    #[tactic(auto, unfolding(xq_ast::specs::Readings::union))]
     fn union(&mut self, depth: usize) -> Result<Expr, ParseEnd>
         ensures { Reads (λ e. (e, self.new)) result (spec.union (spec.single depth) self.old) }
     {
@@ -264,6 +278,7 @@ impl<'a> Parser<'a> {
 
     /// `(+ | -)* Path`
     #[cycle(rows)]
+    #[tactic(auto, unfolding(xq_ast::specs::Readings::signed))]
     fn signed(&mut self, depth: usize) -> Result<Expr, ParseEnd>
         ensures { Reads (λ e. (e, self.new)) result (spec.signed (spec.single depth) self.old) }
     {

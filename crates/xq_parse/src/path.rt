@@ -53,6 +53,7 @@ fn step_behind(deep: bool, step: Step) -> Step
 impl<'a> Parser<'a> {
     /// `[ Expr ]`, behind its opening bracket.
     #[cycle(rows)]
+    #[tactic(auto, unfolding(xq_ast::specs::Readings::pred))]
     fn predicate(&mut self, depth: usize) -> Result<Expr, ParseEnd>
         ensures { Reads (λ e. (e, self.new)) result (spec.pred (spec.single depth) self.old) }
     {
@@ -75,6 +76,7 @@ impl<'a> Parser<'a> {
 
     /// `(@ NameTest | .. | [Axis ::] Test) Predicate*`
     #[cycle(rows)]
+    #[tactic(auto, unfolding(xq_ast::specs::Readings::step))]
     fn step(&mut self, depth: usize) -> Result<Step, ParseEnd>
         ensures { Reads (λ step. (step, self.new)) result (spec.step (spec.single depth) self.old) }
     {
@@ -103,6 +105,7 @@ impl<'a> Parser<'a> {
 
     /// `Primary Predicate*`
     #[cycle(rows)]
+    #[tactic(auto, unfolding(xq_ast::specs::Readings::filtered))]
     fn filtered(&mut self, operand: Operand<'a>, depth: usize) -> Result<Expr, ParseEnd>
         ensures { Reads (λ e. (e, self.new)) result (spec.filtered (spec.single depth) (operand_of operand.entry) self.old) }
     {
@@ -113,6 +116,7 @@ impl<'a> Parser<'a> {
 
     /// `(Filter | Step) ((/ | //) Step)*`
     #[cycle(rows)]
+    #[tactic(auto, unfolding(xq_ast::specs::Readings::path))]
     pub(crate) fn path(&mut self, depth: usize) -> Result<Expr, ParseEnd>
         ensures { Reads (λ e. (e, self.new)) result (spec.path (spec.single depth) self.old) }
     {

@@ -42,6 +42,7 @@ impl<'a> Parser<'a> {
 
     /// `[Expr] )`
     #[cycle(rows)]
+    #[tactic(auto, unfolding(xq_ast::specs::Readings::content, crate::specs::Operands::group))]
     fn group(&mut self, depth: usize) -> Result<Expr, ParseEnd>
         ensures { Reads (λ e. (e, self.new)) result (group (spec.single depth) self.old) }
     {
@@ -57,6 +58,7 @@ impl<'a> Parser<'a> {
 
     /// `[Expr] }`
     #[cycle(rows)]
+    #[tactic(auto, unfolding(xq_ast::specs::Readings::content))]
     fn content(&mut self, depth: usize) -> Result<Option<Boxed<Expr>>, ParseEnd>
         ensures { Reads (λ content. (content, self.new)) result (spec.content spec.close_curly (spec.single depth) self.old) }
     {
@@ -70,6 +72,7 @@ impl<'a> Parser<'a> {
 
     /// `[Single (, Single)*] )`
     #[cycle(rows)]
+    #[tactic(auto, unfolding(xq_ast::specs::Readings::arguments))]
     fn arguments(&mut self, depth: usize) -> Result<ExprList, ParseEnd>
         ensures { Reads (λ args. (args, self.new)) result (spec.arguments (spec.single depth) self.old) }
     {
@@ -83,6 +86,7 @@ impl<'a> Parser<'a> {
 
     /// The primary expression that begins so.
     #[cycle(rows)]
+    #[tactic(auto, unfolding(xq_ast::specs::Readings::primary))]
     pub(crate) fn primary(&mut self, operand: Operand<'a>, depth: usize) -> Result<Expr, ParseEnd>
         ensures { Reads (λ e. (e, self.new)) result (spec.primary (spec.single depth) (operand_of operand.entry)) }
     {

@@ -58,6 +58,7 @@ fn sequence_of(parts: ExprList) -> Expr
 impl<'a> Parser<'a> {
     /// `Single (, Single)*`, as a list.
     #[cycle(rows)]
+    #[tactic(auto, unfolding(xq_ast::specs::Readings::list))]
     pub(crate) fn list(&mut self, depth: usize) -> Result<ExprList, ParseEnd>
         ensures { Reads (λ parts. (parts, self.new)) result (spec.list (spec.single depth) self.old) }
     {
@@ -71,6 +72,7 @@ impl<'a> Parser<'a> {
 
     /// `Single (, Single)*`
     #[cycle(rows)]
+    #[tactic(auto, unfolding(xq_ast::specs::Readings::expr))]
     pub(crate) fn expr(&mut self, depth: usize) -> Result<Expr, ParseEnd>
         ensures { Reads (λ e. (e, self.new)) result (spec.expr (spec.single depth) self.old) }
     {
@@ -80,6 +82,7 @@ impl<'a> Parser<'a> {
 
     /// `Flwor | If | Or`, where no more than `depth` single expressions stand in one another.
     #[cycle(rows)]
+    #[tactic(auto, unfolding(xq_ast::specs::Readings::single_over))]
     pub(crate) fn single(&mut self, depth: usize) -> Result<Expr, ParseEnd>
         ensures { Reads (λ e. (e, self.new)) result (spec.single depth self.old) }
     {
@@ -99,6 +102,7 @@ impl<'a> Parser<'a> {
 
     /// `$Name [at $Name] in Single`
     #[cycle(rows)]
+    #[tactic(auto, unfolding(xq_ast::specs::Readings::bind))]
     fn bind(&mut self, depth: usize) -> Result<Bind, ParseEnd>
         ensures { Reads (λ bind. (bind, self.new)) result (spec.bind (spec.single depth) self.old) }
     {
@@ -111,6 +115,7 @@ impl<'a> Parser<'a> {
 
     /// `Bind (, Bind)*`
     #[cycle(rows)]
+    #[tactic(auto, unfolding(xq_ast::specs::Readings::binds))]
     fn binds(&mut self, depth: usize) -> Result<BindList, ParseEnd>
         ensures { Reads (λ binds. (binds, self.new)) result (spec.binds (spec.single depth) self.old) }
     {
@@ -124,6 +129,7 @@ impl<'a> Parser<'a> {
 
     /// `$Name := Single`
     #[cycle(rows)]
+    #[tactic(auto, unfolding(xq_ast::specs::Readings::let_bind))]
     fn let_bind(&mut self, depth: usize) -> Result<Bind, ParseEnd>
         ensures { Reads (λ bind. (bind, self.new)) result (spec.let_bind (spec.single depth) self.old) }
     {
@@ -135,6 +141,7 @@ impl<'a> Parser<'a> {
 
     /// `$Name := Single (, $Name := Single)*`
     #[cycle(rows)]
+    #[tactic(auto, unfolding(xq_ast::specs::Readings::lets))]
     fn lets(&mut self, depth: usize) -> Result<BindList, ParseEnd>
         ensures { Reads (λ binds. (binds, self.new)) result (spec.lets (spec.single depth) self.old) }
     {
@@ -148,6 +155,7 @@ impl<'a> Parser<'a> {
 
     /// A clause behind its word.
     #[cycle(rows)]
+    #[tactic(auto, unfolding(xq_ast::specs::Readings::clause))]
     fn clause(&mut self, clause: ClauseWord, depth: usize) -> Result<BindList, ParseEnd>
         ensures { Reads (λ binds. (binds, self.new)) result (spec.clause (spec.single depth) (clause_word_of clause) self.old) }
     {
@@ -159,6 +167,7 @@ impl<'a> Parser<'a> {
 
     /// `(For | Let)+`
     #[cycle(rows)]
+    #[tactic(auto, unfolding(xq_ast::specs::Readings::clauses, xq_ast::specs::Readings::first_clause))]
     fn clauses(&mut self, depth: usize) -> Result<BindList, ParseEnd>
         ensures { Reads (λ binds. (binds, self.new)) result (spec.clauses (spec.single depth) self.old) }
     {
@@ -174,6 +183,7 @@ impl<'a> Parser<'a> {
 
     /// `[where Single]`
     #[cycle(rows)]
+    #[tactic(auto, unfolding(xq_ast::specs::Readings::filter))]
     fn filter(&mut self, depth: usize) -> Result<Option<Boxed<Expr>>, ParseEnd>
         ensures { Reads (λ filter. (filter, self.new)) result (spec.filter (spec.single depth) self.old) }
     {
@@ -186,6 +196,7 @@ impl<'a> Parser<'a> {
 
     /// `Single [ascending | descending]`
     #[cycle(rows)]
+    #[tactic(auto, unfolding(xq_ast::specs::Readings::sort_key))]
     fn sort_key(&mut self, depth: usize) -> Result<SortKey, ParseEnd>
         ensures { Reads (λ key. (key, self.new)) result (spec.sort_key (spec.single depth) self.old) }
     {
@@ -196,6 +207,7 @@ impl<'a> Parser<'a> {
 
     /// `Key (, Key)*`
     #[cycle(rows)]
+    #[tactic(auto, unfolding(xq_ast::specs::Readings::sort_keys))]
     fn sort_keys(&mut self, depth: usize) -> Result<SortKeyList, ParseEnd>
         ensures { Reads (λ keys. (keys, self.new)) result (spec.sort_keys (spec.single depth) self.old) }
     {
@@ -209,6 +221,7 @@ impl<'a> Parser<'a> {
 
     /// `[order by Key (, Key)*]`
     #[cycle(rows)]
+    #[tactic(auto, unfolding(xq_ast::specs::Readings::order))]
     fn order(&mut self, depth: usize) -> Result<SortKeyList, ParseEnd>
         ensures { Reads (λ keys. (keys, self.new)) result (spec.order (spec.single depth) self.old) }
     {
@@ -220,6 +233,7 @@ impl<'a> Parser<'a> {
 
     /// `(For | Let)+ [where Single] [order by Key (, Key)*] return Single`
     #[cycle(rows)]
+    #[tactic(auto, unfolding(xq_ast::specs::Readings::flwor))]
     fn flwor(&mut self, depth: usize) -> Result<Expr, ParseEnd>
         ensures { Reads (λ e. (e, self.new)) result (spec.flwor (spec.single depth) self.old) }
     {
@@ -238,6 +252,7 @@ impl<'a> Parser<'a> {
 
     /// `Expr ) then Single else Single`, behind `if (`.
     #[cycle(rows)]
+    #[tactic(auto, unfolding(xq_ast::specs::Readings::an_if))]
     fn conditional(&mut self, depth: usize) -> Result<Expr, ParseEnd>
         ensures { Reads (λ e. (e, self.new)) result (spec.an_if (spec.single depth) self.old) }
     {

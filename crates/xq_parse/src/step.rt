@@ -120,6 +120,7 @@ impl<'a> Parser<'a> {
     }
 
     /// `@ NameTest | .. | [Axis ::] Test`
+    #[tactic(auto, unfolding(xq_ast::specs::Readings::bare_step))]
     pub(crate) fn bare_step(&mut self) -> Result<BareStep, ParseEnd>
         ensures { Reads (λ s. ((s.axis, s.test), self.new)) result (spec.bare_step self.old) }
     {
