@@ -19,7 +19,7 @@ use Rattle.xq_parse.proofs.Taken.{bind_some, some_is, same_bytes, Front, Takes, 
 use Rattle.xq_parse.proofs.Sound.{single_takes, expr_takes}
 use Rattle.xq_parse.proofs.Turns.{then_is}
 use Rattle.xq_parse.proofs.Follow.{rank, word_rank, word_rank_is}
-use Rattle.xq_parse.proofs.Nesting.{nest, nest-left, nest-right}
+use Rattle.xq_parse.proofs.Balance.{nest, nest-left, nest-right}
 use Rattle.xq_parse.proofs.Complete.{Ends, single_starts, expr_read}
 use Rattle.xq_parse.proofs.Singles.{single_read}
 

@@ -39,7 +39,7 @@ use Rattle.xq_parse.proofs.Taken.{Takes, TakesToken, comma_takes, open_square_ta
 use Rattle.xq_parse.proofs.Sound as sound
 use Rattle.xq_parse.proofs.Turns.{Shrinking, shrinking, items_turn, items_stop, items_next, followed_at, followed_over, paired_alone, paired_both, then_is}
 use Rattle.xq_parse.proofs.Follow.{is_curly, word_rank, rank, word_none, or_none, and_none, to_none, compare_none, sum_none, product_none, union_none, slash_none, square_none, behind_none, begins_path, starts, path_append, starts_append, path_starts, no_signs, starts_no_curly, starts_no_close_round, starts_no_close_curly, word_rank_is}
-use Rattle.xq_parse.proofs.Nesting.{words, nest, nest-left, nest-right, nest-before_word, nest-behind_word, words-right, nest-inside, Balanced, expr_balanced, content_balanced, arguments_balanced}
+use Rattle.xq_parse.proofs.Balance.{words, nest, nest-left, nest-right, nest-before_word, nest-behind_word, words-right, nest-inside, Balanced, expr_balanced, content_balanced, arguments_balanced}
 
 -- ---- how rows begin
 

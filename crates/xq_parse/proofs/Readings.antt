@@ -17,7 +17,7 @@ use Rattle.xq_ast.specs.Variables.{has_bound_variables}
 use Rattle.xq_ast.specs.Parsed as answers
 use Rattle.xq_ast.specs.Parsed.{Parsed, IsRead, is_nested_well, most_open, is_nesting_word}
 use Rattle.xq_ast.specs.Readings.{single, call_over, call_of, passed, named_well, read_tokens, parsed}
-use Rattle.xq_parse.proofs.Nesting.{nest, words}
+use Rattle.xq_parse.proofs.Balance.{nest, words}
 use Rattle.xq_parse.proofs.Calls as calls
 
 -- no tokens are two calls
