@@ -126,7 +126,7 @@ abbrev pub CoveredBy : Transaction → BeginKind → Type 0
 CoveredBy t kinds.Updating = AllCovered t.locks (ran_all t.replies)
 CoveredBy t (kinds.Reading n) = Unit {0}
 
--- the same of an open transaction, where there is one
+-- the locks of an open transaction, if it is an updating one, cover all calls that ran in it
 abbrev pub CoveredIn : Option Transaction → Type 0
 CoveredIn None = Unit {0}
 CoveredIn (Some t) = CoveredBy t t.kind

@@ -77,6 +77,6 @@ abbrev pub IsFailureOf : Event → List Event → Type 0
 IsFailureOf (Answered s reply) past = FailsRightly (state s past) reply.call reply.says
 IsFailureOf _ past = Unit {0}
 
--- the clause `marks` of one event: its mark begins where the one before ended or later, and has a call for it
+-- the clause `marks` of one event: its mark begins where the last one ended, or later, and it fails only where it may
 abbrev pub MarksAt : Event → List Event → Type 0
 MarksAt e past = IfSome (mark_of e) (IsNextMark past) × IsFailureOf e past

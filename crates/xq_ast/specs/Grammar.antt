@@ -110,7 +110,7 @@ step way what preds = record { deep = false; axis = way; test = what; preds = pr
 abbrev pub step_behind : Bool → Step → Step
 step_behind deep s = record { deep = deep; axis = s.axis; test = s.test; preds = s.preds }
 
--- = | != | < | <= | > | >=
+-- the symbol of a comparison: =, !=, <, <=, > or >=
 abbrev pub compare_symbol : CompareOp → Symbol
 compare_symbol compare.Eq = Equal
 compare_symbol compare.Ne = NotEqual
@@ -119,7 +119,7 @@ compare_symbol compare.Le = LessOrEqual
 compare_symbol compare.Gt = Greater
 compare_symbol compare.Ge = GreaterOrEqual
 
--- + | -
+-- the symbol of a sign: + or -
 abbrev pub sign_symbol : Sign → Symbol
 sign_symbol sign.Plus = Plus
 sign_symbol sign.Minus = Minus

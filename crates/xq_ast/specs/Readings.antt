@@ -49,32 +49,32 @@ Reader A = List Token → Option (A × List Token)
 
 -- ---- looking ahead: what stands behind a token or two, where the tokens begin with them
 
--- ,
+-- what stands behind a comma, where the tokens begin with one
 abbrev pub comma : List Token → Option (List Token)
 comma (Mark Comma ∷ ts) = Some ts
 comma _ = None
 
--- )
+-- what stands behind a closing round bracket, where the tokens begin with one
 abbrev pub close_round : List Token → Option (List Token)
 close_round (Mark CloseRound ∷ ts) = Some ts
 close_round _ = None
 
--- ]
+-- what stands behind a closing square bracket, where the tokens begin with one
 abbrev pub close_square : List Token → Option (List Token)
 close_square (Mark CloseSquare ∷ ts) = Some ts
 close_square _ = None
 
--- }
+-- what stands behind a closing curly bracket, where the tokens begin with one
 abbrev pub close_curly : List Token → Option (List Token)
 close_curly (Mark CloseCurly ∷ ts) = Some ts
 close_curly _ = None
 
--- [
+-- what stands behind an opening square bracket, where the tokens begin with one
 abbrev pub open_square : List Token → Option (List Token)
 open_square (Mark OpenSquare ∷ ts) = Some ts
 open_square _ = None
 
--- :=
+-- what stands behind :=, where the tokens begin with it
 abbrev pub assign : List Token → Option (List Token)
 assign (Mark Assign ∷ ts) = Some ts
 assign _ = None
@@ -89,7 +89,7 @@ abbrev pub two_words : List ℕ → List ℕ → List Token → Option (List Tok
 two_words v w (Name first ∷ Name second ∷ ts) = if bytes_eq first v && bytes_eq second w then Some ts else None
 two_words v w _ = None
 
--- Name
+-- the name that the tokens begin with
 abbrev pub a_name : Reader (List ℕ)
 a_name (Name name ∷ ts) = Some (name, ts)
 a_name _ = None
@@ -115,7 +115,7 @@ sum_op (Mark Plus ∷ ts) = Some (false, ts)
 sum_op (Mark Minus ∷ ts) = Some (true, ts)
 sum_op _ = None
 
--- * or one of the words idiv and mod
+-- the operator of a product: *, or one of the words idiv and mod
 abbrev pub product_op : Reader ProductOp
 product_op (Mark Star ∷ ts) = Some (Times, ts)
 product_op (Name w ∷ ts) = if bytes_eq w (codes "idiv") then Some (Idiv, ts) else if bytes_eq w (codes "mod") then Some (Mod, ts) else None
@@ -602,7 +602,7 @@ pub data Relation : Type 0 where
   preceding : Relation
   following : Relation
 
--- into | preceding | following
+-- where an insert puts its nodes, by one of the words into, preceding and following
 abbrev pub relation : Reader Relation
 relation (Name w ∷ ts) =
     if bytes_eq w (codes "into") then Some (Relation.into, ts)

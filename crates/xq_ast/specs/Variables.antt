@@ -34,7 +34,7 @@ abbrev pub all_bound : List PartTest → PartTest
 all_bound [] bound = true
 all_bound (p ∷ ps) bound = p bound && all_bound ps bound
 
--- all variables of a part are bound where it is there
+-- all variables of a part that may be there are bound, if it is
 abbrev pub if_there : Option PartTest → PartTest
 if_there None bound = true
 if_there (Some p) bound = p bound

@@ -71,7 +71,7 @@ utf8_glued xs ys c ascii u v = IsUtf8-append (xs ++ c ∷ []) ys (IsUtf8-append 
 pub behind_ascii : (b : ℕ) (bytes : List ℕ) → b < 128 → IsBehind (b ∷ bytes) bytes
 behind_ascii b bytes ascii = record { less = omega arith; utf8 = λ xs u. utf8_after xs bytes b ascii u }
 
--- one may step over any byte to a rest that is stepped to later
+-- what may be stepped to from some bytes may be stepped to from one byte before them
 pub behind_any : (b : ℕ) (bytes rest : List ℕ) → IsBehind bytes rest → IsBehind (b ∷ bytes) rest
 behind_any b bytes rest h =
     record { less = omega (arith, h.less); utf8 = λ xs u. h.utf8 (xs ++ b ∷ []) (subst IsUtf8 (sym (append_assoc xs (b ∷ []) bytes)) u) }

@@ -240,7 +240,7 @@ name_then : (w x : List ℕ) (us : List Token) → begins (Name w ∷ Name x ∷
 name_then w x (Mark OpenCurly ∷ us) = refl
 name_then w x _ = refl
 
--- tokens that begin as an expression may, without a keyword, and go on without operator are read as an Or
+-- tokens that begin as an expression may but with no keyword, and go on with no operator, begin an Or
 pub begins_or : (ts left : List Token) → starts ts ≡ true → is_keyword ts ≡ false → rank left < 1 → begins (ts ++ left) ≡ Begins.an_or
 begins_or [] left h k less = cc
 begins_or (Name w ∷ []) left h k less = ap (named_begins w) (behind_none left (omega arith))
@@ -256,7 +256,7 @@ bind_begins (grammar.IsBind.bind_at d) left = refl
 let_begins : {ts : List Token} {b : Bind} → IsLet ts b → (left : List Token) → begins (Name (codes "let") ∷ (ts ++ left)) ≡ Begins.a_flwor
 let_begins (grammar.IsLet.let_bind d) left = refl
 
--- tokens that begin with a clause are read as a Flwor
+-- tokens that begin with a clause begin a Flwor
 pub clause_flwor : {ts : List Token} {bs : List Bind} → IsClause ts bs → (left : List Token) → begins (ts ++ left) ≡ Begins.a_flwor
 clause_flwor (grammar.IsClause.for_clause {ts = us} {us = vs} p q) left = ap (λ x. begins (Name (codes "for") ∷ x)) (append_assoc us vs left) ∙ bind_begins p (vs ++ left)
 clause_flwor (grammar.IsClause.let_clause {ts = us} {us = vs} p q) left = ap (λ x. begins (Name (codes "let") ∷ x)) (append_assoc us vs left) ∙ let_begins p (vs ++ left)
@@ -278,14 +278,14 @@ bind_rank (grammar.IsBind.bind_at d) w left = refl
 let_rank : {ts : List Token} {b : Bind} → IsLet ts b → (w : List ℕ) (left : List Token) → rank (Name w ∷ (ts ++ left)) ≡ word_rank w false
 let_rank (grammar.IsLet.let_bind d) w left = refl
 
--- before a clause what stands there ends: with no operator and no comma
+-- tokens that begin with a clause begin with no operator and no comma
 pub clause_ends : {ts : List Token} {bs : List Bind} → IsClause ts bs → (left : List Token) → Ends (ts ++ left)
 clause_ends (grammar.IsClause.for_clause {ts = us} {us = vs} p q) left =
     record { loose = omega (arith, ap (λ x. rank (Name (codes "for") ∷ x)) (append_assoc us vs left), bind_rank p (codes "for") (vs ++ left)); no_comma = refl }
 clause_ends (grammar.IsClause.let_clause {ts = us} {us = vs} p q) left =
     record { loose = omega (arith, ap (λ x. rank (Name (codes "let") ∷ x)) (append_assoc us vs left), let_rank p (codes "let") (vs ++ left)); no_comma = refl }
 
--- before clauses what stands there ends, if it does before what follows them
+-- clauses and what follows them begin with no operator and no comma, if what follows does not
 pub clauses_end : {ts : List Token} {bs : List Bind} → IsClauses ts bs → (left : List Token) → Ends left → Ends (ts ++ left)
 clauses_end grammar.IsClauses.no_clause left h = h
 clauses_end (grammar.IsClauses.clause {ts = us} {us = vs} p q) left h = subst Ends (sym (append_assoc us vs left)) (clause_ends p (vs ++ left))
@@ -300,16 +300,16 @@ pub record EndsWhere (ts : List Token) : Type 0 where
   pub clauses : EndsClauses ts
   pub no_where : word (codes "where") ts ≡ None
 
--- before `return` and an expression the clauses end, also without `where`
+-- `return` and an expression begin with no operator, comma, clause or `where`
 pub return_ends : (us left : List Token) → starts us ≡ true → EndsWhere (Name (codes "return") ∷ (us ++ left))
 return_ends us left h = record { clauses = record { ends = word_ends (codes "return") us left h (omega arith); no_clause = refl }; no_where = refl }
 
--- before [order by Key (, Key)*] the clauses end, also without `where`, if they do before what follows it
+-- [order by Key (, Key)*] begins with no operator, comma, clause or `where`, if what follows it does not
 pub order_ends : {ts : List Token} {ks : List SortKey} → IsOrder ts ks → (left : List Token) → EndsWhere left → EndsWhere (ts ++ left)
 order_ends grammar.IsOrder.no_order left h = h
 order_ends (grammar.IsOrder.order p q) left h = record { clauses = record { ends = record { loose = omega arith; no_comma = refl }; no_clause = refl }; no_where = refl }
 
--- before [where Single] the clauses end, if they do before what follows it
+-- [where Single] begins with no operator, comma or clause, if what follows it does not, nor with `where`
 pub where_ends : {ts : List Token} {o : Option Expr} → IsWhere ts o → (left : List Token) → EndsWhere left → EndsClauses (ts ++ left)
 where_ends grammar.IsWhere.no_where left h = h.clauses
 where_ends (grammar.IsWhere.a_where {ts = us} d) left h = record { ends = word_ends (codes "where") us left (single_starts d) (omega arith); no_clause = refl }

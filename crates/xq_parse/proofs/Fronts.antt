@@ -30,7 +30,7 @@ pub behind-append : (word rest : List ℕ) → behind word (word ++ rest) ≡ So
 behind-append [] rest = refl
 behind-append (w ∷ word) rest = rw (nat_eq-same w) (behind-append word rest)
 
--- bytes after whose first word something stands are the word and that
+-- where something was found after a word, the bytes are the word and that
 pub behind-whole : (word bytes rest : List ℕ) → behind word bytes ≡ Some rest → bytes ≡ word ++ rest
 behind-whole [] bytes rest e = cc
 behind-whole (w ∷ word) [] rest e = cc

@@ -252,7 +252,7 @@ union_op_takes = record { takes = go }
         by_test false other f = cc
     go _ r e = cc
 
--- // or /
+-- the token of a slash: // where it is deep, and else /
 abbrev pub slash_token : Bool → Token
 slash_token true = Mark SlashSlash
 slash_token false = Mark Slash
@@ -266,7 +266,7 @@ slash_takes = record { takes = go }
     go (Mark SlashSlash ∷ ts) r e = stands_sound (Mark SlashSlash ∷ []) true _ ts r refl e refl
     go _ r e = cc
 
--- - or +
+-- the token of an operator of a sum: - where it is minus, and else +
 abbrev pub sum_token : Bool → Token
 sum_token true = Mark Minus
 sum_token false = Mark Plus
@@ -280,7 +280,7 @@ sum_op_takes = record { takes = go }
     go (Mark Minus ∷ ts) r e = stands_sound (Mark Minus ∷ []) true _ ts r refl e refl
     go _ r e = cc
 
--- * or one of the words idiv and mod
+-- the token of an operator of a product: *, or one of the words idiv and mod
 abbrev pub product_token : ProductOp → Token
 product_token Times = Mark Star
 product_token Idiv = Name (codes "idiv")
@@ -326,7 +326,7 @@ variable_takes = record { takes = go }
     go (Mark Dollar ∷ Name name ∷ ts) r e = stands_sound (Mark Dollar ∷ Name name ∷ []) name _ ts r refl e refl
     go _ r e = cc
 
--- one of the words for and let
+-- the token of a clause's word: for or let
 abbrev pub clause_token : ClauseWord → Token
 clause_token ClauseWord.for_word = Name (codes "for")
 clause_token ClauseWord.let_word = Name (codes "let")
