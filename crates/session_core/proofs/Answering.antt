@@ -560,6 +560,7 @@ module _ (B : Base) (past : List Event) (s : ℕ) where
   page_order : (call : Call) → makes_pages call ≡ true → IsBehindSettling Updating (Some call) (says.Error (codes.Spent spent.Page last_number))
   page_order (Create name) is = refl
   page_order (Load name pyx_lines) is = refl
+  page_order (Update what) is = refl
   page_order call is = absurd (true≢false (sym is))
 
   finding_no_page : AtEach LocksAt past → (call : Call) (answer : Says) → FindsNoPage s call answer past → Keeps (Some call) answer
