@@ -1,0 +1,2 @@
+-- Worked rows of the definitions.
+mod Rows
