@@ -1,2 +1,5 @@
--- Worked rows of the definitions.
+-- Lemmas and worked rows.
 mod Rows
+mod Looking
+mod Running
+mod Spaces

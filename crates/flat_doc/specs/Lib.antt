@@ -3,3 +3,6 @@ pub mod Pieces
 pub mod Reading
 pub mod Meaning
 pub mod Putting
+pub mod Inside
+pub mod Lines
+pub mod Sink

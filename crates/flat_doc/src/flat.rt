@@ -1,0 +1,40 @@
+//! The two calls.
+ghost use Rattle.std.specs.Prelude.{◌≡◌, List, ℕ, Option, OnOk, IfErr, MatchResult};
+ghost use Rattle.page_bytes.specs.declared.ids.PageId.{PageId};
+ghost use Rattle.page_bytes.specs.declared.end.PageEnd.TheVariants.{NoMemory};
+ghost use Rattle.page_bytes.specs.Answers.{IsStop};
+ghost use Rattle.page_bytes.specs.Seen.{seen};
+ghost use Rattle.xml_model.specs.declared.node.Doc.{Doc};
+ghost use Rattle.xml_model.specs.Document.{IsValid};
+ghost use Rattle.xml_model.specs.Pyx.{pyx, text_of};
+ghost use Rattle.flat_doc.specs.Putting.{with_text, KeepsOthers};
+ghost use Rattle.flat_doc.specs.Reading.{IsFlatDoc};
+ghost use Rattle.flat_doc.specs.Meaning.{StandsForFlat};
+
+use crate::pieces::text_length;
+use crate::putting::{pages_of, put_pages};
+use crate::reading::read_text;
+use page_bytes::{PageEnd, Pages, Space, Workspace};
+use std::alloc::Global;
+use xml_model::Doc;
+
+/// Puts a document's canonical text on the pages of a space, which is opened anew: what it had before is gone. After want of
+/// memory the workspace is of no use, and the caller drops it.
+pub fn put_flat(alloc: Global, doc: &Doc, space: Space, work: &mut Workspace) -> Result<(), PageEnd>
+    ensures pages { OnOk result (work.new ≡ with_text work.old space (text_of (pyx doc.now))) }
+    ensures err { IfErr result (λ end. end ≡ NoMemory) }
+    ensures others { OnOk result (KeepsOthers space work.old work.new) }
+    ensures meaning { IsValid doc.now → OnOk result ((all : PageId → Option (List ℕ)) → StandsForFlat (seen work.new.now all space) doc.now) }
+{
+    let pages = pages_of(alloc, doc)?;
+    put_pages(work, space, pages)
+}
+
+/// The document that stands on the pages of a space.
+pub fn get_flat<P: Pages>(alloc: Global, pages: &P, space: Space) -> Result<Doc, PageEnd>
+    ensures doc { IsFlatDoc (P.known pages.now) space result }
+    ensures meaning { (all : PageId → Option (List ℕ)) (doc : Doc) → StandsForFlat (seen (P.known pages.now) all space) doc → MatchResult result (λ read. read ≡ doc) (λ end. IsStop (P.known pages.now) all space end) }
+{
+    let length = text_length(pages, space)?;
+    read_text(alloc, pages, space, length)
+}
