@@ -3,3 +3,5 @@ mod Rows
 mod Looking
 mod Running
 mod Spaces
+mod Spelled
+mod UpTo

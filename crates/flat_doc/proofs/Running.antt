@@ -10,7 +10,7 @@ use Rattle.flat_doc.specs.Putting.{page_of, pages_of, flat_pages}
 use Rattle.flat_doc.specs.Sink.{running, AreFull, IsOpen, IsWritten, HasRoom, with_length}
 
 -- more than all of the first list is taken, or dropped
-take-past : {A : Type 0} (n : ℕ) (xs ys : List A) → length xs ≤ n → take n (xs ++ ys) ≡ xs ++ take (n - length xs) ys
+pub take-past : {A : Type 0} (n : ℕ) (xs ys : List A) → length xs ≤ n → take n (xs ++ ys) ≡ xs ++ take (n - length xs) ys
 take-past n [] ys le = ap (λ m. take m ys) (omega arith)
 take-past zero (x ∷ xs) ys le = absurd (omega (arith, le))
 take-past (suc n) (x ∷ xs) ys le =

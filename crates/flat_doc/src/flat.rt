@@ -7,7 +7,7 @@ ghost use Rattle.page_bytes.specs.Seen.{seen};
 ghost use Rattle.xml_model.specs.declared.node.Doc.{Doc};
 ghost use Rattle.xml_model.specs.Document.{IsValid};
 ghost use Rattle.xml_model.specs.Pyx.{pyx, text_of};
-ghost use Rattle.flat_doc.specs.Putting.{with_text, KeepsOthers};
+ghost use Rattle.flat_doc.specs.Putting.{with_text};
 ghost use Rattle.flat_doc.specs.Reading.{IsFlatDoc};
 ghost use Rattle.flat_doc.specs.Meaning.{StandsForFlat};
 
@@ -23,7 +23,6 @@ use xml_model::Doc;
 pub fn put_flat(alloc: Global, doc: &Doc, space: Space, work: &mut Workspace) -> Result<(), PageEnd>
     ensures pages { OnOk result (work.new ≡ with_text work.old space (text_of (pyx doc.now))) }
     ensures err { IfErr result (λ end. end ≡ NoMemory) }
-    ensures others { OnOk result (KeepsOthers space work.old work.new) }
     ensures meaning { IsValid doc.now → OnOk result ((all : PageId → Option (List ℕ)) → StandsForFlat (seen work.new.now all space) doc.now) }
 {
     let pages = pages_of(alloc, doc)?;

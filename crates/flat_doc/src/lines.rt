@@ -1,5 +1,5 @@
 //! A text that comes in pieces, read as a document line by line.
-ghost use Rattle.std.specs.Prelude.{◌≡◌, ◌∷◌, ◌++◌, [], List, ℕ};
+ghost use Rattle.std.specs.Prelude.{◌≡◌, ◌∷◌, ◌++◌, [], List, ℕ, OnOk, IsUtf8};
 ghost use Rattle.page_bytes.specs.declared.end.PageEnd.TheVariants.{Damaged};
 ghost use Rattle.page_bytes.specs.Head.{head_of};
 ghost use Rattle.flat_doc.specs.Lines.{IsRead, Reads, GivesDoc};
@@ -40,7 +40,10 @@ impl Lines {
         ensures read { (text : List ℕ) → IsRead text self.old.reader self.old.line.items → Reads self.old.space (text ++ bytes.now) result self.new.reader self.new.line.items }
     {
         for byte in bytes {
-            self.read_byte(*byte)?;
+            match self.read_byte(*byte) {
+                Ok(()) => {}
+                Err(end) => return Err(end),
+            }
         }
         Ok(())
     }
@@ -61,32 +64,18 @@ impl Lines {
     // Gives the reader the line, which is whole.
     fn take_line(&mut self) -> Result<(), PageEnd>
         ensures space { self.new.space ≡ self.old.space }
+        ensures empty { OnOk result (self.new.line.items ≡ []) }
         ensures read { (text : List ℕ) → IsRead text self.old.reader self.old.line.items → Reads self.old.space (text ++ 10 ∷ []) result self.new.reader self.new.line.items }
     {
         let bytes = mem::replace(&mut self.line, Vec::new(self.alloc));
         let Ok(text) = String::from_utf8(bytes) else {
-            return Err(self.damaged());
+            return Err(damaged(self.space));
         };
         let line = Str::from_string(text);
-        let taken = self.reader.line(&line);
+        let taken = give(&mut self.reader, self.space, &line);
         self.line = line.into_string().into_bytes();
         self.line.clear();
-        match taken {
-            Ok(()) => Ok(()),
-            Err(PyxFault::Refused(_)) => Err(self.damaged()),
-            Err(PyxFault::NoMemory) => Err(PageEnd::NoMemory),
-        }
-    }
-
-    fn damaged(&self) -> PageEnd
-        ensures { result ≡ Damaged (head_of self.now.space) }
-    {
-        PageEnd::Damaged {
-            page: PageId {
-                space: self.space,
-                number: 0,
-            },
-        }
+        taken
     }
 
     /// The document, once the whole text has been read.
@@ -94,19 +83,44 @@ impl Lines {
         ensures { (text : List ℕ) → IsRead text self.reader self.line.items → GivesDoc self.space text result }
     {
         let mut lines = self;
-        if !lines.line.is_empty() {
-            lines.take_line()?;
+        if lines.line.is_empty() {
+            return lines.finish();
         }
-        let damaged = lines.damaged();
-        let Lines {
-            reader,
-            line: _,
-            ..
-        } = lines;
+        match lines.take_line() {
+            Ok(()) => lines.finish(),
+            Err(end) => Err(end),
+        }
+    }
+
+    // The document, where no line has begun.
+    fn finish(self) -> Result<Doc, PageEnd>
+        ensures { (text : List ℕ) → IsRead text self.reader [] → GivesDoc self.space text result }
+    {
+        let Lines { reader, space, .. } = self;
         match reader.end() {
             Ok(doc) => Ok(doc),
-            Err(PyxFault::Refused(_)) => Err(damaged),
+            Err(PyxFault::Refused(_)) => Err(damaged(space)),
             Err(PyxFault::NoMemory) => Err(PageEnd::NoMemory),
         }
+    }
+}
+
+fn damaged(space: Space) -> PageEnd
+    ensures { result ≡ Damaged (head_of space) }
+{
+    PageEnd::Damaged {
+        page: PageId { space, number: 0 },
+    }
+}
+
+// Gives a reader a line.
+fn give(reader: &mut PyxReader, space: Space, line: &Str) -> Result<(), PageEnd>
+    requires { IsUtf8 line.now }
+    ensures { (text : List ℕ) → IsRead text reader.old line.now → Reads space (text ++ 10 ∷ []) result reader.new [] }
+{
+    match reader.line(line) {
+        Ok(()) => Ok(()),
+        Err(PyxFault::Refused(_)) => Err(damaged(space)),
+        Err(PyxFault::NoMemory) => Err(PageEnd::NoMemory),
     }
 }

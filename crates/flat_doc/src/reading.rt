@@ -24,9 +24,15 @@ pub fn read_text<P: Pages>(
     let mut number = 0;
     let mut at = PIECE_AT + LENGTH_BYTES;
     while left > 0 {
-        let page = flat_page(pages, space, number)?;
+        let page = match flat_page(pages, space, number) {
+            Ok(page) => page,
+            Err(end) => return Err(end),
+        };
         let count = left.min((PAGE_BYTES - at) as u64) as usize;
-        lines.read(read_bytes(page, at, count))?;
+        match lines.read(read_bytes(page, at, count)) {
+            Ok(()) => {}
+            Err(end) => return Err(end),
+        }
         left -= count as u64;
         number += 1;
         at = PIECE_AT;
