@@ -5,3 +5,4 @@ mod Running
 mod Spaces
 mod Spelled
 mod UpTo
+mod Standing

@@ -132,15 +132,15 @@ answers k all space doc r stands is = by (text_answer k all space stands.text st
     by : TextAnswer k all space stands.text → (r : Result Doc PageEnd) → IsFlatDoc k space r → MatchResult r (λ read. read ≡ doc) (λ end. IsStop k all space end)
     by (inl text) (Ok other) (found, (is, spells)) =
         let same : found ≡ stands.text = ap (value_of found) (sym is ∙ text) in
-        let both : Ok {T = Doc} {E = RefusedLine} other ≡ Ok doc = sym spells.reads ∙ ap (λ t. read (split_lines t)) same ∙ stands.spells.reads in
+        let both : ◌≡◌ {A = Result Doc RefusedLine} (Ok other) (Ok doc) = sym spells.reads ∙ ap (λ t. read (split_lines t)) same ∙ stands.spells.reads in
         ap (doc_of other) both
     by (inl text) (Err end) (inl out) = inl out
     by (inl text) (Err end) (inr (inl refused)) = absurd (true≢false (ap is_ok (sym text ∙ refused)))
-    by (inl text) (Err end) (inr (inr (found, (is, (inl bad, damaged))))) = absurd (bad (subst IsUtf8 (ap (value_of stands.text) (sym text ∙ is)) stands.spells.utf8))
-    by (inl text) (Err end) (inr (inr (found, (is, (inr bad, damaged))))) =
+    by (inl text) (Err end) (inr (inr (found, (is, inl bad, damaged)))) = absurd (bad (subst IsUtf8 (ap (value_of stands.text) (sym text ∙ is)) stands.spells.utf8))
+    by (inl text) (Err end) (inr (inr (found, (is, inr bad, damaged)))) =
         let same : stands.text ≡ found = ap (value_of stands.text) (sym text ∙ is) in
         absurd (true≢false (sym bad ∙ ap is_err (ap (λ t. read (split_lines t)) (sym same) ∙ stands.spells.reads)))
     by (inr (needed, (refused, need))) (Ok other) (found, (is, spells)) = absurd (true≢false (ap is_ok (sym is ∙ refused)))
     by (inr (needed, (refused, need))) (Err end) (inl out) = inl out
     by (inr (needed, (refused, need))) (Err end) (inr (inl stopped)) = inr (subst (IsNeed k all space) (ap (end_of needed) (sym refused ∙ stopped)) need)
-    by (inr (needed, (refused, need))) (Err end) (inr (inr (found, (is, other)))) = absurd (true≢false (ap is_ok (sym is ∙ refused)))
+    by (inr (needed, (refused, need))) (Err end) (inr (inr (found, (is, bad, damaged)))) = absurd (true≢false (ap is_ok (sym is ∙ refused)))

@@ -1,5 +1,5 @@
 -- How far the text of pages has been read.
-use Rattle.std.proofs.Common.{◌≡◌, ◌⊎◌, inl, inr, ℕ, zero, suc, ◌+◌, ◌-◌, ◌*◌, ◌/◌, ◌%◌, ◌<◌, ◌≤◌, min, List, [], ◌∷◌, ◌++◌, length, take, drop, Result, Ok, Err, is_ok, true≢false, refl, sym, ap, ◌∙◌, subst, arith}
+use Rattle.std.proofs.Common.{◌≡◌, ◌⊎◌, inl, inr, ℕ, zero, suc, ◌+◌, ◌-◌, ◌*◌, ◌/◌, ◌%◌, ◌<◌, ◌≤◌, ◌^◌, min, List, [], ◌∷◌, ◌++◌, length, take, drop, Result, Ok, Err, is_ok, true≢false, refl, sym, ap, ◌∙◌, subst, arith}
 use Rattle.std.proofs.lemmas.List.{append_assoc, append-nil, length-append, length-drop, take_all, take-append-le, drop-append-le, drop-drop}
 use Rattle.std.proofs.lemmas.Bool.{cases_lt}
 use Rattle.std.proofs.lemmas.Nat.{div-add-mod', mod_below}
@@ -28,12 +28,13 @@ pub record IsUpTo (k : Known) (space : Space) (number at left : ℕ) (reading : 
   pub whole : flat_text k space ≡ Ok (text ++ take left (drop (at - 1) rest))
   pub enough : at - 1 + left ≤ length rest
   pub at_least : 1 ≤ at
-  pub at_most : at ≤ 4096
+  pub at_most : at ≤ 9
+  pub fits : number + count ≤ 18446744073709551615
 
 -- at first all of it is left
-pub none_up_to : (k : Known) (space : Space) (n : ℕ) (reading : Result Reading RefusedLine) (line : List ℕ) → HasLength k space n → IsRead [] reading line
+pub none_up_to : (k : Known) (space : Space) (n : ℕ) (reading : Result Reading RefusedLine) (line : List ℕ) → HasLength k space n → n < 2 ^ 64 → IsRead [] reading line
     → IsUpTo k space 0 9 n reading line
-none_up_to k space n reading line has is =
+none_up_to k space n reading line has small is =
     let x = 8 + n + 4094 in
     let parts : x / 4095 * 4095 + x % 4095 ≡ x = div-add-mod' x 4095 in
     let below : x % 4095 < 4095 = mod_below x 4095 (omega arith) in
@@ -52,9 +53,10 @@ none_up_to k space n reading line has is =
       enough = omega (arith, parts, below, long);
       at_least = omega arith;
       at_most = omega arith;
+      fits = omega (arith, parts, below, small);
     }
 
-ok_is : {A : Type 0} (x y : A) → Ok {T = A} {E = PageEnd} x ≡ Ok y → x ≡ y
+ok_is : {A : Type 0} (x y : A) → ◌≡◌ {A = Result A PageEnd} (Ok x) (Ok y) → x ≡ y
 ok_is {A} x y is = ap (λ r. value r) is
   where
     value : Result A PageEnd → A
@@ -138,7 +140,7 @@ page_read k space number at left n reading new line new_line page up some is lon
     let next = next_of k space number at left reading line page up some is in
     let size : length (piece page) ≡ 4095 = length-drop 1 page ∙ ap (λ n. n - 1) long in
     let both : length up.rest ≡ length (piece page) + length next.behind = ap length next.split ∙ length-append (piece page) next.behind in
-    let all = up.long in let enough = up.enough in let at_least = up.at_least in let at_most = up.at_most in
+    let all = up.long in let enough = up.enough in let at_least = up.at_least in let at_most = up.at_most in let fits = up.fits in
     record {
       text = up.text ++ bytes_at at n page;
       is_read = read;
@@ -150,6 +152,7 @@ page_read k space number at left n reading new line new_line page up some is lon
       enough = omega (arith, size, both, enough, counted, at_least, at_most);
       at_least = omega arith;
       at_most = omega arith;
+      fits = omega (arith, fits, size, both, all);
     }
 
 -- where the bytes of a page are refused, the text is no document's
@@ -162,7 +165,7 @@ page_refused k space number at left n reading new line new_line page end up some
     let whole = next_whole k space number at left n reading line page up next long counted in
     inr (inr (
       (up.text ++ bytes_at at n page) ++ take (left - n) next.behind,
-      (whole, (none (take (left - n) next.behind), damaged)),
+      (whole, none (take (left - n) next.behind), damaged),
     ))
 
 -- once none is left
@@ -176,4 +179,15 @@ all_up_to k space number at left reading line up none r gives = by r gives
     by : (r : Result Doc PageEnd) → GivesDoc space up.text r → IsFlatDoc k space r
     by (Ok doc) gives = (up.text, (whole, gives))
     by (Err end) (inl out) = inl out
-    by (Err end) (inr (damaged, bad)) = inr (inr (up.text, (whole, (bad, damaged))))
+    by (Err end) (inr (damaged, bad)) = inr (inr (up.text, (whole, bad, damaged)))
+
+-- the number of the next page fits
+pub next_fits : (k : Known) (space : Space) (number at left : ℕ) (reading : Result Reading RefusedLine) (line : List ℕ)
+    → IsUpTo k space number at left reading line → 0 < left → number + 1 ≤ 18446744073709551615
+next_fits k space number at left reading line up some =
+    let long = up.long in let enough = up.enough in let fits = up.fits in omega (arith, long, enough, fits, some)
+
+-- some bytes of it are taken
+pub goes_down : (k : Known) (space : Space) (number at left n : ℕ) (reading : Result Reading RefusedLine) (line : List ℕ)
+    → IsUpTo k space number at left reading line → 0 < left → n ≡ min left (4096 - at) → left - n < left
+goes_down k space number at left n reading line up some is = let at_most = up.at_most in omega (arith, some, is, at_most)

@@ -34,6 +34,8 @@ pub fn get_flat<P: Pages>(alloc: Global, pages: &P, space: Space) -> Result<Doc,
     ensures doc { IsFlatDoc (P.known pages.now) space result }
     ensures meaning { (all : PageId → Option (List ℕ)) (doc : Doc) → StandsForFlat (seen (P.known pages.now) all space) doc → MatchResult result (λ read. read ≡ doc) (λ end. IsStop (P.known pages.now) all space end) }
 {
-    let length = text_length(pages, space)?;
-    read_text(alloc, pages, space, length)
+    match text_length(pages, space) {
+        Ok(length) => read_text(alloc, pages, space, length),
+        Err(end) => Err(end),
+    }
 }
