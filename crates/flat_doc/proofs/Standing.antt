@@ -30,9 +30,11 @@ page_answer k all space n flat = by (is_unknown k (page_in space n)) refl
     known : (is : is_unknown k (page_in space n) ≡ false) (o : Option (List ℕ)) → map.get k.pages (page_in space n) ≡ o → IsFlat o → PageAnswer k all space n
     known is None there flat = absurd flat
     known is (Some page) there flat = inl (rw (is, there, flat.0) refl)
+
     needed : (is : is_unknown k (page_in space n) ≡ true) (o : Option (List ℕ)) → all (page_in space n) ≡ o → IsFlat o → PageAnswer k all space n
     needed is None there flat = absurd flat
-    needed is (Some page) there flat = inr (Need (page_in space n), (rw is refl, (n, (refl, (is, rw there refl)))))
+    needed is (Some page) there flat = inr (Need (page_in space n), (rw is refl, (n, (refl, is, rw there refl))))
+
     by : (b : Bool) → is_unknown k (page_in space n) ≡ b → PageAnswer k all space n
     by true is = needed is (all (page_in space n)) refl (subst IsFlat (ap (λ b. if b then all (page_in space n) else map.get k.pages (page_in space n)) is) flat)
     by false is =
@@ -59,7 +61,7 @@ pieces_answer k all space n (suc count) flat =
           end,
           (
             ap (λ r. and_then r (λ page. and_then (pieces k space (n + 1) count) (λ rest. Ok (piece page ++ rest)))) page
-            ∙ ap (λ r. and_then r (λ rest. Ok (piece (bytes (seen k all space) n) ++ rest))) refused,
+                ∙ ap (λ r. and_then r (λ rest. Ok (piece (bytes (seen k all space) n) ++ rest))) refused,
             need,
           ),
         )
@@ -77,6 +79,7 @@ text_answer k all space text has some = by (page_answer k all space 0 (has.flat 
   where
     count : ℕ
     count = page_count (length text)
+
     by : PageAnswer k all space 0 → PiecesAnswer k all space 0 (page_count (length text)) → TextAnswer k all space text
     by (inr (end, (refused, need))) rest =
         inr (
@@ -93,27 +96,27 @@ text_answer k all space text has some = by (page_answer k all space 0 (has.flat 
           (
             ap (λ r. and_then r (λ first. and_then (pieces k space 0 (page_count (stated_length first)))
                 (λ all. Ok (take (stated_length first) (drop LENGTH_BYTES all))))) page
-            ∙ ap (λ m. and_then (pieces k space 0 (page_count m)) (λ all. Ok (take m (drop LENGTH_BYTES all)))) has.stated
-            ∙ ap (λ r. and_then r (λ all. Ok (take (length text) (drop LENGTH_BYTES all)))) refused,
+                ∙ ap (λ m. and_then (pieces k space 0 (page_count m)) (λ all. Ok (take m (drop LENGTH_BYTES all)))) has.stated
+                ∙ ap (λ r. and_then r (λ all. Ok (take (length text) (drop LENGTH_BYTES all)))) refused,
             need,
           ),
         )
     by (inl page) (inl rest) =
         inl (ap (λ r. and_then r (λ first. and_then (pieces k space 0 (page_count (stated_length first)))
-            (λ all. Ok (take (stated_length first) (drop LENGTH_BYTES all))))) page
+        (λ all. Ok (take (stated_length first) (drop LENGTH_BYTES all))))) page
         ∙ ap (λ m. and_then (pieces k space 0 (page_count m)) (λ all. Ok (take m (drop LENGTH_BYTES all)))) has.stated
         ∙ ap (λ r. and_then r (λ all. Ok (take (length text) (drop LENGTH_BYTES all)))) rest
         ∙ ap Ok (sym has.runs))
 
-value_of : {A : Type 0} → A → Result A PageEnd → A
+abbrev value_of : {A : Type 0} → A → Result A PageEnd → A
 value_of x (Ok y) = y
 value_of x (Err e) = x
 
-doc_of : Doc → Result Doc RefusedLine → Doc
+abbrev doc_of : Doc → Result Doc RefusedLine → Doc
 doc_of doc (Ok d) = d
 doc_of doc (Err e) = doc
 
-end_of : PageEnd → Result (List ℕ) PageEnd → PageEnd
+abbrev end_of : PageEnd → Result (List ℕ) PageEnd → PageEnd
 end_of end (Ok y) = end
 end_of end (Err e) = e
 
