@@ -6,3 +6,4 @@ mod Spaces
 mod Spelled
 mod UpTo
 mod Standing
+mod Others
