@@ -7,3 +7,4 @@ mod Spelled
 mod UpTo
 mod Standing
 mod Others
+mod Put

@@ -209,7 +209,7 @@ page_of-split bytes rest long =
     ∙ ap (λ l. 1 ∷ l) (append_assoc bytes (take 4087 rest) (replicate (4087 - length rest) 0))
 
 -- the length is written over the first eight bytes
-first-with_length : (bytes : List ℕ) (n : ℕ) → 8 ≤ length bytes → with_field 8 (page_of bytes) 1 n ≡ page_of (big_bytes 8 n ++ drop 8 bytes)
+pub first-with_length : (bytes : List ℕ) (n : ℕ) → 8 ≤ length bytes → with_field 8 (page_of bytes) 1 n ≡ page_of (big_bytes 8 n ++ drop 8 bytes)
 first-with_length bytes n long =
     let rest = drop 8 bytes in let number = big_bytes 8 n in
     let behind = take 4087 rest ++ replicate (4087 - length rest) 0 in

@@ -1,7 +1,7 @@
 //! The two calls.
 ghost use Rattle.std.specs.Prelude.{◌≡◌, List, ℕ, Option, OnOk, IfErr, MatchResult};
 ghost use Rattle.page_bytes.specs.declared.ids.PageId.{PageId};
-ghost use Rattle.page_bytes.specs.declared.end.PageEnd.TheVariants.{NoMemory};
+ghost use Rattle.page_bytes.specs.declared.end.PageEnd.TheVariants.{NoMemory as out_of_memory};
 ghost use Rattle.page_bytes.specs.Answers.{IsStop};
 ghost use Rattle.page_bytes.specs.Seen.{seen};
 ghost use Rattle.xml_model.specs.declared.node.Doc.{Doc};
@@ -9,12 +9,12 @@ ghost use Rattle.xml_model.specs.Document.{IsValid};
 ghost use Rattle.xml_model.specs.Pyx.{pyx, text_of};
 ghost use Rattle.flat_doc.specs.Putting.{with_text};
 ghost use Rattle.flat_doc.specs.Reading.{IsFlatDoc};
-ghost use Rattle.flat_doc.specs.Meaning.{StandsForFlat};
+ghost use Rattle.flat_doc.specs.Meaning.{HasText, StandsForFlat};
 
 use crate::pieces::text_length;
 use crate::putting::{pages_of, put_pages};
 use crate::reading::read_text;
-use page_bytes::{PageEnd, Pages, Space, Workspace};
+use page_bytes::{NoMemory, PageEnd, Pages, Space, Workspace};
 use std::alloc::Global;
 use xml_model::Doc;
 
@@ -22,11 +22,14 @@ use xml_model::Doc;
 /// memory the workspace is of no use, and the caller drops it.
 pub fn put_flat(alloc: Global, doc: &Doc, space: Space, work: &mut Workspace) -> Result<(), PageEnd>
     ensures pages { OnOk result (work.new ≡ with_text work.old space (text_of (pyx doc.now))) }
-    ensures err { IfErr result (λ end. end ≡ NoMemory) }
+    ensures err { IfErr result (λ end. end ≡ out_of_memory) }
+    ensures text { OnOk result ((all : PageId → Option (List ℕ)) → HasText (seen work.new.now all space) (text_of (pyx doc.now))) }
     ensures meaning { IsValid doc.now → OnOk result ((all : PageId → Option (List ℕ)) → StandsForFlat (seen work.new.now all space) doc.now) }
 {
-    let pages = pages_of(alloc, doc)?;
-    put_pages(work, space, pages)
+    match pages_of(alloc, doc) {
+        Ok(pages) => put_pages(work, space, pages),
+        Err(NoMemory) => Err(PageEnd::NoMemory),
+    }
 }
 
 /// The document that stands on the pages of a space.
