@@ -1,5 +1,5 @@
 -- The pages of a text that was put have that text.
-use Rattle.std.proofs.Common.{◌≡◌, ◌⊎◌, inl, inr, ℕ, zero, suc, ◌+◌, ◌-◌, ◌*◌, ◌/◌, ◌%◌, ◌^◌, ◌<◌, ◌≤◌, min, Bool, true, false, not, ◌&&◌, ◌||◌, List, [], ◌∷◌, ◌++◌, length, take, drop, replicate, Option, None, Some, unwrap_or, refl, sym, ap, ◌∙◌, subst, arith, if◌then◌else◌}
+use Rattle.std.proofs.Common.{◌≡◌, ◌⊎◌, inl, inr, ℕ, zero, suc, ◌+◌, ◌-◌, ◌*◌, ◌/◌, ◌%◌, ◌^◌, ◌<◌, ◌≤◌, min, Bool, true, false, not, ◌&&◌, ◌||◌, List, [], ◌∷◌, ◌++◌, length, take, drop, replicate, Option, None, Some, Result, Ok, Err, OnOk, IsUtf8, unwrap_or, refl, sym, ap, ◌∙◌, subst, arith, if◌then◌else◌}
 use Rattle.std.proofs.lemmas.Bool.{cases_lt}
 use Rattle.std.proofs.lemmas.List.{append_assoc, append-nil, length-append, length-take, length-drop, length-replicate, take-append-drop, take_all, take_at, drop_at, replicate-append-replicate}
 use Rattle.std.proofs.lemmas.Nat.{div-add-mod', mod_below}
@@ -21,7 +21,12 @@ use Rattle.page_bytes.proofs.Orders.{page_cmp-exact}
 use Rattle.page_bytes.proofs.Works.{get-inserted, get-beside}
 use Rattle.flat_doc.specs.Pieces.{page_count, piece, stated_length}
 use Rattle.flat_doc.specs.Putting.{page_of, pages_of, flat_pages, with_pages_from, with_text}
-use Rattle.flat_doc.specs.Meaning.{IsFlat, joined_pieces, HasText}
+use Rattle.flat_doc.specs.Meaning.{IsFlat, joined_pieces, HasText, StandsForFlat}
+use Rattle.xml_model.specs.declared.node.Doc.{Doc}
+use Rattle.xml_model.specs.Document.{IsValid}
+use Rattle.xml_model.specs.Pyx.{read, pyx, text_of}
+use Rattle.xml_model.proofs.ReadAgain.{read_again}
+use Rattle.xml_model.proofs.TextAgain.{text_again}
 use Rattle.flat_doc.proofs.Running.{first-with_length}
 use Rattle.flat_doc.proofs.Spaces.{opened}
 
@@ -73,6 +78,7 @@ seen_whole k all space n o whole is = by (map.contains_key k.pages (page_in spac
     unknown : (b : Bool) → (not b && not (true || map.contains_key k.freed (page_in space n))) ≡ false
     unknown true = refl
     unknown false = refl
+
     by : (b : Bool) → map.contains_key k.pages (page_in space n) ≡ b → seen k all space n ≡ o
     by b there =
         ap (λ u. if u then all (page_in space n) else map.get k.pages (page_in space n))
@@ -107,6 +113,12 @@ all_flat f n (suc count) (suc i) b on less =
 piece-page_of : (b : List ℕ) → piece (page_of b) ≡ take 4095 b ++ replicate (4095 - length b) 0
 piece-page_of b = refl
 
+-- a list without length is empty
+empty : (l : List ℕ) → length l ≡ 0 → l ≡ []
+empty [] is = refl
+empty (x ∷ l) is = absurd (omega (arith, is))
+
+-- pieces joined are the bytes, and zeros behind them
 joined_on : (f : PagesByNumber) (n count : ℕ) (b : List ℕ) → length b ≤ count * 4095 → AreOn f n (pages_of count b)
     → joined_pieces f n count ≡ b ++ replicate (count * 4095 - length b) 0
 unfolding bytes
@@ -120,6 +132,7 @@ joined_on f n (suc count) b fits on =
     bytes_of : Option (List ℕ) → List ℕ
     bytes_of None = []
     bytes_of (Some page) = page
+
     by : (length b < 4095) ⊎ (4095 ≤ length b)
         → (take 4095 b ++ replicate (4095 - length b) 0) ++ (drop 4095 b ++ replicate (count * 4095 - length (drop 4095 b)) 0)
         ≡ b ++ replicate (suc count * 4095 - length b) 0
@@ -139,9 +152,6 @@ joined_on f n (suc count) b fits on =
         ∙ ap (λ l. l ++ (drop 4095 b ++ replicate (suc count * 4095 - length b) 0)) (append-nil (take 4095 b))
         ∙ sym (append_assoc (take 4095 b) (drop 4095 b) (replicate (suc count * 4095 - length b) 0))
         ∙ ap (λ l. l ++ replicate (suc count * 4095 - length b) 0) (take-append-drop 4095 b)
-    empty : (l : List ℕ) → length l ≡ 0 → l ≡ []
-    empty [] is = refl
-    empty (x ∷ l) is = absurd (omega (arith, is))
 
 -- page 0 is the first of them
 first_on : (f : PagesByNumber) (count : ℕ) (b : List ℕ) → 0 < count → AreOn f 0 (pages_of count b) → f 0 ≡ Some (page_of b)
@@ -187,3 +197,20 @@ put_has_text w space text all small =
       runs = sym (ap (λ l. take n (drop 8 l)) (runs ∙ append_assoc number text zeros) ∙ ap (take n) (drop_at number (text ++ zeros) 8 eight)
           ∙ take_at text zeros n refl);
     }
+
+-- so where it was put
+pub text_put : {T E : Type 0} (r : Result T E) (old new : Work) (space : Space) (text : List ℕ) (pages : List (List ℕ)) → pages ≡ flat_pages text
+    → length text < 2 ^ 64 → OnOk r (new ≡ with_pages_from (with_space old space) space 0 pages)
+    → OnOk r ((all : PageId → Option (List ℕ)) → HasText (seen new.now all space) text)
+text_put (Ok x) old new space text pages are small is =
+    λ all. subst (λ (w : Work). HasText (seen w.now all space) text) (sym (is ∙ ap (with_pages_from (with_space old space) space 0) are))
+    (put_has_text old space text all small)
+text_put (Err e) old new space text pages are small is = tt
+
+-- pages that have a valid document's canonical text, which is UTF-8, stand for it
+pub stands : (pages : PagesByNumber) (doc : Doc) → IsValid doc → IsUtf8 (text_of (pyx doc)) → HasText pages (text_of (pyx doc)) → StandsForFlat pages doc
+stands pages doc valid utf8 has = record {
+  text = text_of (pyx doc);
+  has = has;
+  spells = record { utf8 = utf8; reads = ap read (text_again doc valid) ∙ read_again doc valid };
+}
