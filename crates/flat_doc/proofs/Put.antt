@@ -127,12 +127,8 @@ joined_on f n zero (x ∷ b) fits on = absurd (omega (arith, fits))
 joined_on f n (suc count) b fits on =
     let rest : length (drop 4095 b) ≡ length b - 4095 = length-drop 4095 b in
     let more = joined_on f (n + 1) count (drop 4095 b) (omega (arith, rest, fits)) on.1 in
-    (λ j. piece (bytes_of (on.0 j)) ++ more j) ∙ by (cases_lt (length b) 4095)
+    (λ j. piece (unwrap_or (on.0 j) []) ++ more j) ∙ by (cases_lt (length b) 4095)
   where
-    bytes_of : Option (List ℕ) → List ℕ
-    bytes_of None = []
-    bytes_of (Some page) = page
-
     by : (length b < 4095) ⊎ (4095 ≤ length b)
         → (take 4095 b ++ replicate (4095 - length b) 0) ++ (drop 4095 b ++ replicate (count * 4095 - length (drop 4095 b)) 0)
         ≡ b ++ replicate (suc count * 4095 - length b) 0
@@ -192,7 +188,9 @@ put_has_text w space text all small =
     let runs : joined_pieces f 0 count ≡ b ++ zeros = joined_on f 0 count b (omega (arith, eight, both, parts, below)) on in
     let first : f 0 ≡ Some (page_of b) = first_on f count b (omega (arith, parts, below)) on in
     record {
-      flat = λ m less. all_flat f 0 count m b on less;
+      flat = λ m less.
+          let same : 0 + m ≡ m = omega arith in
+          subst (λ q. IsFlat (f q)) same (all_flat f 0 count m b on less);
       stated = ap stated_length (bytes-there f 0 (page_of b) first) ∙ stated_back text small;
       runs = sym (ap (λ l. take n (drop 8 l)) (runs ∙ append_assoc number text zeros) ∙ ap (take n) (drop_at number (text ++ zeros) 8 eight)
           ∙ take_at text zeros n refl);
