@@ -1,0 +1,151 @@
+-- What the functions answer (XQuery 1.0 and XPath 2.0 Functions and Operators, sections 2, 7, 9, 14, 15 and 16). The
+-- arguments have been evaluated; how many each function takes is tested before (`functions` of xq_ast).
+use Rattle.std.specs.Prelude.{ℕ, ℤ, pos, Bool, true, false, not, ◌&&◌, ◌||◌, ◌==◌, if◌then◌else◌, nat_lt, List, [], ◌∷◌, ◌++◌, length, map, codes, bytes_eq, Option, Some, None, Result, Ok, Err}
+use Rattle.std.specs.List.{concat}
+use Rattle.std.specs.Fmt.{char_count}
+use Rattle.xq_ast.specs.declared.code.Code.{Code}
+use Rattle.xq_ast.specs.declared.code.Code.TheVariants.{XPDY0002, XPTY0004}
+use Rattle.xml_model.specs.Forest.{Forest}
+use Rattle.xml_model.specs.Place.{Placed}
+use Rattle.xml_model.specs.Items.{NodeAt, Item, Items, node, string, integer, boolean, Made, Making, give, fail, plain, look, ◌>>=◌, ◌>>?◌, node_at}
+use Rattle.xml_model.specs.Atoms.{Atom, Atoms, untyped, a_string, an_integer, a_boolean, atom_text, effective_boolean, sum_of}
+use Rattle.xml_model.specs.Nodes.{atomized_item, atomized, name_of}
+use Rattle.xml_model.specs.Constructors.{limited_text}
+
+-- the context: the context item, its position from 1, and the number of items that it is one of
+pub record Focus : Type 0 where
+  pub item : Item
+  pub position : ℕ
+  pub size : ℕ
+
+abbrev pub Context : Type 0
+Context = Option Focus
+
+-- the context item as a list
+abbrev pub context_item : Context → Result Items Code
+context_item None = Err XPDY0002
+context_item (Some focus) = Ok (focus.item ∷ [])
+
+-- without an argument, the context item is it
+abbrev pub or_context : Context → List Items → Result Items Code
+or_context cx [] = context_item cx
+or_context cx (value ∷ more) = Ok value
+
+abbrev pub first_of : List Items → Items
+first_of [] = []
+first_of (value ∷ more) = value
+
+abbrev pub second_of : List Items → Items
+second_of [] = []
+second_of (value ∷ more) = first_of more
+
+abbrev pub is_empty : Items → Bool
+is_empty [] = true
+is_empty (item ∷ items) = false
+
+-- ---- texts
+
+-- the string of one item at most
+abbrev pub string_of : Forest → Made → Items → Result (List ℕ) Code
+string_of F made [] = Ok []
+string_of F made (item ∷ []) = Ok (atom_text (atomized_item F made item))
+string_of F made (item ∷ other ∷ items) = Err XPTY0004
+
+-- the name of one node at most
+abbrev pub name_at : Option Placed → List ℕ
+name_at None = []
+name_at (Some there) = name_of there
+
+abbrev pub name_of_one : Forest → Made → Items → Result (List ℕ) Code
+name_of_one F made [] = Ok []
+name_of_one F made (node n ∷ []) = Ok (name_at (node_at F made n))
+name_of_one F made (string text ∷ []) = Err XPTY0004
+name_of_one F made (integer n ∷ []) = Err XPTY0004
+name_of_one F made (boolean b ∷ []) = Err XPTY0004
+name_of_one F made (item ∷ other ∷ items) = Err XPTY0004
+
+-- an argument that must be a string: nothing is the empty one, and a node has its string value
+abbrev pub string_argument : Atoms → Result (List ℕ) Code
+string_argument [] = Ok []
+string_argument (untyped text ∷ []) = Ok text
+string_argument (a_string text ∷ []) = Ok text
+string_argument (an_integer n ∷ []) = Err XPTY0004
+string_argument (a_boolean b ∷ []) = Err XPTY0004
+string_argument (value ∷ other ∷ values) = Err XPTY0004
+
+-- an argument of `concat`: nothing, or one atomic value of any type
+abbrev pub concat_argument : Atoms → Result (List ℕ) Code
+concat_argument [] = Ok []
+concat_argument (value ∷ []) = Ok (atom_text value)
+concat_argument (value ∷ other ∷ values) = Err XPTY0004
+
+abbrev pub concat_arguments : List Atoms → Result (List (List ℕ)) Code
+concat_arguments [] = Ok []
+concat_arguments (a ∷ as) = concat_argument a >>? (λ text. concat_arguments as >>? (λ texts. Ok (text ∷ texts)))
+
+-- the second text stands at the beginning of the first
+abbrev pub begins_with : List ℕ → List ℕ → Bool
+begins_with text [] = true
+begins_with [] (b ∷ bytes) = false
+begins_with (a ∷ text) (b ∷ bytes) = (a == b) && begins_with text bytes
+
+-- or somewhere in it
+abbrev pub has_within : List ℕ → List ℕ → Bool
+has_within [] wanted = begins_with [] wanted
+has_within (a ∷ text) wanted = begins_with (a ∷ text) wanted || has_within text wanted
+
+-- ---- answers
+
+abbrev pub one_string : List ℕ → Result Items Code
+one_string text = limited_text text >>? (λ t. Ok (string t ∷ []))
+
+abbrev pub one_integer : ℤ → Result Items Code
+one_integer n = Ok (integer n ∷ [])
+
+abbrev pub one_boolean : Bool → Result Items Code
+one_boolean b = Ok (boolean b ∷ [])
+
+-- the code where there is no context, and else a number of it
+abbrev pub of_focus : (Focus → ℕ) → Context → Result Items Code
+of_focus number None = Err XPDY0002
+of_focus number (Some focus) = one_integer (pos (number focus))
+
+-- a test of two texts
+abbrev pub tested_texts : (List ℕ → List ℕ → Bool) → Atoms → Atoms → Result Items Code
+tested_texts holds a b = string_argument a >>? (λ text. string_argument b >>? (λ wanted. one_boolean (holds text wanted)))
+
+-- the argument's text, or without one the text of the context item
+abbrev pub measured : Forest → Made → Context → List Items → Result (List ℕ) Code
+measured F made cx [] = context_item cx >>? string_of F made
+measured F made cx (value ∷ more) = string_argument (atomized F made value)
+
+-- a function that has a name, with what it answers of the arguments
+abbrev pub Row : Type 0
+Row = List ℕ × (List Items → Result Items Code)
+
+abbrev pub rows : Forest → Made → Context → List Row
+rows F made cx =
+    (codes "count", λ args. one_integer (pos (length (first_of args))))
+    ∷ (codes "empty", λ args. one_boolean (is_empty (first_of args)))
+    ∷ (codes "exists", λ args. one_boolean (not (is_empty (first_of args))))
+    ∷ (codes "not", λ args. effective_boolean (first_of args) >>? (λ b. one_boolean (not b)))
+    ∷ (codes "true", λ args. one_boolean true)
+    ∷ (codes "false", λ args. one_boolean false)
+    ∷ (codes "string", λ args. or_context cx args >>? string_of F made >>? one_string)
+    ∷ (codes "name", λ args. or_context cx args >>? name_of_one F made >>? one_string)
+    ∷ (codes "contains", λ args. tested_texts has_within (atomized F made (first_of args)) (atomized F made (second_of args)))
+    ∷ (codes "starts-with", λ args. tested_texts begins_with (atomized F made (first_of args)) (atomized F made (second_of args)))
+    ∷ (codes "string-length", λ args. measured F made cx args >>? (λ text. one_integer (pos (char_count text))))
+    ∷ (codes "concat", λ args. concat_arguments (map (atomized F made) args) >>? (λ texts. one_string (concat texts)))
+    ∷ (codes "sum", λ args. sum_of (atomized F made (first_of args)) >>? one_integer)
+    ∷ (codes "position", λ args. of_focus (λ focus. focus.position) cx)
+    ∷ (codes "last", λ args. of_focus (λ focus. focus.size) cx)
+    ∷ []
+
+-- what the function of this name answers
+abbrev pub answer_of_row : List Row → List ℕ → List Items → Result Items Code
+answer_of_row [] name args = Ok []
+answer_of_row (row ∷ more) name args = if bytes_eq name row.0 then row.1 args else answer_of_row more name args
+
+abbrev pub call_function : Forest → Made → Context → List ℕ → List Items → Result Items Code
+call_function F made cx = answer_of_row (rows F made cx)
