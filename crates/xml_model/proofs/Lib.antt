@@ -10,6 +10,7 @@ pub mod ReadAgain
 pub mod ReadIsValid
 pub mod ReadIsSpelled
 pub mod SpelledIsRead
+mod NavRows
 mod Rows
 pub mod TextAgain
 pub mod TextLines

@@ -10,3 +10,8 @@ pub mod Changes
 pub mod Below
 pub mod Statement
 pub mod Needs
+pub mod Nav
+pub mod Axes
+pub mod DocumentOrder
+pub mod Numbering
+pub mod NavFaults

@@ -19,6 +19,7 @@ mod laws;
 mod layers;
 mod limits;
 mod measure;
+mod nav;
 mod node;
 mod place;
 mod text_lines;
@@ -32,6 +33,7 @@ pub use laws::{
     read_just_where_spelled, statements_keep_forests, what_is_counted, what_is_read_is_valid,
 };
 pub use limits::{DEPTH_MAX, NODES_MAX, REPLY_BYTES_MAX, TEXT_BYTES_MAX};
+pub use nav::{Id, Kind, NUMBER_MAX, Nav, NavEnd};
 pub use node::{Attr, AttrList, Doc, Measure, Node, NodeList, RefusedLine};
 pub use place::{Place, PlaceStep, place_order};
 pub use text_lines::{FirstLine, first_line};
