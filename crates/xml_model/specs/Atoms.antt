@@ -135,7 +135,7 @@ some_right op a (b ∷ bs) = atom_cmp a b >>? (λ o. or_else (ordered_by op o) (
 -- some pair compares so; pairs are taken left value by left value
 abbrev pub compares : CompareOp → Atoms → Atoms → Result Bool Code
 compares op [] bs = Ok false
-compares op (a ∷ as) bs = some_right op a bs >>? (λ found. or_else found (compares op as bs))
+compares op (a ∷ more) bs = some_right op a bs >>? (λ found. or_else found (compares op more bs))
 
 -- ---- arithmetic
 
@@ -150,10 +150,10 @@ operand (a_boolean b) = Err XPTY0004
 -- an integer, the left first.
 abbrev pub operated : (ℤ → ℤ → Result Items Code) → Atoms → Atoms → Result Items Code
 operated op [] bs = Ok []
-operated op (a ∷ as) [] = Ok []
+operated op (a ∷ more) [] = Ok []
 operated op (a ∷ []) (b ∷ []) = operand a >>? (λ n. operand b >>? op n)
 operated op (a ∷ []) (b ∷ c ∷ bs) = Err XPTY0004
-operated op (a ∷ d ∷ as) (b ∷ bs) = Err XPTY0004
+operated op (a ∷ d ∷ more) (b ∷ bs) = Err XPTY0004
 
 -- an operator whose result must have 64 bits
 abbrev pub within_long : (ℤ → ℤ → ℤ) → ℤ → ℤ → Result Items Code
@@ -205,7 +205,7 @@ summand (a_boolean b) = Err FORG0006
 
 abbrev pub summands : Atoms → Result (List ℤ) Code
 summands [] = Ok []
-summands (a ∷ as) = summand a >>? (λ n. summands as >>? (λ ns. Ok (n ∷ ns)))
+summands (a ∷ more) = summand a >>? (λ n. summands more >>? (λ ns. Ok (n ∷ ns)))
 
 -- added from the left
 abbrev pub added_up : ℤ → List ℤ → Result ℤ Code

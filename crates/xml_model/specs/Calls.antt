@@ -81,7 +81,7 @@ concat_argument (value ∷ other ∷ values) = Err XPTY0004
 
 abbrev pub concat_arguments : List Atoms → Result (List (List ℕ)) Code
 concat_arguments [] = Ok []
-concat_arguments (a ∷ as) = concat_argument a >>? (λ text. concat_arguments as >>? (λ texts. Ok (text ∷ texts)))
+concat_arguments (a ∷ more) = concat_argument a >>? (λ text. concat_arguments more >>? (λ texts. Ok (text ∷ texts)))
 
 -- the second text stands at the beginning of the first
 abbrev pub begins_with : List ℕ → List ℕ → Bool

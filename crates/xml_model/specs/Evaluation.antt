@@ -21,7 +21,8 @@ use Rattle.xml_model.specs.Forest.{Forest}
 use Rattle.xml_model.specs.Place.{a_node, an_attribute}
 use Rattle.xml_model.specs.Items.{NodeAt, Item, Items, stored, node, string, integer, boolean, Made, Making, give, fail, plain, look, ◌>>=◌, ◌>>?◌, construct}
 use Rattle.xml_model.specs.Atoms.{Atoms, effective_boolean, compares, operated, chained, signed_by, sum_op, product_op, range_of}
-use Rattle.xml_model.specs.Nodes.{union, in_order, nodes_or, united_all, atomized, tested}
+use Rattle.xml_model.specs.DocumentOrder.{union}
+use Rattle.xml_model.specs.Nodes.{node_cmp, nodes_or, united_all, atomized, tested}
 use Rattle.xml_model.specs.Constructors.{content_of, element, limited_text, spaced}
 use Rattle.xml_model.specs.Calls.{Focus, Context, context_item, call_function}
 use Rattle.xml_model.specs.Tuples.{Variable, Bindings, Means, BindMeans, KeyMeans, no_tuples, tuples, sorted, returned}
@@ -112,7 +113,7 @@ pub record StepMeans : Type 0 where
 -- from each node in turn; the results are joined in document order without duplicates
 abbrev pub from_each : (NodeAt → Making (List NodeAt)) → List NodeAt → List NodeAt → Making (List NodeAt)
 from_each go joined [] = give joined
-from_each go joined (n ∷ ns) = go n >>= (λ more. from_each go (union joined more) ns)
+from_each go joined (n ∷ ns) = go n >>= (λ more. from_each go (union node_cmp joined more) ns)
 
 module _ (F : Forest) where
   -- what `//` stands for

@@ -15,3 +15,10 @@ pub mod Axes
 pub mod DocumentOrder
 pub mod Numbering
 pub mod NavFaults
+pub mod Items
+pub mod Atoms
+pub mod Nodes
+pub mod Constructors
+pub mod Calls
+pub mod Tuples
+pub mod Evaluation

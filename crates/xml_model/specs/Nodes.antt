@@ -1,10 +1,11 @@
 -- Nodes in evaluation: document order (XQuery 1.0 and XPath 2.0 Data Model, section 2.4), union (XML Path Language 2.0,
 -- section 3.3.2), what a node holds, and steps without their predicates (section 3.2).
 use Rattle.std.specs.Prelude.{ℕ, Bool, true, false, not, ◌&&◌, if◌then◌else◌, List, [], ◌∷◌, ◌++◌, map, filter, bytes_eq, Option, Some, None, Result, Ok, Err, unwrap_or, option_map}
+use Rattle.std.specs.Option.{option_map_or}
 use Rattle.std.specs.Ordering.{nat_cmp, ordering_then}
 use Rattle.std.specs.Cmp.Lexicographic.{slice_cmp}
 use Rattle.std.specs.declared.cmp.Ordering.{Ordering}
-use Rattle.std.specs.declared.cmp.Ordering.TheVariants.{Less, Equal, Greater}
+use Rattle.std.specs.declared.cmp.Ordering.TheVariants.{Less, Greater}
 use Rattle.xq_ast.specs.declared.code.Code.{Code}
 use Rattle.xq_ast.specs.declared.code.Code.TheVariants.{XPTY0004, XPTY0019}
 use Rattle.xq_ast.specs.declared.step.Axis.{Axis}
@@ -16,6 +17,7 @@ use Rattle.xml_model.specs.declared.node.Node.TheOpen.{Node-F}
 use Rattle.xml_model.specs.Forest.{Forest}
 use Rattle.xml_model.specs.Place.{Placed, the_document, a_node, an_attribute, place_cmp}
 use Rattle.xml_model.specs.Axes.{axis_places, string_value}
+use Rattle.xml_model.specs.DocumentOrder.{union, in_order}
 use Rattle.xml_model.specs.Items.{Tree, stored, constructed, NodeAt, Item, Items, node, string, integer, boolean, Made, root_of, node_at, ◌>>?◌}
 use Rattle.xml_model.specs.Atoms.{Atom, Atoms, untyped, a_string, an_integer, a_boolean}
 
@@ -31,26 +33,6 @@ tree_cmp (constructed n) (constructed m) = nat_cmp n m
 abbrev pub node_cmp : NodeAt → NodeAt → Ordering
 node_cmp a b = ordering_then (tree_cmp a.tree b.tree) (place_cmp a.place b.place)
 
-abbrev pub by_first : Ordering → NodeAt → NodeAt → List NodeAt → List NodeAt → List NodeAt → List NodeAt
-by_first Less a b with_all with_rest later = a ∷ with_all
-by_first Equal a b with_all with_rest later = a ∷ with_rest
-by_first Greater a b with_all with_rest later = b ∷ later
-
--- one node into a list in order; the first argument puts those after it into a list
-abbrev pub into : (List NodeAt → List NodeAt) → NodeAt → List NodeAt → List NodeAt
-into rest a [] = a ∷ rest []
-into rest a (b ∷ bs) = by_first (node_cmp a b) a b (rest (b ∷ bs)) (rest bs) (into rest a bs)
-
--- two lists in order as one in order, without duplicates
-abbrev pub union : List NodeAt → List NodeAt → List NodeAt
-union [] bs = bs
-union (a ∷ as) bs = into (union as) a bs
-
--- the nodes in order, without duplicates
-abbrev pub in_order : List NodeAt → List NodeAt
-in_order [] = []
-in_order (a ∷ as) = union (a ∷ []) (in_order as)
-
 -- ---- lists of nodes
 
 -- the nodes of a list that has nothing else, or the code
@@ -63,7 +45,7 @@ nodes_or code (boolean b ∷ items) = Err code
 
 -- the nodes of two lists, from the left
 abbrev pub united : List NodeAt → Items → Result (List NodeAt) Code
-united left right = nodes_or XPTY0004 right >>? (λ ns. Ok (union left (in_order ns)))
+united left right = nodes_or XPTY0004 right >>? (λ ns. Ok (union node_cmp left (in_order node_cmp ns)))
 
 abbrev pub united_all : List NodeAt → List Items → Result (List NodeAt) Code
 united_all left [] = Ok left
@@ -148,4 +130,4 @@ passes_at on_attributes wanted (Some there) = passes on_attributes wanted there
 abbrev pub tested : Forest → Made → Axis → Test → NodeAt → List NodeAt
 tested F made way wanted n =
     filter (λ m. passes_at (is_attribute_axis way) wanted (node_at F made m))
-      (map (λ place. record { tree = n.tree; place = place }) (axis_places way (root_of F made n.tree) n.place))
+      (option_map_or (λ root. map (λ place. record { tree = n.tree; place = place }) (axis_places way root n.place)) (root_of F made n.tree) [])

@@ -114,9 +114,9 @@ turned true o = ordering_reverse o
 abbrev pub keys_cmp : List Bool → List Key → List Key → Ordering
 keys_cmp descends [] [] = Equal
 keys_cmp descends [] (b ∷ bs) = Less
-keys_cmp descends (a ∷ as) [] = Greater
-keys_cmp [] (a ∷ as) (b ∷ bs) = ordering_then (key_cmp a b) (keys_cmp [] as bs)
-keys_cmp (d ∷ ds) (a ∷ as) (b ∷ bs) = ordering_then (turned d (key_cmp a b)) (keys_cmp ds as bs)
+keys_cmp descends (a ∷ more) [] = Greater
+keys_cmp [] (a ∷ more) (b ∷ bs) = ordering_then (key_cmp a b) (keys_cmp [] more bs)
+keys_cmp (d ∷ ds) (a ∷ more) (b ∷ bs) = ordering_then (turned d (key_cmp a b)) (keys_cmp ds more bs)
 
 -- ---- tuples
 

@@ -18,6 +18,7 @@ mod forest;
 mod laws;
 mod layers;
 mod limits;
+mod meaning;
 mod measure;
 mod nav;
 mod node;
@@ -32,7 +33,7 @@ pub use laws::{
     calls_keep_to_their_needs, canonical_text_is_read_again, pyx_is_read_again,
     read_just_where_spelled, statements_keep_forests, what_is_counted, what_is_read_is_valid,
 };
-pub use limits::{DEPTH_MAX, NODES_MAX, REPLY_BYTES_MAX, TEXT_BYTES_MAX};
+pub use limits::{DEPTH_MAX, ITEMS_MAX, NODES_MAX, REPLY_BYTES_MAX, TEXT_BYTES_MAX};
 pub use nav::{Id, Kind, NUMBER_MAX, Nav, NavEnd};
 pub use node::{Attr, AttrList, Doc, Measure, Node, NodeList, RefusedLine};
 pub use place::{Place, PlaceStep, place_order};
