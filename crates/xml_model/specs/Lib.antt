@@ -22,3 +22,4 @@ pub mod Constructors
 pub mod Calls
 pub mod Tuples
 pub mod Evaluation
+pub mod MeaningRows
