@@ -22,4 +22,5 @@ pub mod Constructors
 pub mod Calls
 pub mod Tuples
 pub mod Evaluation
+pub mod ItemLines
 pub mod MeaningRows
