@@ -18,14 +18,9 @@ use Rattle.xq_ast.specs.declared.tree.Sign.TheVariants.{Plus, Minus}
 use Rattle.xq_ast.specs.Names.{is_digit}
 use Rattle.xq_ast.specs.Tokens.{is_space, behind_front, digit_more}
 use Rattle.xml_model.specs.declared.limits.TheConstants.{ITEMS_MAX}
+use Rattle.xml_model.specs.declared.value.Atom.{Atom}
+use Rattle.xml_model.specs.declared.value.Atom.TheVariants as atom
 use Rattle.xml_model.specs.Items.{Item, Items, node, string, integer, boolean, ◌>>?◌}
-
--- an atomic value; that of a node is untyped
-pub data Atom : Type 0 where
-  untyped : List ℕ → Atom
-  a_string : List ℕ → Atom
-  an_integer : ℤ → Atom
-  a_boolean : Bool → Atom
 
 abbrev pub Atoms : Type 0
 Atoms = List Atom
@@ -37,10 +32,10 @@ boolean_text true = codes "true"
 boolean_text false = codes "false"
 
 abbrev pub atom_text : Atom → List ℕ
-atom_text (untyped text) = text
-atom_text (a_string text) = text
-atom_text (an_integer n) = signed_decimal n
-atom_text (a_boolean b) = boolean_text b
+atom_text (atom.Untyped text) = text
+atom_text (atom.Text text) = text
+atom_text (atom.Int n) = signed_decimal n
+atom_text (atom.Truth b) = boolean_text b
 
 -- without spaces, tabs, newlines and carriage returns at both ends
 abbrev pub trimmed : List ℕ → List ℕ
@@ -105,22 +100,22 @@ ordered_by Ge = is_ge
 
 -- untyped values are compared as strings with each other and with strings, and else cast to the other's type
 abbrev pub atom_cmp : Atom → Atom → Result Ordering Code
-atom_cmp (untyped a) (untyped b) = Ok (text_cmp a b)
-atom_cmp (untyped a) (a_string b) = Ok (text_cmp a b)
-atom_cmp (untyped a) (an_integer b) = to_integer a >>? (λ n. Ok (int_cmp n b))
-atom_cmp (untyped a) (a_boolean b) = to_boolean a >>? (λ t. Ok (bool_cmp t b))
-atom_cmp (a_string a) (untyped b) = Ok (text_cmp a b)
-atom_cmp (a_string a) (a_string b) = Ok (text_cmp a b)
-atom_cmp (a_string a) (an_integer b) = Err XPTY0004
-atom_cmp (a_string a) (a_boolean b) = Err XPTY0004
-atom_cmp (an_integer a) (untyped b) = to_integer b >>? (λ n. Ok (int_cmp a n))
-atom_cmp (an_integer a) (a_string b) = Err XPTY0004
-atom_cmp (an_integer a) (an_integer b) = Ok (int_cmp a b)
-atom_cmp (an_integer a) (a_boolean b) = Err XPTY0004
-atom_cmp (a_boolean a) (untyped b) = to_boolean b >>? (λ t. Ok (bool_cmp a t))
-atom_cmp (a_boolean a) (a_string b) = Err XPTY0004
-atom_cmp (a_boolean a) (an_integer b) = Err XPTY0004
-atom_cmp (a_boolean a) (a_boolean b) = Ok (bool_cmp a b)
+atom_cmp (atom.Untyped a) (atom.Untyped b) = Ok (text_cmp a b)
+atom_cmp (atom.Untyped a) (atom.Text b) = Ok (text_cmp a b)
+atom_cmp (atom.Untyped a) (atom.Int b) = to_integer a >>? (λ n. Ok (int_cmp n b))
+atom_cmp (atom.Untyped a) (atom.Truth b) = to_boolean a >>? (λ t. Ok (bool_cmp t b))
+atom_cmp (atom.Text a) (atom.Untyped b) = Ok (text_cmp a b)
+atom_cmp (atom.Text a) (atom.Text b) = Ok (text_cmp a b)
+atom_cmp (atom.Text a) (atom.Int b) = Err XPTY0004
+atom_cmp (atom.Text a) (atom.Truth b) = Err XPTY0004
+atom_cmp (atom.Int a) (atom.Untyped b) = to_integer b >>? (λ n. Ok (int_cmp a n))
+atom_cmp (atom.Int a) (atom.Text b) = Err XPTY0004
+atom_cmp (atom.Int a) (atom.Int b) = Ok (int_cmp a b)
+atom_cmp (atom.Int a) (atom.Truth b) = Err XPTY0004
+atom_cmp (atom.Truth a) (atom.Untyped b) = to_boolean b >>? (λ t. Ok (bool_cmp a t))
+atom_cmp (atom.Truth a) (atom.Text b) = Err XPTY0004
+atom_cmp (atom.Truth a) (atom.Int b) = Err XPTY0004
+atom_cmp (atom.Truth a) (atom.Truth b) = Ok (bool_cmp a b)
 
 -- the first that is true or fails ends it
 abbrev pub or_else : Bool → Result Bool Code → Result Bool Code
@@ -141,10 +136,10 @@ compares op (a ∷ more) bs = some_right op a bs >>? (λ found. or_else found (c
 
 -- the integer that an operand is made
 abbrev pub operand : Atom → Result ℤ Code
-operand (untyped text) = to_integer text
-operand (a_string text) = Err XPTY0004
-operand (an_integer n) = Ok n
-operand (a_boolean b) = Err XPTY0004
+operand (atom.Untyped text) = to_integer text
+operand (atom.Text text) = Err XPTY0004
+operand (atom.Int n) = Ok n
+operand (atom.Truth b) = Err XPTY0004
 
 -- what is made of two operands. Where one side is empty it is nothing; then each side has one value, and each is made
 -- an integer, the left first.
@@ -186,7 +181,7 @@ is_minus Minus = true
 abbrev pub signed_by : (Items → Atoms) → List Sign → Items → Result Items Code
 signed_by atoms [] value = Ok value
 signed_by atoms (sign ∷ signs) value =
-    signed_by atoms signs value >>? (λ found. operated (sum_op (is_minus sign)) (an_integer (pos 0) ∷ []) (atoms found))
+    signed_by atoms signs value >>? (λ found. operated (sum_op (is_minus sign)) (atom.Int (pos 0) ∷ []) (atoms found))
 
 -- the integers from one to another, both among them: none where the first is greater, and not too many
 abbrev pub range_of : ℤ → ℤ → Result Items Code
@@ -198,10 +193,10 @@ range_of n m =
 
 -- what an item of a sum is made: a string or a truth value is none
 abbrev pub summand : Atom → Result ℤ Code
-summand (untyped text) = to_integer text
-summand (a_string text) = Err FORG0006
-summand (an_integer n) = Ok n
-summand (a_boolean b) = Err FORG0006
+summand (atom.Untyped text) = to_integer text
+summand (atom.Text text) = Err FORG0006
+summand (atom.Int n) = Ok n
+summand (atom.Truth b) = Err FORG0006
 
 abbrev pub summands : Atoms → Result (List ℤ) Code
 summands [] = Ok []

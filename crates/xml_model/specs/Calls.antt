@@ -8,7 +8,9 @@ use Rattle.xq_ast.specs.declared.code.Code.TheVariants.{XPDY0002, XPTY0004}
 use Rattle.xml_model.specs.Forest.{Forest}
 use Rattle.xml_model.specs.Place.{Placed}
 use Rattle.xml_model.specs.Items.{NodeAt, Item, Items, node, string, integer, boolean, Made, Making, give, fail, plain, look, ◌>>=◌, ◌>>?◌, node_at}
-use Rattle.xml_model.specs.Atoms.{Atom, Atoms, untyped, a_string, an_integer, a_boolean, atom_text, effective_boolean, sum_of}
+use Rattle.xml_model.specs.declared.value.Atom.{Atom}
+use Rattle.xml_model.specs.declared.value.Atom.TheVariants as atom
+use Rattle.xml_model.specs.Atoms.{Atoms, atom_text, effective_boolean, sum_of}
 use Rattle.xml_model.specs.Nodes.{atomized_item, atomized, name_of}
 use Rattle.xml_model.specs.Constructors.{limited_text}
 
@@ -67,10 +69,10 @@ name_of_one F made (item ∷ other ∷ items) = Err XPTY0004
 -- an argument that must be a string: nothing is the empty one, and a node has its string value
 abbrev pub string_argument : Atoms → Result (List ℕ) Code
 string_argument [] = Ok []
-string_argument (untyped text ∷ []) = Ok text
-string_argument (a_string text ∷ []) = Ok text
-string_argument (an_integer n ∷ []) = Err XPTY0004
-string_argument (a_boolean b ∷ []) = Err XPTY0004
+string_argument (atom.Untyped text ∷ []) = Ok text
+string_argument (atom.Text text ∷ []) = Ok text
+string_argument (atom.Int n ∷ []) = Err XPTY0004
+string_argument (atom.Truth b ∷ []) = Err XPTY0004
 string_argument (value ∷ other ∷ values) = Err XPTY0004
 
 -- an argument of `concat`: nothing, or one atomic value of any type

@@ -12,7 +12,9 @@ use Rattle.xml_model.specs.Forest.{Forest}
 use Rattle.xml_model.specs.Place.{Placed, the_document, a_node, an_attribute}
 use Rattle.xml_model.specs.Trees.{count_node, bytes_node, depth_node, has_attribute}
 use Rattle.xml_model.specs.Items.{Item, Items, node, string, integer, boolean, Made, node_at, ◌>>?◌}
-use Rattle.xml_model.specs.Atoms.{Atom, Atoms, a_string, an_integer, a_boolean, atom_text}
+use Rattle.xml_model.specs.declared.value.Atom.{Atom}
+use Rattle.xml_model.specs.declared.value.Atom.TheVariants as atom
+use Rattle.xml_model.specs.Atoms.{Atoms, atom_text}
 
 -- what content is made of
 pub data Piece : Type 0 where
@@ -35,9 +37,9 @@ words (w ∷ ws) = a_child (Text (join_with_byte 32 (w ∷ ws))) ∷ []
 abbrev pub pieces : Forest → Made → List (List ℕ) → Items → List Piece
 pieces F made before [] = words before
 pieces F made before (node n ∷ items) = words before ++ (pieces_of (node_at F made n) ++ pieces F made [] items)
-pieces F made before (string text ∷ items) = pieces F made (before ++ atom_text (a_string text) ∷ []) items
-pieces F made before (integer n ∷ items) = pieces F made (before ++ atom_text (an_integer n) ∷ []) items
-pieces F made before (boolean b ∷ items) = pieces F made (before ++ atom_text (a_boolean b) ∷ []) items
+pieces F made before (string text ∷ items) = pieces F made (before ++ atom_text (atom.Text text) ∷ []) items
+pieces F made before (integer n ∷ items) = pieces F made (before ++ atom_text (atom.Int n) ∷ []) items
+pieces F made before (boolean b ∷ items) = pieces F made (before ++ atom_text (atom.Truth b) ∷ []) items
 
 -- ---- texts that are neighbours, and empty ones
 

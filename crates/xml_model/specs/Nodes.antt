@@ -19,7 +19,9 @@ use Rattle.xml_model.specs.Place.{Placed, the_document, a_node, an_attribute, pl
 use Rattle.xml_model.specs.Axes.{axis_places, string_value}
 use Rattle.xml_model.specs.DocumentOrder.{union, in_order}
 use Rattle.xml_model.specs.Items.{Tree, stored, constructed, NodeAt, Item, Items, node, string, integer, boolean, Made, root_of, node_at, ◌>>?◌}
-use Rattle.xml_model.specs.Atoms.{Atom, Atoms, untyped, a_string, an_integer, a_boolean}
+use Rattle.xml_model.specs.declared.value.Atom.{Atom}
+use Rattle.xml_model.specs.declared.value.Atom.TheVariants as atom
+use Rattle.xml_model.specs.Atoms.{Atoms}
 
 -- ---- document order
 
@@ -59,10 +61,10 @@ value_at (Some there) = string_value there
 
 -- atomizing: a node gives its string value, untyped
 abbrev pub atomized_item : Forest → Made → Item → Atom
-atomized_item F made (node n) = untyped (value_at (node_at F made n))
-atomized_item F made (string text) = a_string text
-atomized_item F made (integer n) = an_integer n
-atomized_item F made (boolean b) = a_boolean b
+atomized_item F made (node n) = atom.Untyped (value_at (node_at F made n))
+atomized_item F made (string text) = atom.Text text
+atomized_item F made (integer n) = atom.Int n
+atomized_item F made (boolean b) = atom.Truth b
 
 abbrev pub atomized : Forest → Made → Items → Atoms
 atomized F made items = map (atomized_item F made) items

@@ -6,9 +6,15 @@ use Rattle.std.specs.declared.cmp.Ordering.{Ordering}
 use Rattle.std.specs.declared.cmp.Ordering.TheVariants.{Less, Equal, Greater}
 use Rattle.xq_ast.specs.declared.code.Code.{Code}
 use Rattle.xq_ast.specs.declared.code.Code.TheVariants.{XPTY0004}
+use Rattle.xml_model.specs.declared.value.Key.{Key}
+use Rattle.xml_model.specs.declared.value.Key.TheVariants as key
+use Rattle.xml_model.specs.declared.value.KeyType.{KeyType}
+use Rattle.xml_model.specs.declared.value.KeyType.TheVariants as types
 use Rattle.xml_model.specs.Forest.{Forest}
 use Rattle.xml_model.specs.Items.{Items, Making, give, plain, look, ◌>>=◌, ◌>>?◌}
-use Rattle.xml_model.specs.Atoms.{Atoms, untyped, a_string, an_integer, a_boolean, text_cmp, effective_boolean}
+use Rattle.xml_model.specs.declared.value.Atom.{Atom}
+use Rattle.xml_model.specs.declared.value.Atom.TheVariants as atom
+use Rattle.xml_model.specs.Atoms.{Atoms, text_cmp, effective_boolean}
 use Rattle.xml_model.specs.Nodes.{atomized}
 use Rattle.xml_model.specs.Calls.{Context}
 
@@ -36,71 +42,58 @@ pub record KeyMeans : Type 0 where
 
 -- ---- keys
 
--- the value that a tuple is ordered by at one place; an untyped value is a string
-pub data Key : Type 0 where
-  no_key : Key
-  string_key : List ℕ → Key
-  integer_key : ℤ → Key
-  boolean_key : Bool → Key
-
+-- an untyped value is ordered as a string
 abbrev pub key_of : Atoms → Result Key Code
-key_of [] = Ok no_key
-key_of (untyped text ∷ []) = Ok (string_key text)
-key_of (a_string text ∷ []) = Ok (string_key text)
-key_of (an_integer n ∷ []) = Ok (integer_key n)
-key_of (a_boolean b ∷ []) = Ok (boolean_key b)
+key_of [] = Ok key.Empty
+key_of (atom.Untyped text ∷ []) = Ok (key.Text text)
+key_of (atom.Text text ∷ []) = Ok (key.Text text)
+key_of (atom.Int n ∷ []) = Ok (key.Int n)
+key_of (atom.Truth b ∷ []) = Ok (key.Truth b)
 key_of (value ∷ other ∷ values) = Err XPTY0004
 
--- the type of the keys at one place so far, and `no_type` where all were empty
-pub data KeyType : Type 0 where
-  no_type : KeyType
-  strings : KeyType
-  integers : KeyType
-  booleans : KeyType
-
 abbrev pub type_of : Key → KeyType
-type_of no_key = no_type
-type_of (string_key text) = strings
-type_of (integer_key n) = integers
-type_of (boolean_key b) = booleans
+type_of key.Empty = types.Unknown
+type_of (key.Text text) = types.Text
+type_of (key.Int n) = types.Int
+type_of (key.Truth b) = types.Truth
 
 -- the type at a place with one more key, which must have that of the earlier ones
 abbrev pub joined_type : KeyType → KeyType → Result KeyType Code
-joined_type no_type t = Ok t
-joined_type strings no_type = Ok strings
-joined_type strings strings = Ok strings
-joined_type strings integers = Err XPTY0004
-joined_type strings booleans = Err XPTY0004
-joined_type integers no_type = Ok integers
-joined_type integers strings = Err XPTY0004
-joined_type integers integers = Ok integers
-joined_type integers booleans = Err XPTY0004
-joined_type booleans no_type = Ok booleans
-joined_type booleans strings = Err XPTY0004
-joined_type booleans integers = Err XPTY0004
-joined_type booleans booleans = Ok booleans
+joined_type types.Unknown t = Ok t
+joined_type types.Text types.Unknown = Ok types.Text
+joined_type types.Text types.Text = Ok types.Text
+joined_type types.Text types.Int = Err XPTY0004
+joined_type types.Text types.Truth = Err XPTY0004
+joined_type types.Int types.Unknown = Ok types.Int
+joined_type types.Int types.Text = Err XPTY0004
+joined_type types.Int types.Int = Ok types.Int
+joined_type types.Int types.Truth = Err XPTY0004
+joined_type types.Truth types.Unknown = Ok types.Truth
+joined_type types.Truth types.Text = Err XPTY0004
+joined_type types.Truth types.Int = Err XPTY0004
+joined_type types.Truth types.Truth = Ok types.Truth
 
 -- an empty key is least; keys of two types are not compared, and their order here is of no consequence
 abbrev pub type_rank : KeyType → ℕ
-type_rank no_type = 0
-type_rank strings = 1
-type_rank integers = 2
-type_rank booleans = 3
+type_rank types.Unknown = 0
+type_rank types.Text = 1
+type_rank types.Int = 2
+type_rank types.Truth = 3
 
 abbrev pub value_cmp : Key → Key → Ordering
-value_cmp no_key k = Equal
-value_cmp (string_key a) no_key = Equal
-value_cmp (string_key a) (string_key b) = text_cmp a b
-value_cmp (string_key a) (integer_key b) = Equal
-value_cmp (string_key a) (boolean_key b) = Equal
-value_cmp (integer_key a) no_key = Equal
-value_cmp (integer_key a) (string_key b) = Equal
-value_cmp (integer_key a) (integer_key b) = int_cmp a b
-value_cmp (integer_key a) (boolean_key b) = Equal
-value_cmp (boolean_key a) no_key = Equal
-value_cmp (boolean_key a) (string_key b) = Equal
-value_cmp (boolean_key a) (integer_key b) = Equal
-value_cmp (boolean_key a) (boolean_key b) = bool_cmp a b
+value_cmp key.Empty k = Equal
+value_cmp (key.Text a) key.Empty = Equal
+value_cmp (key.Text a) (key.Text b) = text_cmp a b
+value_cmp (key.Text a) (key.Int b) = Equal
+value_cmp (key.Text a) (key.Truth b) = Equal
+value_cmp (key.Int a) key.Empty = Equal
+value_cmp (key.Int a) (key.Text b) = Equal
+value_cmp (key.Int a) (key.Int b) = int_cmp a b
+value_cmp (key.Int a) (key.Truth b) = Equal
+value_cmp (key.Truth a) key.Empty = Equal
+value_cmp (key.Truth a) (key.Text b) = Equal
+value_cmp (key.Truth a) (key.Int b) = Equal
+value_cmp (key.Truth a) (key.Truth b) = bool_cmp a b
 
 abbrev pub key_cmp : Key → Key → Ordering
 key_cmp a b = ordering_then (nat_cmp (type_rank (type_of a)) (type_rank (type_of b))) (value_cmp a b)
@@ -142,7 +135,7 @@ abbrev pub no_keys : Keyed
 no_keys = record { keys = []; types = [] }
 
 abbrev pub first_type : List KeyType → KeyType
-first_type [] = no_type
+first_type [] = types.Unknown
 first_type (t ∷ ts) = t
 
 abbrev pub other_types : List KeyType → List KeyType

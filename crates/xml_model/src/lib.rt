@@ -25,6 +25,7 @@ mod node;
 mod place;
 mod text_lines;
 mod valid;
+mod value;
 
 pub use call_needs::needs;
 pub use changes::DocChanges;
@@ -39,4 +40,5 @@ pub use node::{Attr, AttrList, Doc, Measure, Node, NodeList, RefusedLine};
 pub use place::{Place, PlaceStep, place_order};
 pub use text_lines::{FirstLine, first_line};
 pub use valid::has_attribute;
+pub use value::{Atom, Key, KeyType, SharedText};
 pub use xq_ast::{NAME_BYTES_MAX, is_name};
