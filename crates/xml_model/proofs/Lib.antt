@@ -1,3 +1,5 @@
+pub mod Bounded
+pub mod Computing
 pub mod Entries
 pub mod Escapes
 pub mod Formed
@@ -10,6 +12,7 @@ pub mod ReadAgain
 pub mod ReadIsValid
 pub mod ReadIsSpelled
 pub mod SpelledIsRead
+mod MeaningRows
 mod NavRows
 mod Rows
 pub mod TextAgain

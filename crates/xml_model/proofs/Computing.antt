@@ -1,0 +1,431 @@
+-- The definitions of what queries mean once more, over any look-up of documents and any fold of nodes: at ones that
+-- compute they compute.
+use Rattle.std.specs.Fmt.{digits, char_count, signed_decimal}
+use Rattle.std.specs.List.{concat}
+use Rattle.std.specs.Option.{option_map_or}
+use Rattle.std.specs.Prelude.{◌≡◌, refl, T, ℕ, Bool, Err, List, None, Ok, Option, Result, Some, [], codes, false, filter, if◌then◌else◌, length, map, nat_lt, not, option_map, pos, slice_get, true, ℕ, ◌++◌, ◌+◌, ◌∷◌}
+use Rattle.xml_model.specs.Atoms.{Atoms, atom_text, boolean_text, chained, compares, effective_boolean, operated, product_op, range_of, signed_by, sum_of, sum_op}
+use Rattle.xml_model.specs.Axes.{attribute_places, child_places, down_step, into_each, led, parent_places, texts_step}
+use Rattle.xml_model.specs.Calls.{Context, Row, answer_of_row, begins_with, concat_arguments, context_item, first_of, has_within, is_empty, name_at, of_focus, one_boolean as answer_boolean, one_integer, one_string, or_context, second_of, string_argument, tested_texts}
+use Rattle.xml_model.specs.Constructors.{Piece, attributes_of, children_of, has_late_attribute, has_name_twice, is_empty_text, joined_texts, limited_text, piece_text, pieces_of, spaced, words}
+use Rattle.xml_model.specs.Evaluation.{StepMeans, all_of, any_of, content_or, counted, filtered, found, from_each, one_after_another, one_boolean, or_nothing, parts, truth, values}
+use Rattle.xml_model.specs.ItemLines.{atom_line}
+use Rattle.xml_model.specs.Items.{fail, Item, Items, Made, Making, NodeAt, Tree, boolean, construct, constructed, give, integer, look, node, plain, stored, string, ◌>>=◌, ◌>>?◌}
+use Rattle.xml_model.specs.Nodes.{is_attribute_axis, nodes_or, passes_at, united_all}
+use Rattle.xml_model.specs.Place.{Placed, a_node, an_attribute, kids_of, placed_from, the_document}
+use Rattle.xml_model.specs.Pyx.{Line, attribute_line, pyx_step}
+use Rattle.xml_model.specs.Trees.{bytes_step, count_step, depth_step, joined}
+use Rattle.xml_model.specs.Tuples.{BindMeans, Bindings, KeyMeans, Keyed, Means, Tuples, first_type, joined_type, key_of, no_keys, no_tuples, other_types, returned, sorted, type_of, with_key, with_row}
+use Rattle.xml_model.specs.declared.limits.TheConstants.{DEPTH_MAX, NODES_MAX, TEXT_BYTES_MAX}
+use Rattle.xml_model.specs.declared.node.Doc.{Doc}
+use Rattle.xml_model.specs.declared.node.Node.{Node, Element', Pi, Row_of-Node, end_of-Node, more_of-Node, items-the_row-Node, out-Node}
+use Rattle.xml_model.specs.declared.node.Node.TheOpen.{Node-F}
+use Rattle.xml_model.specs.declared.node.Node.TheVariants.{Element, Text}
+use Rattle.xml_model.specs.declared.place.PlaceStep.{PlaceStep}
+use Rattle.xml_model.specs.declared.value.Atom.{Atom}
+use Rattle.xml_model.specs.declared.value.KeyType.{KeyType}
+use Rattle.xq_ast.specs.declared.code.Code.{Code}
+use Rattle.xq_ast.specs.declared.code.Code.TheVariants.{NotBuilt, FODC0002, TooDeep, TooManyNodes, TooMuchText, XPTY0004, XPTY0019, XPTY0020, XQDY0025, XQTY0024}
+use Rattle.xq_ast.specs.declared.step.Axis.{Axis}
+use Rattle.xq_ast.specs.declared.step.Axis.TheVariants.{DescendantOrSelf}
+use Rattle.xq_ast.specs.declared.step.Test.{Test}
+use Rattle.xq_ast.specs.declared.step.Test.TheVariants.{AnyNode}
+use Rattle.xq_ast.specs.declared.tree.Bind.TheOpen.{Bind-F, Expr-F, Start-F, Step-F}
+use Rattle.xq_ast.specs.declared.tree.ProductOp.{ProductOp}
+use Rattle.xml_model.specs.declared.value.Atom.TheVariants as atom
+use Rattle.xq_ast.specs.declared.step.Axis.TheVariants as axis
+use Rattle.xml_model.specs.declared.value.Key.TheVariants as key
+use Rattle.xml_model.specs.declared.value.KeyType.TheVariants as types
+use Rattle.std.specs.FinMap as forests
+use Rattle.std.specs.Ordering.{nat_cmp}
+use Rattle.std.specs.Cmp.Lexicographic.{slice_cmp}
+use Rattle.std.proofs.Common.{sym, ap, ◌∙◌}
+use Rattle.xq_ast.specs.declared.tree.Bind.{out-Bind}
+use Rattle.xq_ast.specs.declared.tree.Expr.{Expr, out-Expr}
+use Rattle.xq_ast.specs.declared.tree.Start.{out-Start}
+use Rattle.xq_ast.specs.declared.tree.Bind.TheBlock as block
+use Rattle.xml_model.specs.declared.node.Node.TheBlock as nodes
+use Rattle.xml_model.specs.declared.node.Node.TheFolds.{fold-Node}
+use Rattle.xml_model.specs.Forest.{Forest}
+use Rattle.xml_model.specs.Evaluation as spec
+use Rattle.xml_model.specs.ItemLines.{lines_of as spec_lines}
+use Rattle.xml_model.proofs.Bounded.{run, fits, bounded}
+use Rattle.xml_model.proofs.Nodes.{fold-Element', fold-Text, fold-Pi}
+
+module _ (docs : List ℕ → Option Doc) (fold : (A : Type 0) → (Node-F A → A) → Node → A) where
+  abbrev pub ways_down : Node → List (List PlaceStep)
+  ways_down = fold (List (List PlaceStep)) down_step
+
+  abbrev pub descendant_ways : Placed → List (List PlaceStep)
+  descendant_ways from = into_each 0 (map ways_down (kids_of from))
+
+  abbrev pub descendant_places : Placed → List PlaceStep → List (List PlaceStep)
+  descendant_places = led descendant_ways
+
+  abbrev pub axis_places : Axis → Placed → List PlaceStep → List (List PlaceStep)
+  axis_places axis.Child root place = child_places root place
+  axis_places axis.Descendant root place = descendant_places root place
+  axis_places axis.DescendantOrSelf root place = place ∷ descendant_places root place
+  axis_places axis.Itself root place = place ∷ []
+  axis_places axis.Attribute root place = attribute_places root place
+  axis_places axis.Parent root place = parent_places root place
+
+  abbrev pub texts_in : Node → List ℕ
+  texts_in = fold (List ℕ) texts_step
+
+  -- of an element or a document the texts in it; of a text, an instruction or an attribute its value
+  abbrev pub string_in : Node-F Node → List ℕ
+  string_in (Node-F.Element name attrs kids) = joined (map texts_in kids)
+  string_in (Node-F.Text value) = value
+  string_in (Node-F.Pi target value) = value
+
+  abbrev pub string_value : Placed → List ℕ
+  string_value (the_document doc) = joined (map texts_in doc.kids)
+  string_value (a_node n) = string_in (out-Node n)
+  string_value (an_attribute a) = a.value
+
+  -- the number of nodes in this one: itself, its attributes and all that stands in it
+  abbrev pub count_node : Node → ℕ
+  count_node = fold ℕ count_step
+
+  -- the number of bytes that the values in a node have: of its texts, instructions and attributes
+  abbrev pub bytes_node : Node → ℕ
+  bytes_node = fold ℕ bytes_step
+
+  -- how many elements stand in one another in a node, itself counted: 0 of a text or an instruction
+  abbrev pub depth_node : Node → ℕ
+  depth_node = fold ℕ depth_step
+
+  abbrev pub root_of : Made → Tree → Option Placed
+  root_of made (stored name) = option_map the_document (docs name)
+  root_of made (constructed number) = slice_get made number
+
+  abbrev pub node_at : Made → NodeAt → Option Placed
+  node_at made n = placed_from n.place (root_of made n.tree)
+
+  abbrev pub value_at : Option Placed → List ℕ
+  value_at None = []
+  value_at (Some there) = string_value there
+
+  -- atomizing: a node gives its string value, untyped
+  abbrev pub atomized_item : Made → Item → Atom
+  atomized_item made (node n) = atom.Untyped (value_at (node_at made n))
+  atomized_item made (string text) = atom.Text text
+  atomized_item made (integer n) = atom.Int n
+  atomized_item made (boolean b) = atom.Truth b
+
+  abbrev pub atomized : Made → Items → Atoms
+  atomized made items = map (atomized_item made) items
+
+  -- the nodes of an axis that pass the test, in document order
+  abbrev pub tested : Made → Axis → Test → NodeAt → List NodeAt
+  tested made way wanted n =
+      filter (λ m. passes_at (is_attribute_axis way) wanted (node_at made m))
+        (option_map_or (λ root. map (λ place. record { tree = n.tree; place = place }) (axis_places way root n.place)) (root_of made n.tree) [])
+
+  -- what the items make in order: nodes are copied, and documents replaced by their children. The first list has the
+  -- texts of the atomic values directly before.
+  abbrev pub pieces : Made → List (List ℕ) → Items → List Piece
+  pieces made before [] = words before
+  pieces made before (node n ∷ items) = words before ++ (pieces_of (node_at made n) ++ pieces made [] items)
+  pieces made before (string text ∷ items) = pieces made (before ++ atom_text (atom.Text text) ∷ []) items
+  pieces made before (integer n ∷ items) = pieces made (before ++ atom_text (atom.Int n) ∷ []) items
+  pieces made before (boolean b ∷ items) = pieces made (before ++ atom_text (atom.Truth b) ∷ []) items
+
+  abbrev pub content_of : Made → Items → List Piece
+  content_of made items = filter (λ p. not (is_empty_text (piece_text p))) (joined_texts (pieces made [] items))
+
+  -- a tree that keeps to the three limits
+  abbrev pub limited : Node → Result Node Code
+  limited n =
+      if nat_lt DEPTH_MAX (depth_node n) then Err TooDeep else
+      (if nat_lt NODES_MAX (count_node n) then Err TooManyNodes else
+      (if nat_lt TEXT_BYTES_MAX (bytes_node n) then Err TooMuchText else Ok n))
+
+  -- the tests in their order, each over the whole content
+  abbrev pub element : List ℕ → List Piece → Result Node Code
+  element name content =
+      if has_late_attribute false content then Err XQTY0024 else
+      (if has_name_twice (attributes_of content) then Err XQDY0025 else limited (Element name (attributes_of content) (children_of content)))
+
+  -- the string of one item at most
+  abbrev pub string_of : Made → Items → Result (List ℕ) Code
+  string_of made [] = Ok []
+  string_of made (item ∷ []) = Ok (atom_text (atomized_item made item))
+  string_of made (item ∷ other ∷ items) = Err XPTY0004
+
+  abbrev pub name_of_one : Made → Items → Result (List ℕ) Code
+  name_of_one made [] = Ok []
+  name_of_one made (node n ∷ []) = Ok (name_at (node_at made n))
+  name_of_one made (string text ∷ []) = Err XPTY0004
+  name_of_one made (integer n ∷ []) = Err XPTY0004
+  name_of_one made (boolean b ∷ []) = Err XPTY0004
+  name_of_one made (item ∷ other ∷ items) = Err XPTY0004
+
+  -- the argument's text, or without one the text of the context item
+  abbrev pub measured : Made → Context → List Items → Result (List ℕ) Code
+  measured made cx [] = context_item cx >>? string_of made
+  measured made cx (value ∷ more) = string_argument (atomized made value)
+
+  abbrev pub rows : Made → Context → List Row
+  rows made cx =
+      (codes "count", λ args. one_integer (pos (length (first_of args))))
+      ∷ (codes "empty", λ args. answer_boolean (is_empty (first_of args)))
+      ∷ (codes "exists", λ args. answer_boolean (not (is_empty (first_of args))))
+      ∷ (codes "not", λ args. effective_boolean (first_of args) >>? (λ b. answer_boolean (not b)))
+      ∷ (codes "true", λ args. answer_boolean true)
+      ∷ (codes "false", λ args. answer_boolean false)
+      ∷ (codes "string", λ args. or_context cx args >>? string_of made >>? one_string)
+      ∷ (codes "name", λ args. or_context cx args >>? name_of_one made >>? one_string)
+      ∷ (codes "contains", λ args. tested_texts has_within (atomized made (first_of args)) (atomized made (second_of args)))
+      ∷ (codes "starts-with", λ args. tested_texts begins_with (atomized made (first_of args)) (atomized made (second_of args)))
+      ∷ (codes "string-length", λ args. measured made cx args >>? (λ text. one_integer (pos (char_count text))))
+      ∷ (codes "concat", λ args. concat_arguments (map (atomized made) args) >>? (λ texts. one_string (concat texts)))
+      ∷ (codes "sum", λ args. sum_of (atomized made (first_of args)) >>? one_integer)
+      ∷ (codes "position", λ args. of_focus (λ focus. focus.position) cx)
+      ∷ (codes "last", λ args. of_focus (λ focus. focus.size) cx)
+      ∷ []
+
+  abbrev pub call_function : Made → Context → List ℕ → List Items → Result Items Code
+  call_function made cx = answer_of_row (rows made cx)
+
+  -- the keys in order, after those that are there; the types are those of earlier tuples at the places from here on
+  abbrev pub keyed : List KeyMeans → Bindings → Context → List KeyType → Keyed → Making Keyed
+  keyed [] env cx types all = give all
+  keyed (k ∷ ks) env cx types all =
+      k.value env cx >>= (λ value. look (λ made. key_of (atomized made value))) >>= (λ key.
+        plain (joined_type (first_type types) (type_of key)) >>= (λ type. keyed ks env cx (other_types types) (with_key all key type)))
+
+  -- whether `where` lets a tuple stay
+  abbrev pub stays : Option Means → Bindings → Context → Making Bool
+  stays None env cx = give true
+  stays (Some filter) env cx = filter env cx >>= (λ value. plain (effective_boolean value))
+
+  -- one tuple more, where it stays
+  abbrev pub tuple : Option Means → List KeyMeans → Bindings → Context → Tuples → Making Tuples
+  tuple filter keys env cx all =
+      stays filter env cx >>= (λ b. if b then keyed keys env cx all.types no_keys >>= (λ k. give (with_row all env k)) else give all)
+
+  -- for each of the values of a binding
+  abbrev pub each : (Bindings → Context → Tuples → Making Tuples) → Bindings → Context → List Bindings → Tuples → Making Tuples
+  each go env cx [] all = give all
+  each go env cx (bound ∷ more) all = go (env ++ bound) cx all >>= each go env cx more
+
+  -- all tuples of the bindings
+  abbrev pub tuples : List BindMeans → Option Means → List KeyMeans → Bindings → Context → Tuples → Making Tuples
+  tuples [] filter keys env cx all = tuple filter keys env cx all
+  tuples (bind ∷ binds) filter keys env cx all = bind env cx >>= (λ values. each (tuples binds filter keys) env cx values all)
+
+  -- what `//` stands for
+  abbrev pub below : NodeAt → Making (List NodeAt)
+  below n = look (λ made. Ok (tested made DescendantOrSelf AnyNode n))
+
+  abbrev pub stepped : StepMeans → Bindings → List NodeAt → Making (List NodeAt)
+  stepped s env ns =
+      (if s.deep then from_each below [] ns else give ns) >>= from_each (s.from_node env) []
+
+  -- before each step all items must be nodes
+  abbrev pub path_from : List StepMeans → Bindings → Items → Making Items
+  path_from [] env items = give items
+  path_from (s ∷ ss) env items = plain (nodes_or XPTY0019 items) >>= stepped s env >>= (λ ns. path_from ss env (map node ns))
+
+  -- the first step starts from the context item, which must be a node
+  abbrev pub first_step : StepMeans → Bindings → Context → Making Items
+  first_step s env cx =
+      plain (context_item cx >>? nodes_or XPTY0020) >>= stepped s env >>= (λ ns. give (map node ns))
+
+  abbrev pub document_node : Option Doc → List ℕ → Result Items Code
+  document_node None name = Err FODC0002
+  document_node (Some doc) name = Ok (node (record { tree = stored name; place = [] }) ∷ [])
+
+  abbrev pub ProductMeans : Type 0
+  ProductMeans = ProductOp × Means
+
+  abbrev pub SumMeans : Type 0
+  SumMeans = Bool × Means
+
+  -- an item and its position, counted from 1
+  abbrev pub bound_items : List ℕ → Option (List ℕ) → ℕ → Items → List Bindings
+  bound_items name at position [] = []
+  bound_items name None position (item ∷ items) = (record { name = name; value = item ∷ [] } ∷ []) ∷ bound_items name None (position + 1) items
+  bound_items name (Some at) position (item ∷ items) =
+      (record { name = name; value = item ∷ [] } ∷ record { name = at; value = integer (pos position) ∷ [] } ∷ [])
+      ∷ bound_items name (Some at) (position + 1) items
+
+  abbrev pub bind_step : Bind-F BindMeans Means Means ProductMeans KeyMeans StepMeans SumMeans → BindMeans
+  bind_step (Bind-F.For name at source) env cx = source env cx >>= (λ items. give (bound_items name at 1 items))
+  bind_step (Bind-F.Let name value) env cx = value env cx >>= (λ items. give ((record { name = name; value = items } ∷ []) ∷ []))
+
+  abbrev pub value_of : Expr-F BindMeans Means Means ProductMeans KeyMeans StepMeans SumMeans → Means
+  value_of (Expr-F.Text value) env cx = give (string value ∷ [])
+  value_of (Expr-F.Int value) env cx = give (integer value ∷ [])
+  value_of (Expr-F.Var name) env cx = give (or_nothing (found name env))
+  value_of Expr-F.Context env cx = plain (context_item cx)
+  value_of (Expr-F.Seq es) env cx = one_after_another es env cx
+  value_of (Expr-F.Flwor binds filter keys result) env cx =
+      tuples binds filter keys env cx no_tuples >>= (λ all. returned result cx (sorted keys all.rows))
+  value_of (Expr-F.If test good other) env cx = truth test env cx >>= (λ b. if b then good env cx else other env cx)
+  value_of (Expr-F.Or es) env cx = any_of es env cx >>= (λ b. give (one_boolean b))
+  value_of (Expr-F.And es) env cx = all_of es env cx >>= (λ b. give (one_boolean b))
+  value_of (Expr-F.Compare left op right) env cx =
+      left env cx >>= (λ a. right env cx >>= (λ b. look (λ made. compares op (atomized made a) (atomized made b)) >>= (λ t. give (one_boolean t))))
+  value_of (Expr-F.Range low high) env cx =
+      low env cx >>= (λ a. high env cx >>= (λ b. look (λ made. operated range_of (atomized made a) (atomized made b))))
+  value_of (Expr-F.Sum first rest) env cx =
+      first env cx >>= (λ a. parts rest env cx >>= (λ more. look (λ made. chained (atomized made) sum_op a more)))
+  value_of (Expr-F.Product first rest) env cx =
+      first env cx >>= (λ a. parts rest env cx >>= (λ more. look (λ made. chained (atomized made) product_op a more)))
+  value_of (Expr-F.Union es) env cx = values es env cx >>= (λ lists. plain (united_all [] lists)) >>= (λ ns. give (map node ns))
+  value_of (Expr-F.Signed signs inner) env cx = inner env cx >>= (λ a. look (λ made. signed_by (atomized made) signs a))
+  value_of (Expr-F.Path start rest) env cx = start env cx >>= path_from rest env
+  value_of (Expr-F.Filter inner preds) env cx = inner env cx >>= filtered (λ item. item) preds env
+  value_of (Expr-F.Fun name args) env cx = values args env cx >>= (λ lists. look (λ made. call_function made cx name lists))
+  value_of (Expr-F.Doc name) env cx = plain (document_node (docs name) name)
+  value_of (Expr-F.Element name content) env cx =
+      content_or content env cx >>= (λ items. look (λ made. element name (content_of made items))) >>= (λ n. construct (a_node n))
+  value_of (Expr-F.Attribute name content) env cx =
+      content_or content env cx >>= (λ items. look (λ made. limited_text (spaced (atomized made items))))
+      >>= (λ value. construct (an_attribute (record { name = name; value = value })))
+  value_of (Expr-F.TextNode content) env cx = content_or content env cx >>= new_text
+    where
+    new_text : Items → Making Items
+    new_text [] = give []
+    new_text (item ∷ items) = look (λ made. limited_text (spaced (atomized made (item ∷ items)))) >>= (λ value. construct (a_node (Text value)))
+
+  abbrev pub expr_step : Expr-F BindMeans Means Means ProductMeans KeyMeans StepMeans SumMeans → Means
+  expr_step layer env cx = value_of layer env cx >>= counted
+
+  abbrev pub start_step : Start-F BindMeans Means Means ProductMeans KeyMeans StepMeans SumMeans → Means
+  start_step (Start-F.Value inner) env cx = inner env cx
+  start_step (Start-F.First step) env cx = first_step step env cx
+
+  -- the nodes of the axis that pass the test, and then each predicate
+  abbrev pub step_step : Step-F BindMeans Means Means ProductMeans KeyMeans StepMeans SumMeans → StepMeans
+  step_step s = record {
+      deep = s.deep;
+      from_node = λ env n. look (λ made. Ok (tested made s.axis s.test n)) >>= filtered node s.preds env }
+
+  -- the canonical lines of a node
+  abbrev pub pyx_node : Node → List Line
+  pyx_node = fold (List Line) pyx_step
+
+  -- the canonical lines of nodes, one node after another
+  abbrev pub pyx_of : List Node → List Line
+  pyx_of nodes = joined (map pyx_node nodes)
+
+  -- the canonical lines of a document
+  abbrev pub pyx : Doc → List Line
+  pyx doc = pyx_of doc.kids
+
+  -- an element has its lines of PYX, an attribute, a text or an instruction its one line, and a document those of its
+  -- children
+  abbrev pub placed_lines : Option Placed → List Line
+  placed_lines None = []
+  placed_lines (Some (the_document doc)) = pyx doc
+  placed_lines (Some (a_node n)) = pyx_node n
+  placed_lines (Some (an_attribute a)) = attribute_line a ∷ []
+
+  abbrev pub item_lines : Made → Item → List Line
+  item_lines made (node n) = placed_lines (node_at made n)
+  item_lines made (string text) = atom_line text
+  item_lines made (integer n) = atom_line (signed_decimal n)
+  item_lines made (boolean b) = atom_line (boolean_text b)
+
+  abbrev pub lines_of : Made → Items → List Line
+  lines_of made items = joined (map (item_lines made) items)
+
+-- ---- the definitions are these, at the forest's look-up and the fold of nodes
+
+module _ (F : Forest) where
+  abbrev the_fold : (A : Type 0) → (Node-F A → A) → Node → A
+  the_fold A step n = fold-Node A step n
+
+  -- a layer of an expression
+  same_expr_step : expr_step (forests.get F) the_fold ≡ spec.expr_step F
+  same_expr_step = refl
+
+  same_step_step : step_step (forests.get F) the_fold ≡ spec.step_step F
+  same_step_step = refl
+
+  same_start_step : start_step (forests.get F) the_fold ≡ spec.start_step F
+  same_start_step = refl
+
+  same_bind_step : bind_step (forests.get F) the_fold ≡ spec.bind_step F
+  same_bind_step = refl
+
+  same_lines : lines_of (forests.get F) the_fold ≡ spec_lines F
+  same_lines = refl
+
+-- ---- a fold of nodes that computes
+
+module _ (A : Type 0) (step : Node-F A → A) where
+  abbrev mutual
+    -- by the constructors of nodes
+    pub refold : Node → A
+    refold (Element' name attrs s row) = step (Node-F.Element name attrs (refold_row row))
+    refold (Text value) = step (Node-F.Text value)
+    refold (Pi target value) = step (Node-F.Pi target value)
+
+    pub refold_row : {m : _} → Row_of-Node m → List A
+    refold_row end_of-Node = []
+    refold_row (more_of-Node n row) = refold n ∷ refold_row row
+
+  mutual
+    refolds : (n : Node) → fold-Node A step n ≡ refold n
+    refolds (Element' name attrs s row) = fold-Element' A step name attrs s row ∙ ap (λ kids. step (Node-F.Element name attrs kids)) (refolds_row row)
+    refolds (Text value) = fold-Text A step value
+    refolds (Pi target value) = fold-Pi A step target value
+
+    refolds_row : {m : _} (row : Row_of-Node m) → map (fold-Node A step) (items-the_row-Node m row) ≡ refold_row row
+    refolds_row end_of-Node = refl
+    refolds_row (more_of-Node n row) = λ i. refolds n i ∷ refolds_row row i
+
+same_fold : ◌≡◌ {A = (A : Type 0) → (Node-F A → A) → Node → A} (λ A step n. fold-Node A step n) refold
+same_fold = λ i A step n. refolds A step n i
+
+-- ---- answers
+
+abbrev pub Entries : Type 0
+Entries = List (List ℕ × Doc)
+
+-- the document of this name
+abbrev pub looked : Entries → List ℕ → Option Doc
+looked es name = forests.find (slice_cmp nat_cmp) name es
+
+same_looked : (es : Entries) → T (forests.is_sorted (slice_cmp nat_cmp) es) → forests.get (forests.from_sorted {R = slice_cmp nat_cmp} es) ≡ looked es
+same_looked es h = λ i name. forests.get-from_sorted (slice_cmp nat_cmp) es name h i
+
+-- the lines of an answer, or its code
+abbrev pub with_lines : (Made → Items → List Line) → Result (Items × Made) Code → Result (List Line) Code
+with_lines lines (Ok both) = Ok (lines both.1 both.0)
+with_lines lines (Err code) = Err code
+
+-- what an expression answers where these are the documents, in the order of their names
+abbrev pub answer : Entries → Expr → Result (List Line) Code
+answer es e = let F : Forest = forests.from_sorted es in with_lines (spec_lines F) (spec.eval F e)
+
+module _ (docs : List ℕ → Option Doc) (fold : (A : Type 0) → (Node-F A → A) → Node → A) where
+  -- the meaning of an expression that is no deeper than the number
+  abbrev pub meaning_to : ℕ → Expr → Means
+  meaning_to = run (λ env cx. fail NotBuilt) (bind_step docs fold) (expr_step docs fold) (start_step docs fold)
+      (λ p. (p.op, p.expr)) (λ k. record { value = k.expr; descending = k.descending }) (step_step docs fold) (λ p. (p.minus, p.expr))
+
+  abbrev pub answer_to : ℕ → Expr → Result (List Line) Code
+  answer_to n e = with_lines (lines_of docs fold) (meaning_to n e [] None [])
+
+-- where no expression is deeper, the answer is what computes
+pub computes : (es : Entries) → T (forests.is_sorted (slice_cmp nat_cmp) es) → (n : ℕ) (e : Expr) → fits n e ≡ true → answer es e ≡ answer_to (looked es) refold n e
+computes es sorted n e h =
+    let F : Forest = forests.from_sorted es in
+    let whole : meaning_to (forests.get F) (the_fold F) n e ≡ spec.meaning F e = bounded (λ env cx. fail NotBuilt) (spec.bind_step F) (spec.expr_step F) (spec.start_step F)
+          (spec.product_step F) (spec.key_step F) (spec.step_step F) (spec.sum_step F) n e h in
+    ap (λ means. with_lines (spec_lines F) (means [] None [])) (sym whole)
+    ∙ (λ i. answer_to (same_looked es sorted i) (same_fold i) n e)
+
+-- what has to unfold where an answer computes
+unfoldable pub seen : Type 0
+unfolding out-Bind out-Expr out-Start block.shown-the_row-Expr-0 block.shown-the_row-Bind-1 block.shown-the_row-Expr-2 block.shown-the_row-SortKey-3 block.shown-the_row-SumPart-4 block.shown-the_row-ProductPart-5 block.shown-the_row-Step-6 out-Node nodes.shown-the_row-Node-0 nodes.hidden-the_row-Node-0 denote.Hole.Carrier.out denote.Hole.Carrier.shown denote.Hole.Carrier.hidden digits char_count
+seen = ℕ
+
+pub used : (n : ℕ) → n ≡ n
+used n = refl
