@@ -31,6 +31,7 @@ abbrev pub boolean_text : Bool → List ℕ
 boolean_text true = codes "true"
 boolean_text false = codes "false"
 
+-- the text of a value: an integer in decimal, with `-` where it is negative, and a truth value `true` or `false`
 abbrev pub atom_text : Atom → List ℕ
 atom_text (atom.Untyped text) = text
 atom_text (atom.Text text) = text
@@ -74,6 +75,7 @@ to_boolean text =
 
 -- ---- the effective boolean value
 
+-- nothing is false and a node in front true; a value alone is tested by itself, and more of them have no such value
 abbrev pub effective_boolean : Items → Result Bool Code
 effective_boolean [] = Ok false
 effective_boolean (node n ∷ more) = Ok true
@@ -90,6 +92,7 @@ effective_boolean (boolean b ∷ item ∷ more) = Err FORG0006
 abbrev pub text_cmp : List ℕ → List ℕ → Ordering
 text_cmp = slice_cmp nat_cmp
 
+-- whether two values in this order compare so
 abbrev pub ordered_by : CompareOp → Ordering → Bool
 ordered_by Eq = is_eq
 ordered_by Ne = is_ne
@@ -130,7 +133,7 @@ some_right op a (b ∷ bs) = atom_cmp a b >>? (λ o. or_else (ordered_by op o) (
 -- some pair compares so; pairs are taken left value by left value
 abbrev pub compares : CompareOp → Atoms → Atoms → Result Bool Code
 compares op [] bs = Ok false
-compares op (a ∷ more) bs = some_right op a bs >>? (λ found. or_else found (compares op more bs))
+compares op (a ∷ more) bs = some_right op a bs >>? (λ is_found. or_else is_found (compares op more bs))
 
 -- ---- arithmetic
 
@@ -141,8 +144,8 @@ operand (atom.Text text) = Err XPTY0004
 operand (atom.Int n) = Ok n
 operand (atom.Truth b) = Err XPTY0004
 
--- what is made of two operands. Where one side is empty it is nothing; then each side has one value, and each is made
--- an integer, the left first.
+-- what is made of two operands. Where one side is empty it is nothing. More than one value on a side is XPTY0004, and
+-- then each is made an integer, the left first.
 abbrev pub operated : (ℤ → ℤ → Result Items Code) → Atoms → Atoms → Result Items Code
 operated op [] bs = Ok []
 operated op (a ∷ more) [] = Ok []
@@ -173,6 +176,7 @@ abbrev pub chained : {O : Type 0} → (Items → Atoms) → (O → ℤ → ℤ �
 chained atoms op left [] = Ok left
 chained atoms op left (part ∷ parts) = operated (op part.0) (atoms left) (atoms part.1) >>? (λ found. chained atoms op found parts)
 
+-- `-` subtracts
 abbrev pub is_minus : Sign → Bool
 is_minus Plus = false
 is_minus Minus = true
@@ -183,7 +187,8 @@ signed_by atoms [] value = Ok value
 signed_by atoms (sign ∷ signs) value =
     signed_by atoms signs value >>? (λ found. operated (sum_op (is_minus sign)) (atom.Int (pos 0) ∷ []) (atoms found))
 
--- the integers from one to another, both among them: none where the first is greater, and not too many
+-- the integers from one to another, both among them: none where the first is greater, and
+-- TooManyItems where there are more than a value may have
 abbrev pub range_of : ℤ → ℤ → Result Items Code
 range_of n m =
     if int_lt m n then Ok [] else
@@ -198,6 +203,7 @@ summand (atom.Text text) = Err FORG0006
 summand (atom.Int n) = Ok n
 summand (atom.Truth b) = Err FORG0006
 
+-- all of them, from the left
 abbrev pub summands : Atoms → Result (List ℤ) Code
 summands [] = Ok []
 summands (a ∷ more) = summand a >>? (λ n. summands more >>? (λ ns. Ok (n ∷ ns)))

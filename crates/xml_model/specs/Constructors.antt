@@ -21,6 +21,7 @@ pub data Piece : Type 0 where
   an_attribute_piece : Attr → Piece
   a_child : Node → Piece
 
+-- what a node is in content
 abbrev pub pieces_of : Option Placed → List Piece
 pieces_of None = []
 pieces_of (Some (the_document doc)) = map a_child doc.kids
@@ -62,6 +63,7 @@ abbrev pub joined_to : Piece → List Piece → List Piece
 joined_to p [] = p ∷ []
 joined_to p (q ∷ ps) = joined_two (piece_text p) (piece_text q) p q ps
 
+-- all neighbouring texts joined
 abbrev pub joined_texts : List Piece → List Piece
 joined_texts [] = []
 joined_texts (p ∷ ps) = joined_to p (joined_texts ps)
@@ -71,6 +73,7 @@ is_empty_text None = false
 is_empty_text (Some []) = true
 is_empty_text (Some (b ∷ bytes)) = false
 
+-- the content that the items make: neighbouring texts are joined, and then empty ones dropped
 abbrev pub content_of : Forest → Made → Items → List Piece
 content_of F made items = filter (λ p. not (is_empty_text (piece_text p))) (joined_texts (pieces F made [] items))
 
@@ -82,6 +85,7 @@ has_late_attribute after [] = false
 has_late_attribute after (an_attribute_piece a ∷ ps) = after || has_late_attribute after ps
 has_late_attribute after (a_child n ∷ ps) = has_late_attribute true ps
 
+-- its attributes, and its children
 abbrev pub attributes_of : List Piece → List Attr
 attributes_of [] = []
 attributes_of (an_attribute_piece a ∷ ps) = a ∷ attributes_of ps
@@ -104,7 +108,7 @@ limited n =
     (if nat_lt NODES_MAX (count_node n) then Err TooManyNodes else
     (if nat_lt TEXT_BYTES_MAX (bytes_node n) then Err TooMuchText else Ok n))
 
--- the tests in their order, each over the whole content
+-- a new element, or the first code; each test is of the whole content
 abbrev pub element : List ℕ → List Piece → Result Node Code
 element name content =
     if has_late_attribute false content then Err XQTY0024 else

@@ -24,22 +24,23 @@ use Rattle.xml_model.specs.Atoms.{Atoms, effective_boolean, compares, operated, 
 use Rattle.xml_model.specs.DocumentOrder.{union}
 use Rattle.xml_model.specs.Nodes.{node_cmp, nodes_or, united_all, atomized, tested}
 use Rattle.xml_model.specs.Constructors.{content_of, element, limited_text, spaced}
-use Rattle.xml_model.specs.Calls.{Focus, Context, context_item, call_function}
+use Rattle.xml_model.specs.FunctionAnswers.{Focus, Context, context_item, call_function}
 use Rattle.xml_model.specs.Tuples.{Variable, Bindings, Means, BindMeans, KeyMeans, no_tuples, tuples, sorted, returned}
 
 -- after each expression its items are counted
 abbrev pub counted : Items → Making Items
 counted items = if nat_lt ITEMS_MAX (length items) then fail TooManyItems else give items
 
--- the value of the last variable of this name
 abbrev pub or_later : Option Items → Option Items → Option Items
 or_later earlier None = earlier
 or_later earlier (Some items) = Some items
 
-abbrev pub found : List ℕ → Bindings → Option Items
-found name [] = None
-found name (v ∷ vs) = or_later (if bytes_eq v.name name then Some v.value else None) (found name vs)
+-- the value of the last variable of this name
+abbrev pub bound_value : List ℕ → Bindings → Option Items
+bound_value name [] = None
+bound_value name (v ∷ vs) = or_later (if bytes_eq v.name name then Some v.value else None) (bound_value name vs)
 
+-- a variable that is not bound has been refused before
 abbrev pub or_nothing : Option Items → Items
 or_nothing None = []
 or_nothing (Some items) = items
@@ -60,11 +61,13 @@ abbrev pub parts : {O : Type 0} → List (O × Means) → Bindings → Context �
 parts [] env cx = give []
 parts (p ∷ ps) env cx = p.1 env cx >>= (λ items. parts ps env cx >>= (λ more. give ((p.0, items) ∷ more)))
 
+-- the effective boolean value of an expression
 abbrev pub truth : Means → Bindings → Context → Making Bool
 truth e env cx = e env cx >>= (λ items. plain (effective_boolean items))
 
-abbrev pub one_boolean : Bool → Items
-one_boolean b = boolean b ∷ []
+-- a truth value as a list
+abbrev pub boolean_value : Bool → Items
+boolean_value b = boolean b ∷ []
 
 -- `or` stops at the first true, and `and` at the first false
 abbrev pub any_of : List Means → Bindings → Context → Making Bool
@@ -91,7 +94,7 @@ holds_at position (integer n ∷ []) = Ok (int_eq n (pos position))
 holds_at position (integer n ∷ item ∷ items) = effective_boolean (integer n ∷ item ∷ items)
 holds_at position (boolean b ∷ items) = effective_boolean (boolean b ∷ items)
 
--- the elements of a list, from a position on, for whose items a predicate holds
+-- the entries of a list, from a position on, for whose items a predicate holds
 abbrev pub kept : {A : Type 0} → (A → Item) → Means → Bindings → ℕ → ℕ → List A → Making (List A)
 kept item e env size position [] = give []
 kept item e env size position (x ∷ xs) =
@@ -116,10 +119,11 @@ from_each go joined [] = give joined
 from_each go joined (n ∷ ns) = go n >>= (λ more. from_each go (union node_cmp joined more) ns)
 
 module _ (F : Forest) where
-  -- what `//` stands for
+  -- what `//` stands for: a node itself and all below it
   abbrev pub below : NodeAt → Making (List NodeAt)
   below n = look (λ made. Ok (tested F made DescendantOrSelf AnyNode n))
 
+  -- a step from each of the nodes, in the order of the value
   abbrev pub stepped : StepMeans → Bindings → List NodeAt → Making (List NodeAt)
   stepped s env ns =
       (if s.deep then from_each below [] ns else give ns) >>= from_each (s.from_node env) []
@@ -134,6 +138,7 @@ module _ (F : Forest) where
   first_step s env cx =
       plain (context_item cx >>? nodes_or XPTY0020) >>= stepped s env >>= (λ ns. give (map node ns))
 
+  -- the node of a document that is there
   abbrev pub document_node : Option Doc → List ℕ → Result Items Code
   document_node None name = Err FODC0002
   document_node (Some doc) name = Ok (node (record { tree = stored name; place = [] }) ∷ [])
@@ -154,23 +159,25 @@ module _ (F : Forest) where
       (record { name = name; value = item ∷ [] } ∷ record { name = at; value = integer (pos position) ∷ [] } ∷ [])
       ∷ bound_items name (Some at) (position + 1) items
 
+  -- the items of `for` one after another, and the value of `let` at once
   abbrev pub bind_step : Bind-F BindMeans Means Means ProductMeans KeyMeans StepMeans SumMeans → BindMeans
   bind_step (Bind-F.For name at source) env cx = source env cx >>= (λ items. give (bound_items name at 1 items))
   bind_step (Bind-F.Let name value) env cx = value env cx >>= (λ items. give ((record { name = name; value = items } ∷ []) ∷ []))
 
+  -- the value of each kind of expression, before its items are counted
   abbrev pub value_of : Expr-F BindMeans Means Means ProductMeans KeyMeans StepMeans SumMeans → Means
   value_of (Expr-F.Text value) env cx = give (string value ∷ [])
   value_of (Expr-F.Int value) env cx = give (integer value ∷ [])
-  value_of (Expr-F.Var name) env cx = give (or_nothing (found name env))
+  value_of (Expr-F.Var name) env cx = give (or_nothing (bound_value name env))
   value_of Expr-F.Context env cx = plain (context_item cx)
   value_of (Expr-F.Seq es) env cx = one_after_another es env cx
   value_of (Expr-F.Flwor binds filter keys result) env cx =
       tuples F binds filter keys env cx no_tuples >>= (λ all. returned result cx (sorted keys all.rows))
   value_of (Expr-F.If test good other) env cx = truth test env cx >>= (λ b. if b then good env cx else other env cx)
-  value_of (Expr-F.Or es) env cx = any_of es env cx >>= (λ b. give (one_boolean b))
-  value_of (Expr-F.And es) env cx = all_of es env cx >>= (λ b. give (one_boolean b))
+  value_of (Expr-F.Or es) env cx = any_of es env cx >>= (λ b. give (boolean_value b))
+  value_of (Expr-F.And es) env cx = all_of es env cx >>= (λ b. give (boolean_value b))
   value_of (Expr-F.Compare left op right) env cx =
-      left env cx >>= (λ a. right env cx >>= (λ b. look (λ made. compares op (atomized F made a) (atomized F made b)) >>= (λ t. give (one_boolean t))))
+      left env cx >>= (λ a. right env cx >>= (λ b. look (λ made. compares op (atomized F made a) (atomized F made b)) >>= (λ t. give (boolean_value t))))
   value_of (Expr-F.Range low high) env cx =
       low env cx >>= (λ a. high env cx >>= (λ b. look (λ made. operated range_of (atomized F made a) (atomized F made b))))
   value_of (Expr-F.Sum first rest) env cx =
@@ -194,6 +201,7 @@ module _ (F : Forest) where
     new_text [] = give []
     new_text (item ∷ items) = look (λ made. limited_text (spaced (atomized F made (item ∷ items)))) >>= (λ value. construct (a_node (Text value)))
 
+  -- and counted
   abbrev pub expr_step : Expr-F BindMeans Means Means ProductMeans KeyMeans StepMeans SumMeans → Means
   expr_step layer env cx = value_of layer env cx >>= counted
 

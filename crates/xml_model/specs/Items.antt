@@ -32,7 +32,7 @@ Items = List Item
 abbrev pub Made : Type 0
 Made = List Placed
 
--- what answers a value and the trees after it, or the first code
+-- what takes the trees constructed so far, and answers a value with the trees after it, or the first code
 abbrev pub Making : Type 0 → Type 0
 Making A = Made → Result (A × Made) Code
 
@@ -72,9 +72,11 @@ construct root made = Ok (node (record { tree = constructed (length made); place
 
 -- ---- what stands behind a node
 
-abbrev pub root_of : Forest → Made → Tree → Option Placed
-root_of F made (stored name) = option_map the_document (forests.get F name)
-root_of F made (constructed number) = slice_get made number
+-- the root of a tree that is there
+abbrev pub tree_root : Forest → Made → Tree → Option Placed
+tree_root F made (stored name) = option_map the_document (forests.get F name)
+tree_root F made (constructed number) = slice_get made number
 
+-- what stands at the node, where its tree and its place are there
 abbrev pub node_at : Forest → Made → NodeAt → Option Placed
-node_at F made n = placed_from n.place (root_of F made n.tree)
+node_at F made n = placed_from n.place (tree_root F made n.tree)

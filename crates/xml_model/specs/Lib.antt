@@ -19,7 +19,7 @@ pub mod Items
 pub mod Atoms
 pub mod Nodes
 pub mod Constructors
-pub mod Calls
+pub mod FunctionAnswers
 pub mod Tuples
 pub mod Evaluation
 pub mod ItemLines

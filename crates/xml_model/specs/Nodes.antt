@@ -1,5 +1,5 @@
 -- Nodes in evaluation: document order (XQuery 1.0 and XPath 2.0 Data Model, section 2.4), union (XML Path Language 2.0,
--- section 3.3.2), what a node holds, and steps without their predicates (section 3.2).
+-- section 3.3.3), what a node holds, and steps without their predicates (section 3.2).
 use Rattle.std.specs.Prelude.{ℕ, Bool, true, false, not, ◌&&◌, if◌then◌else◌, List, [], ◌∷◌, ◌++◌, map, filter, bytes_eq, Option, Some, None, Result, Ok, Err, unwrap_or, option_map}
 use Rattle.std.specs.Option.{option_map_or}
 use Rattle.std.specs.Ordering.{nat_cmp, ordering_then}
@@ -18,7 +18,7 @@ use Rattle.xml_model.specs.Forest.{Forest}
 use Rattle.xml_model.specs.Place.{Placed, the_document, a_node, an_attribute, place_cmp}
 use Rattle.xml_model.specs.Axes.{axis_places, string_value}
 use Rattle.xml_model.specs.DocumentOrder.{union, in_order}
-use Rattle.xml_model.specs.Items.{Tree, stored, constructed, NodeAt, Item, Items, node, string, integer, boolean, Made, root_of, node_at, ◌>>?◌}
+use Rattle.xml_model.specs.Items.{Tree, stored, constructed, NodeAt, Item, Items, node, string, integer, boolean, Made, tree_root, node_at, ◌>>?◌}
 use Rattle.xml_model.specs.declared.value.Atom.{Atom}
 use Rattle.xml_model.specs.declared.value.Atom.TheVariants as atom
 use Rattle.xml_model.specs.Atoms.{Atoms}
@@ -32,6 +32,7 @@ tree_cmp (stored a) (constructed n) = Less
 tree_cmp (constructed n) (stored b) = Greater
 tree_cmp (constructed n) (constructed m) = nat_cmp n m
 
+-- by tree, and in one tree by place
 abbrev pub node_cmp : NodeAt → NodeAt → Ordering
 node_cmp a b = ordering_then (tree_cmp a.tree b.tree) (place_cmp a.place b.place)
 
@@ -45,16 +46,18 @@ nodes_or code (string text ∷ items) = Err code
 nodes_or code (integer n ∷ items) = Err code
 nodes_or code (boolean b ∷ items) = Err code
 
--- the nodes of two lists, from the left
+-- nodes in document order and those of a list more, in document order, each once; the list has nothing else
 abbrev pub united : List NodeAt → Items → Result (List NodeAt) Code
 united left right = nodes_or XPTY0004 right >>? (λ ns. Ok (union node_cmp left (in_order node_cmp ns)))
 
+-- one list after another
 abbrev pub united_all : List NodeAt → List Items → Result (List NodeAt) Code
 united_all left [] = Ok left
 united_all left (right ∷ more) = united left right >>? (λ ns. united_all ns more)
 
 -- ---- what a node holds
 
+-- the string value of what stands there; nothing has none
 abbrev pub value_at : Option Placed → List ℕ
 value_at None = []
 value_at (Some there) = string_value there
@@ -66,6 +69,7 @@ atomized_item F made (string text) = atom.Text text
 atomized_item F made (integer n) = atom.Int n
 atomized_item F made (boolean b) = atom.Truth b
 
+-- each item of a list
 abbrev pub atomized : Forest → Made → Items → Atoms
 atomized F made items = map (atomized_item F made) items
 
@@ -104,6 +108,7 @@ is_instruction (Node-F.Element name attrs kids) = false
 is_instruction (Node-F.Text value) = false
 is_instruction (Node-F.Pi target value) = true
 
+-- whether what stands there passes the test; the first argument says whether the axis is that of attributes
 abbrev pub passes : Bool → Test → Placed → Bool
 passes on_attributes (test.Name wanted) (the_document doc) = false
 passes on_attributes (test.Name wanted) (a_node n) = name_passes wanted on_attributes (out-Node n)
@@ -132,4 +137,4 @@ passes_at on_attributes wanted (Some there) = passes on_attributes wanted there
 abbrev pub tested : Forest → Made → Axis → Test → NodeAt → List NodeAt
 tested F made way wanted n =
     filter (λ m. passes_at (is_attribute_axis way) wanted (node_at F made m))
-      (option_map_or (λ root. map (λ place. record { tree = n.tree; place = place }) (axis_places way root n.place)) (root_of F made n.tree) [])
+      (option_map_or (λ root. map (λ place. record { tree = n.tree; place = place }) (axis_places way root n.place)) (tree_root F made n.tree) [])

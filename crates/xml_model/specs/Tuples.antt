@@ -16,7 +16,7 @@ use Rattle.xml_model.specs.declared.value.Atom.{Atom}
 use Rattle.xml_model.specs.declared.value.Atom.TheVariants as atom
 use Rattle.xml_model.specs.Atoms.{Atoms, text_cmp, effective_boolean}
 use Rattle.xml_model.specs.Nodes.{atomized}
-use Rattle.xml_model.specs.Calls.{Context}
+use Rattle.xml_model.specs.FunctionAnswers.{Context}
 
 -- a variable and its value
 pub record Variable : Type 0 where
@@ -51,6 +51,7 @@ key_of (atom.Int n ∷ []) = Ok (key.Int n)
 key_of (atom.Truth b ∷ []) = Ok (key.Truth b)
 key_of (value ∷ other ∷ values) = Err XPTY0004
 
+-- its type
 abbrev pub type_of : Key → KeyType
 type_of key.Empty = types.Unknown
 type_of (key.Text text) = types.Text
@@ -73,13 +74,14 @@ joined_type types.Truth types.Text = Err XPTY0004
 joined_type types.Truth types.Int = Err XPTY0004
 joined_type types.Truth types.Truth = Ok types.Truth
 
--- an empty key is least; keys of two types are not compared, and their order here is of no consequence
+-- An empty key is least. Keys of two types have been refused before; their order here is of no consequence.
 abbrev pub type_rank : KeyType → ℕ
 type_rank types.Unknown = 0
 type_rank types.Text = 1
 type_rank types.Int = 2
 type_rank types.Truth = 3
 
+-- the order of two keys of one type
 abbrev pub value_cmp : Key → Key → Ordering
 value_cmp key.Empty k = Equal
 value_cmp (key.Text a) key.Empty = Equal
@@ -95,6 +97,7 @@ value_cmp (key.Truth a) (key.Text b) = Equal
 value_cmp (key.Truth a) (key.Int b) = Equal
 value_cmp (key.Truth a) (key.Truth b) = bool_cmp a b
 
+-- by type, and then by value
 abbrev pub key_cmp : Key → Key → Ordering
 key_cmp a b = ordering_then (nat_cmp (type_rank (type_of a)) (type_rank (type_of b))) (value_cmp a b)
 
@@ -103,7 +106,7 @@ abbrev pub turned : Bool → Ordering → Ordering
 turned false o = o
 turned true o = ordering_reverse o
 
--- the first key that differs decides; the first argument says which descend
+-- the first key that differs decides; the first argument says which descend. All tuples have as many keys.
 abbrev pub keys_cmp : List Bool → List Key → List Key → Ordering
 keys_cmp descends [] [] = Equal
 keys_cmp descends [] (b ∷ bs) = Less
@@ -182,16 +185,17 @@ abbrev pub is_before : List Bool → Row → Row → Bool
 is_before descends a b = is_lt (keys_cmp descends a.keys b.keys)
 
 -- after all that it is not before: ties keep their order
-abbrev pub placed : List Bool → Row → List Row → List Row
-placed descends row [] = row ∷ []
-placed descends row (other ∷ rows) = if is_before descends row other then row ∷ other ∷ rows else other ∷ placed descends row rows
+abbrev pub row_placed : List Bool → Row → List Row → List Row
+row_placed descends row [] = row ∷ []
+row_placed descends row (other ∷ rows) = if is_before descends row other then row ∷ other ∷ rows else other ∷ row_placed descends row rows
 
-abbrev pub placed_all : List Bool → List Row → List Row → List Row
-placed_all descends [] done = done
-placed_all descends (row ∷ rows) done = placed_all descends rows (placed descends row done)
+abbrev pub rows_placed : List Bool → List Row → List Row → List Row
+rows_placed descends [] done = done
+rows_placed descends (row ∷ rows) done = rows_placed descends rows (row_placed descends row done)
 
+-- the tuples in the order of their keys
 abbrev pub sorted : List KeyMeans → List Row → List Row
-sorted keys rows = placed_all (map (λ k. k.descending) keys) rows []
+sorted keys rows = rows_placed (map (λ k. k.descending) keys) rows []
 
 -- what the tuples give, in their order
 abbrev pub returned : Means → Context → List Row → Making Items

@@ -53,11 +53,12 @@ string_of F made [] = Ok []
 string_of F made (item ∷ []) = Ok (atom_text (atomized_item F made item))
 string_of F made (item ∷ other ∷ items) = Err XPTY0004
 
--- the name of one node at most
+-- the name of what stands there
 abbrev pub name_at : Option Placed → List ℕ
 name_at None = []
 name_at (Some there) = name_of there
 
+-- the name of one node at most
 abbrev pub name_of_one : Forest → Made → Items → Result (List ℕ) Code
 name_of_one F made [] = Ok []
 name_of_one F made (node n ∷ []) = Ok (name_at (node_at F made n))
@@ -98,54 +99,55 @@ has_within (a ∷ text) wanted = begins_with (a ∷ text) wanted || has_within t
 
 -- ---- answers
 
-abbrev pub one_string : List ℕ → Result Items Code
-one_string text = limited_text text >>? (λ t. Ok (string t ∷ []))
+abbrev pub string_answer : List ℕ → Result Items Code
+string_answer text = limited_text text >>? (λ t. Ok (string t ∷ []))
 
-abbrev pub one_integer : ℤ → Result Items Code
-one_integer n = Ok (integer n ∷ [])
+abbrev pub integer_answer : ℤ → Result Items Code
+integer_answer n = Ok (integer n ∷ [])
 
-abbrev pub one_boolean : Bool → Result Items Code
-one_boolean b = Ok (boolean b ∷ [])
+abbrev pub boolean_answer : Bool → Result Items Code
+boolean_answer b = Ok (boolean b ∷ [])
 
 -- the code where there is no context, and else a number of it
 abbrev pub of_focus : (Focus → ℕ) → Context → Result Items Code
 of_focus number None = Err XPDY0002
-of_focus number (Some focus) = one_integer (pos (number focus))
+of_focus number (Some focus) = integer_answer (pos (number focus))
 
 -- a test of two texts
 abbrev pub tested_texts : (List ℕ → List ℕ → Bool) → Atoms → Atoms → Result Items Code
-tested_texts holds a b = string_argument a >>? (λ text. string_argument b >>? (λ wanted. one_boolean (holds text wanted)))
+tested_texts holds a b = string_argument a >>? (λ text. string_argument b >>? (λ wanted. boolean_answer (holds text wanted)))
 
--- the argument's text, or without one the text of the context item
+-- what is measured: the argument, which must be a string, or without one the text of the context item, whatever it is
 abbrev pub measured : Forest → Made → Context → List Items → Result (List ℕ) Code
 measured F made cx [] = context_item cx >>? string_of F made
 measured F made cx (value ∷ more) = string_argument (atomized F made value)
 
--- a function that has a name, with what it answers of the arguments
-abbrev pub Row : Type 0
-Row = List ℕ × (List Items → Result Items Code)
+-- the name of a function with what it answers of its arguments
+abbrev pub FunctionRow : Type 0
+FunctionRow = List ℕ × (List Items → Result Items Code)
 
-abbrev pub rows : Forest → Made → Context → List Row
+-- the functions of `functions` of xq_ast, each with its answer
+abbrev pub rows : Forest → Made → Context → List FunctionRow
 rows F made cx =
-    (codes "count", λ args. one_integer (pos (length (first_of args))))
-    ∷ (codes "empty", λ args. one_boolean (is_empty (first_of args)))
-    ∷ (codes "exists", λ args. one_boolean (not (is_empty (first_of args))))
-    ∷ (codes "not", λ args. effective_boolean (first_of args) >>? (λ b. one_boolean (not b)))
-    ∷ (codes "true", λ args. one_boolean true)
-    ∷ (codes "false", λ args. one_boolean false)
-    ∷ (codes "string", λ args. or_context cx args >>? string_of F made >>? one_string)
-    ∷ (codes "name", λ args. or_context cx args >>? name_of_one F made >>? one_string)
+    (codes "count", λ args. integer_answer (pos (length (first_of args))))
+    ∷ (codes "empty", λ args. boolean_answer (is_empty (first_of args)))
+    ∷ (codes "exists", λ args. boolean_answer (not (is_empty (first_of args))))
+    ∷ (codes "not", λ args. effective_boolean (first_of args) >>? (λ b. boolean_answer (not b)))
+    ∷ (codes "true", λ args. boolean_answer true)
+    ∷ (codes "false", λ args. boolean_answer false)
+    ∷ (codes "string", λ args. or_context cx args >>? string_of F made >>? string_answer)
+    ∷ (codes "name", λ args. or_context cx args >>? name_of_one F made >>? string_answer)
     ∷ (codes "contains", λ args. tested_texts has_within (atomized F made (first_of args)) (atomized F made (second_of args)))
     ∷ (codes "starts-with", λ args. tested_texts begins_with (atomized F made (first_of args)) (atomized F made (second_of args)))
-    ∷ (codes "string-length", λ args. measured F made cx args >>? (λ text. one_integer (pos (char_count text))))
-    ∷ (codes "concat", λ args. concat_arguments (map (atomized F made) args) >>? (λ texts. one_string (concat texts)))
-    ∷ (codes "sum", λ args. sum_of (atomized F made (first_of args)) >>? one_integer)
+    ∷ (codes "string-length", λ args. measured F made cx args >>? (λ text. integer_answer (pos (char_count text))))
+    ∷ (codes "concat", λ args. concat_arguments (map (atomized F made) args) >>? (λ texts. string_answer (concat texts)))
+    ∷ (codes "sum", λ args. sum_of (atomized F made (first_of args)) >>? integer_answer)
     ∷ (codes "position", λ args. of_focus (λ focus. focus.position) cx)
     ∷ (codes "last", λ args. of_focus (λ focus. focus.size) cx)
     ∷ []
 
--- what the function of this name answers
-abbrev pub answer_of_row : List Row → List ℕ → List Items → Result Items Code
+-- what the function of this name answers; a name of none has been refused before
+abbrev pub answer_of_row : List FunctionRow → List ℕ → List Items → Result Items Code
 answer_of_row [] name args = Ok []
 answer_of_row (row ∷ more) name args = if bytes_eq name row.0 then row.1 args else answer_of_row more name args
 
