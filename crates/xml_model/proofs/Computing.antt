@@ -1,56 +1,56 @@
--- The definitions of what queries mean once more, over any look-up of documents and any fold of nodes: at ones that
--- compute they compute.
-use Rattle.std.specs.Fmt.{digits, char_count, signed_decimal}
+-- Answers of queries that compute. What a query means reads documents by a forest's look-up and nodes by their fold, and
+-- neither computes. So the definitions that rest on these stand here once more, over any look-up and any fold: at the
+-- forest's and at the fold they are the definitions themselves, and at those below they compute (`computes`).
+use Rattle.std.proofs.Common.{ap, sym, ◌∙◌}
+use Rattle.std.specs.Cmp.Lexicographic.{slice_cmp}
+use Rattle.std.specs.Fmt.{char_count, digits, signed_decimal}
 use Rattle.std.specs.List.{concat}
 use Rattle.std.specs.Option.{option_map_or}
-use Rattle.std.specs.Prelude.{◌≡◌, refl, T, ℕ, Bool, Err, List, None, Ok, Option, Result, Some, [], codes, false, filter, if◌then◌else◌, length, map, nat_lt, not, option_map, pos, slice_get, true, ℕ, ◌++◌, ◌+◌, ◌∷◌}
+use Rattle.std.specs.Ordering.{nat_cmp}
+use Rattle.std.specs.Prelude.{Bool, Err, List, None, Ok, Option, Result, Some, T, [], codes, false, filter, if◌then◌else◌, length, map, nat_lt, not, option_map, pos, refl, slice_get, true, ℕ, ◌++◌, ◌+◌, ◌∷◌, ◌≡◌}
+use Rattle.xml_model.proofs.Bounded.{bounded, fits, run}
+use Rattle.xml_model.proofs.Nodes.{fold-Element', fold-Pi, fold-Text}
 use Rattle.xml_model.specs.Atoms.{Atoms, atom_text, boolean_text, chained, compares, effective_boolean, operated, product_op, range_of, signed_by, sum_of, sum_op}
 use Rattle.xml_model.specs.Axes.{attribute_places, child_places, down_step, into_each, led, parent_places, texts_step}
-use Rattle.xml_model.specs.Calls.{Context, Row, answer_of_row, begins_with, concat_arguments, context_item, first_of, has_within, is_empty, name_at, of_focus, one_boolean as answer_boolean, one_integer, one_string, or_context, second_of, string_argument, tested_texts}
 use Rattle.xml_model.specs.Constructors.{Piece, attributes_of, children_of, has_late_attribute, has_name_twice, is_empty_text, joined_texts, limited_text, piece_text, pieces_of, spaced, words}
-use Rattle.xml_model.specs.Evaluation.{StepMeans, all_of, any_of, content_or, counted, filtered, found, from_each, one_after_another, one_boolean, or_nothing, parts, truth, values}
-use Rattle.xml_model.specs.ItemLines.{atom_line}
-use Rattle.xml_model.specs.Items.{fail, Item, Items, Made, Making, NodeAt, Tree, boolean, construct, constructed, give, integer, look, node, plain, stored, string, ◌>>=◌, ◌>>?◌}
+use Rattle.xml_model.specs.Evaluation.{StepMeans, all_of, any_of, boolean_value, bound_value, content_or, counted, filtered, from_each, one_after_another, or_nothing, parts, truth, values}
+use Rattle.xml_model.specs.Forest.{Forest}
+use Rattle.xml_model.specs.FunctionAnswers.{Context, FunctionRow, answer_of_row, begins_with, boolean_answer, concat_arguments, context_item, first_of, has_within, integer_answer, is_empty, name_at, of_focus, or_context, second_of, string_answer, string_argument, tested_texts}
+use Rattle.xml_model.specs.ItemLines.{atom_line, lines_of as spec_lines}
+use Rattle.xml_model.specs.Items.{Item, Items, Made, Making, NodeAt, Tree, boolean, construct, constructed, fail, give, integer, look, node, plain, stored, string, ◌>>=◌, ◌>>?◌}
 use Rattle.xml_model.specs.Nodes.{is_attribute_axis, nodes_or, passes_at, united_all}
 use Rattle.xml_model.specs.Place.{Placed, a_node, an_attribute, kids_of, placed_from, the_document}
 use Rattle.xml_model.specs.Pyx.{Line, attribute_line, pyx_step}
 use Rattle.xml_model.specs.Trees.{bytes_step, count_step, depth_step, joined}
-use Rattle.xml_model.specs.Tuples.{BindMeans, Bindings, KeyMeans, Keyed, Means, Tuples, first_type, joined_type, key_of, no_keys, no_tuples, other_types, returned, sorted, type_of, with_key, with_row}
+use Rattle.xml_model.specs.Tuples.{BindMeans, Bindings, KeyMeans, Keyed, Means, Tuples, first_type, joined_type, key_of, no_keys, no_tuples, other_types, returned, sorted, type_of, with_key}
 use Rattle.xml_model.specs.declared.limits.TheConstants.{DEPTH_MAX, NODES_MAX, TEXT_BYTES_MAX}
 use Rattle.xml_model.specs.declared.node.Doc.{Doc}
-use Rattle.xml_model.specs.declared.node.Node.{Node, Element', Pi, Row_of-Node, end_of-Node, more_of-Node, items-the_row-Node, out-Node}
+use Rattle.xml_model.specs.declared.node.Node.{Element', Node, Pi, Row_of-Node, end_of-Node, items-the_row-Node, more_of-Node, out-Node}
+use Rattle.xml_model.specs.declared.node.Node.TheFolds.{fold-Node}
 use Rattle.xml_model.specs.declared.node.Node.TheOpen.{Node-F}
 use Rattle.xml_model.specs.declared.node.Node.TheVariants.{Element, Text}
 use Rattle.xml_model.specs.declared.place.PlaceStep.{PlaceStep}
 use Rattle.xml_model.specs.declared.value.Atom.{Atom}
 use Rattle.xml_model.specs.declared.value.KeyType.{KeyType}
 use Rattle.xq_ast.specs.declared.code.Code.{Code}
-use Rattle.xq_ast.specs.declared.code.Code.TheVariants.{NotBuilt, FODC0002, TooDeep, TooManyNodes, TooMuchText, XPTY0004, XPTY0019, XPTY0020, XQDY0025, XQTY0024}
+use Rattle.xq_ast.specs.declared.code.Code.TheVariants.{FODC0002, NotBuilt, TooDeep, TooManyNodes, TooMuchText, XPTY0004, XPTY0019, XPTY0020, XQDY0025, XQTY0024}
 use Rattle.xq_ast.specs.declared.step.Axis.{Axis}
 use Rattle.xq_ast.specs.declared.step.Axis.TheVariants.{DescendantOrSelf}
 use Rattle.xq_ast.specs.declared.step.Test.{Test}
 use Rattle.xq_ast.specs.declared.step.Test.TheVariants.{AnyNode}
+use Rattle.xq_ast.specs.declared.tree.Bind.{out-Bind}
 use Rattle.xq_ast.specs.declared.tree.Bind.TheOpen.{Bind-F, Expr-F, Start-F, Step-F}
+use Rattle.xq_ast.specs.declared.tree.Expr.{Expr, out-Expr}
 use Rattle.xq_ast.specs.declared.tree.ProductOp.{ProductOp}
+use Rattle.xq_ast.specs.declared.tree.Start.{out-Start}
 use Rattle.xml_model.specs.declared.value.Atom.TheVariants as atom
 use Rattle.xq_ast.specs.declared.step.Axis.TheVariants as axis
-use Rattle.xml_model.specs.declared.value.Key.TheVariants as key
-use Rattle.xml_model.specs.declared.value.KeyType.TheVariants as types
-use Rattle.std.specs.FinMap as forests
-use Rattle.std.specs.Ordering.{nat_cmp}
-use Rattle.std.specs.Cmp.Lexicographic.{slice_cmp}
-use Rattle.std.proofs.Common.{sym, ap, ◌∙◌}
-use Rattle.xq_ast.specs.declared.tree.Bind.{out-Bind}
-use Rattle.xq_ast.specs.declared.tree.Expr.{Expr, out-Expr}
-use Rattle.xq_ast.specs.declared.tree.Start.{out-Start}
 use Rattle.xq_ast.specs.declared.tree.Bind.TheBlock as block
+use Rattle.std.specs.FinMap as forests
+use Rattle.xml_model.specs.declared.value.Key.TheVariants as key
 use Rattle.xml_model.specs.declared.node.Node.TheBlock as nodes
-use Rattle.xml_model.specs.declared.node.Node.TheFolds.{fold-Node}
-use Rattle.xml_model.specs.Forest.{Forest}
 use Rattle.xml_model.specs.Evaluation as spec
-use Rattle.xml_model.specs.ItemLines.{lines_of as spec_lines}
-use Rattle.xml_model.proofs.Bounded.{run, fits, bounded}
-use Rattle.xml_model.proofs.Nodes.{fold-Element', fold-Text, fold-Pi}
+use Rattle.xml_model.specs.declared.value.KeyType.TheVariants as types
 
 module _ (docs : List ℕ → Option Doc) (fold : (A : Type 0) → (Node-F A → A) → Node → A) where
   abbrev pub ways_down : Node → List (List PlaceStep)
@@ -96,13 +96,16 @@ module _ (docs : List ℕ → Option Doc) (fold : (A : Type 0) → (Node-F A →
   abbrev pub depth_node : Node → ℕ
   depth_node = fold ℕ depth_step
 
-  abbrev pub root_of : Made → Tree → Option Placed
-  root_of made (stored name) = option_map the_document (docs name)
-  root_of made (constructed number) = slice_get made number
+  -- the root of a tree that is there
+  abbrev pub tree_root : Made → Tree → Option Placed
+  tree_root made (stored name) = option_map the_document (docs name)
+  tree_root made (constructed number) = slice_get made number
 
+  -- what stands at the node, where its tree and its place are there
   abbrev pub node_at : Made → NodeAt → Option Placed
-  node_at made n = placed_from n.place (root_of made n.tree)
+  node_at made n = placed_from n.place (tree_root made n.tree)
 
+  -- the string value of what stands there; nothing has none
   abbrev pub value_at : Option Placed → List ℕ
   value_at None = []
   value_at (Some there) = string_value there
@@ -114,6 +117,7 @@ module _ (docs : List ℕ → Option Doc) (fold : (A : Type 0) → (Node-F A →
   atomized_item made (integer n) = atom.Int n
   atomized_item made (boolean b) = atom.Truth b
 
+  -- each item of a list
   abbrev pub atomized : Made → Items → Atoms
   atomized made items = map (atomized_item made) items
 
@@ -121,7 +125,7 @@ module _ (docs : List ℕ → Option Doc) (fold : (A : Type 0) → (Node-F A →
   abbrev pub tested : Made → Axis → Test → NodeAt → List NodeAt
   tested made way wanted n =
       filter (λ m. passes_at (is_attribute_axis way) wanted (node_at made m))
-        (option_map_or (λ root. map (λ place. record { tree = n.tree; place = place }) (axis_places way root n.place)) (root_of made n.tree) [])
+        (option_map_or (λ root. map (λ place. record { tree = n.tree; place = place }) (axis_places way root n.place)) (tree_root made n.tree) [])
 
   -- what the items make in order: nodes are copied, and documents replaced by their children. The first list has the
   -- texts of the atomic values directly before.
@@ -132,6 +136,7 @@ module _ (docs : List ℕ → Option Doc) (fold : (A : Type 0) → (Node-F A →
   pieces made before (integer n ∷ items) = pieces made (before ++ atom_text (atom.Int n) ∷ []) items
   pieces made before (boolean b ∷ items) = pieces made (before ++ atom_text (atom.Truth b) ∷ []) items
 
+  -- the content that the items make: neighbouring texts are joined, and then empty ones dropped
   abbrev pub content_of : Made → Items → List Piece
   content_of made items = filter (λ p. not (is_empty_text (piece_text p))) (joined_texts (pieces made [] items))
 
@@ -142,7 +147,7 @@ module _ (docs : List ℕ → Option Doc) (fold : (A : Type 0) → (Node-F A →
       (if nat_lt NODES_MAX (count_node n) then Err TooManyNodes else
       (if nat_lt TEXT_BYTES_MAX (bytes_node n) then Err TooMuchText else Ok n))
 
-  -- the tests in their order, each over the whole content
+  -- a new element, or the first code; each test is of the whole content
   abbrev pub element : List ℕ → List Piece → Result Node Code
   element name content =
       if has_late_attribute false content then Err XQTY0024 else
@@ -154,6 +159,7 @@ module _ (docs : List ℕ → Option Doc) (fold : (A : Type 0) → (Node-F A →
   string_of made (item ∷ []) = Ok (atom_text (atomized_item made item))
   string_of made (item ∷ other ∷ items) = Err XPTY0004
 
+  -- the name of one node at most
   abbrev pub name_of_one : Made → Items → Result (List ℕ) Code
   name_of_one made [] = Ok []
   name_of_one made (node n ∷ []) = Ok (name_at (node_at made n))
@@ -162,32 +168,36 @@ module _ (docs : List ℕ → Option Doc) (fold : (A : Type 0) → (Node-F A →
   name_of_one made (boolean b ∷ []) = Err XPTY0004
   name_of_one made (item ∷ other ∷ items) = Err XPTY0004
 
-  -- the argument's text, or without one the text of the context item
+  -- what is measured: the argument, which must be a string, or without one the text of the context item, whatever it is
   abbrev pub measured : Made → Context → List Items → Result (List ℕ) Code
   measured made cx [] = context_item cx >>? string_of made
   measured made cx (value ∷ more) = string_argument (atomized made value)
 
-  abbrev pub rows : Made → Context → List Row
+  -- the functions of `functions` of xq_ast, each with its answer
+  abbrev pub rows : Made → Context → List FunctionRow
   rows made cx =
-      (codes "count", λ args. one_integer (pos (length (first_of args))))
-      ∷ (codes "empty", λ args. answer_boolean (is_empty (first_of args)))
-      ∷ (codes "exists", λ args. answer_boolean (not (is_empty (first_of args))))
-      ∷ (codes "not", λ args. effective_boolean (first_of args) >>? (λ b. answer_boolean (not b)))
-      ∷ (codes "true", λ args. answer_boolean true)
-      ∷ (codes "false", λ args. answer_boolean false)
-      ∷ (codes "string", λ args. or_context cx args >>? string_of made >>? one_string)
-      ∷ (codes "name", λ args. or_context cx args >>? name_of_one made >>? one_string)
+      (codes "count", λ args. integer_answer (pos (length (first_of args))))
+      ∷ (codes "empty", λ args. boolean_answer (is_empty (first_of args)))
+      ∷ (codes "exists", λ args. boolean_answer (not (is_empty (first_of args))))
+      ∷ (codes "not", λ args. effective_boolean (first_of args) >>? (λ b. boolean_answer (not b)))
+      ∷ (codes "true", λ args. boolean_answer true)
+      ∷ (codes "false", λ args. boolean_answer false)
+      ∷ (codes "string", λ args. or_context cx args >>? string_of made >>? string_answer)
+      ∷ (codes "name", λ args. or_context cx args >>? name_of_one made >>? string_answer)
       ∷ (codes "contains", λ args. tested_texts has_within (atomized made (first_of args)) (atomized made (second_of args)))
       ∷ (codes "starts-with", λ args. tested_texts begins_with (atomized made (first_of args)) (atomized made (second_of args)))
-      ∷ (codes "string-length", λ args. measured made cx args >>? (λ text. one_integer (pos (char_count text))))
-      ∷ (codes "concat", λ args. concat_arguments (map (atomized made) args) >>? (λ texts. one_string (concat texts)))
-      ∷ (codes "sum", λ args. sum_of (atomized made (first_of args)) >>? one_integer)
+      ∷ (codes "string-length", λ args. measured made cx args >>? (λ text. integer_answer (pos (char_count text))))
+      ∷ (codes "concat", λ args. concat_arguments (map (atomized made) args) >>? (λ texts. string_answer (concat texts)))
+      ∷ (codes "sum", λ args. sum_of (atomized made (first_of args)) >>? integer_answer)
       ∷ (codes "position", λ args. of_focus (λ focus. focus.position) cx)
       ∷ (codes "last", λ args. of_focus (λ focus. focus.size) cx)
       ∷ []
 
   abbrev pub call_function : Made → Context → List ℕ → List Items → Result Items Code
   call_function made cx = answer_of_row (rows made cx)
+
+  abbrev pub with_row : Tuples → Bindings → Keyed → Tuples
+  with_row all env keyed = record { types = keyed.types; rows = all.rows ++ record { keys = keyed.keys; bindings = env } ∷ [] }
 
   -- the keys in order, after those that are there; the types are those of earlier tuples at the places from here on
   abbrev pub keyed : List KeyMeans → Bindings → Context → List KeyType → Keyed → Making Keyed
@@ -216,10 +226,11 @@ module _ (docs : List ℕ → Option Doc) (fold : (A : Type 0) → (Node-F A →
   tuples [] filter keys env cx all = tuple filter keys env cx all
   tuples (bind ∷ binds) filter keys env cx all = bind env cx >>= (λ values. each (tuples binds filter keys) env cx values all)
 
-  -- what `//` stands for
+  -- what `//` stands for: a node itself and all below it
   abbrev pub below : NodeAt → Making (List NodeAt)
   below n = look (λ made. Ok (tested made DescendantOrSelf AnyNode n))
 
+  -- a step from each of the nodes, in the order of the value
   abbrev pub stepped : StepMeans → Bindings → List NodeAt → Making (List NodeAt)
   stepped s env ns =
       (if s.deep then from_each below [] ns else give ns) >>= from_each (s.from_node env) []
@@ -234,6 +245,7 @@ module _ (docs : List ℕ → Option Doc) (fold : (A : Type 0) → (Node-F A →
   first_step s env cx =
       plain (context_item cx >>? nodes_or XPTY0020) >>= stepped s env >>= (λ ns. give (map node ns))
 
+  -- the node of a document that is there
   abbrev pub document_node : Option Doc → List ℕ → Result Items Code
   document_node None name = Err FODC0002
   document_node (Some doc) name = Ok (node (record { tree = stored name; place = [] }) ∷ [])
@@ -252,23 +264,25 @@ module _ (docs : List ℕ → Option Doc) (fold : (A : Type 0) → (Node-F A →
       (record { name = name; value = item ∷ [] } ∷ record { name = at; value = integer (pos position) ∷ [] } ∷ [])
       ∷ bound_items name (Some at) (position + 1) items
 
+  -- the items of `for` one after another, and the value of `let` at once
   abbrev pub bind_step : Bind-F BindMeans Means Means ProductMeans KeyMeans StepMeans SumMeans → BindMeans
   bind_step (Bind-F.For name at source) env cx = source env cx >>= (λ items. give (bound_items name at 1 items))
   bind_step (Bind-F.Let name value) env cx = value env cx >>= (λ items. give ((record { name = name; value = items } ∷ []) ∷ []))
 
+  -- the value of each kind of expression, before its items are counted
   abbrev pub value_of : Expr-F BindMeans Means Means ProductMeans KeyMeans StepMeans SumMeans → Means
   value_of (Expr-F.Text value) env cx = give (string value ∷ [])
   value_of (Expr-F.Int value) env cx = give (integer value ∷ [])
-  value_of (Expr-F.Var name) env cx = give (or_nothing (found name env))
+  value_of (Expr-F.Var name) env cx = give (or_nothing (bound_value name env))
   value_of Expr-F.Context env cx = plain (context_item cx)
   value_of (Expr-F.Seq es) env cx = one_after_another es env cx
   value_of (Expr-F.Flwor binds filter keys result) env cx =
       tuples binds filter keys env cx no_tuples >>= (λ all. returned result cx (sorted keys all.rows))
   value_of (Expr-F.If test good other) env cx = truth test env cx >>= (λ b. if b then good env cx else other env cx)
-  value_of (Expr-F.Or es) env cx = any_of es env cx >>= (λ b. give (one_boolean b))
-  value_of (Expr-F.And es) env cx = all_of es env cx >>= (λ b. give (one_boolean b))
+  value_of (Expr-F.Or es) env cx = any_of es env cx >>= (λ b. give (boolean_value b))
+  value_of (Expr-F.And es) env cx = all_of es env cx >>= (λ b. give (boolean_value b))
   value_of (Expr-F.Compare left op right) env cx =
-      left env cx >>= (λ a. right env cx >>= (λ b. look (λ made. compares op (atomized made a) (atomized made b)) >>= (λ t. give (one_boolean t))))
+      left env cx >>= (λ a. right env cx >>= (λ b. look (λ made. compares op (atomized made a) (atomized made b)) >>= (λ t. give (boolean_value t))))
   value_of (Expr-F.Range low high) env cx =
       low env cx >>= (λ a. high env cx >>= (λ b. look (λ made. operated range_of (atomized made a) (atomized made b))))
   value_of (Expr-F.Sum first rest) env cx =
@@ -292,6 +306,7 @@ module _ (docs : List ℕ → Option Doc) (fold : (A : Type 0) → (Node-F A →
     new_text [] = give []
     new_text (item ∷ items) = look (λ made. limited_text (spaced (atomized made (item ∷ items)))) >>= (λ value. construct (a_node (Text value)))
 
+  -- and counted
   abbrev pub expr_step : Expr-F BindMeans Means Means ProductMeans KeyMeans StepMeans SumMeans → Means
   expr_step layer env cx = value_of layer env cx >>= counted
 
@@ -427,5 +442,3 @@ unfoldable pub seen : Type 0
 unfolding out-Bind out-Expr out-Start block.shown-the_row-Expr-0 block.shown-the_row-Bind-1 block.shown-the_row-Expr-2 block.shown-the_row-SortKey-3 block.shown-the_row-SumPart-4 block.shown-the_row-ProductPart-5 block.shown-the_row-Step-6 out-Node nodes.shown-the_row-Node-0 nodes.hidden-the_row-Node-0 denote.Hole.Carrier.out denote.Hole.Carrier.shown denote.Hole.Carrier.hidden digits char_count
 seen = ℕ
 
-pub used : (n : ℕ) → n ≡ n
-used n = refl
