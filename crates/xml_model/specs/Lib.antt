@@ -23,4 +23,3 @@ pub mod FunctionAnswers
 pub mod Tuples
 pub mod Evaluation
 pub mod ItemLines
-pub mod MeaningRows
