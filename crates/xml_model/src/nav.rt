@@ -118,3 +118,7 @@ pub trait Nav {
     /// Documents are valid, and their names are names of documents.
     ghost valid: { (nav : Self) → honest nav → IsForest (forest nav) };
 }
+
+fn scratch()
+    ensures { (n : ℕ) → n ≡ n }
+{}
