@@ -8,9 +8,11 @@ use Rattle.xq_ast.specs.declared.tree.Sign.{Sign}
 use Rattle.xq_ast.specs.Readings.{sum_op, signs, with_sign}
 use Rattle.xq_parse.specs.Operands.{sign_of}
 
+-- what was read, with these signs before its own
 abbrev pub in_front : List Sign → List Sign × List Token → List Sign × List Token
 in_front front r = (front ++ r.0, r.1)
 
+-- with one sign more read, the signs so far and those that follow are still the whole
 pub signs_kept : (ts us : List Token) (minus : Bool) (front new : List Sign) (whole : List Sign × List Token)
     → sum_op ts ≡ Some (minus, us) → new ≡ front ++ sign_of minus ∷ [] → in_front front (signs ts) ≡ whole → in_front new (signs us) ≡ whole
 signs_kept (Mark Plus ∷ ts) us false front new whole is grown so_far =
@@ -25,11 +27,13 @@ signs_kept (Mark Plus ∷ ts) us true front new whole is grown so_far = cc
 signs_kept (Mark Minus ∷ ts) us false front new whole is grown so_far = cc
 signs_kept _ us minus front new whole is grown so_far = cc
 
+-- where no sign follows, the signs so far are all, and the tokens stand after them
 pub signs_done : (ts : List Token) (front : List Sign) (whole : List Sign × List Token) → sum_op ts ≡ None → in_front front (signs ts) ≡ whole → whole ≡ (front, ts)
 signs_done (Mark Plus ∷ ts) front whole is so_far = cc
 signs_done (Mark Minus ∷ ts) front whole is so_far = cc
 signs_done _ front whole is so_far = sym so_far ∙ ap (λ l. let r : List Sign × List Token = (l, _) in r) (append-nil front)
 
+-- a sign that was read leaves fewer tokens
 pub sum_op_less : (ts us : List Token) (minus : Bool) → sum_op ts ≡ Some (minus, us) → length us < length ts
 sum_op_less (Mark Plus ∷ ts) us minus is = let e : ts ≡ us = cc in omega (arith, ap length e)
 sum_op_less (Mark Minus ∷ ts) us minus is = let e : ts ≡ us = cc in omega (arith, ap length e)
