@@ -1,3 +1,4 @@
+pub mod Building
 pub mod Entries
 pub mod Escapes
 pub mod Formed
@@ -11,6 +12,8 @@ pub mod ReadIsValid
 pub mod ReadIsSpelled
 pub mod SpelledIsRead
 mod NavRows
+pub mod NodeCases
+pub mod Numbers
 mod Rows
 pub mod TextAgain
 pub mod TextLines

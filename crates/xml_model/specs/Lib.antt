@@ -15,3 +15,4 @@ pub mod Axes
 pub mod DocumentOrder
 pub mod Numbering
 pub mod NavFaults
+pub mod TreeRows

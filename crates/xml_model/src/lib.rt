@@ -23,6 +23,7 @@ mod nav;
 mod node;
 mod place;
 mod text_lines;
+mod tree_nav;
 mod valid;
 
 pub use call_needs::needs;
