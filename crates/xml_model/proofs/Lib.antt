@@ -13,9 +13,12 @@ pub mod ReadIsSpelled
 pub mod SpelledIsRead
 mod NavRows
 pub mod NodeCases
+pub mod Numbered
 pub mod Numbers
 mod Rows
+pub mod Standing
 pub mod TextAgain
 pub mod TextLines
+pub mod Placing
 pub mod Sorting
 pub mod Validity

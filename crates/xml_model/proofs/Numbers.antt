@@ -34,7 +34,7 @@ length-kid_rows [] h b = refl
 length-kid_rows (k ∷ kids) h b =
     length-append (node_rows k b) _ ∙ omega (arith, h.0 b, length-kid_rows kids h.1 (b + length (node_rows k b)))
 
-count-Element : (name : List ℕ) (attrs : List Attr) (kids : List Node) → count_node (Element name attrs kids) ≡ 1 + length attrs + count_of kids
+pub count-Element : (name : List ℕ) (attrs : List Attr) (kids : List Node) → count_node (Element name attrs kids) ≡ 1 + length attrs + count_of kids
 count-Element name attrs kids = fold-Element ℕ count_step name attrs kids
 
 pub rows-Element : (name : List ℕ) (attrs : List Attr) (kids : List Node) (b : ℕ)
@@ -62,3 +62,9 @@ pub length-all_kid_rows : (kids : List Node) (b : ℕ) → length (kid_rows b (m
 length-all_kid_rows [] b = refl
 length-all_kid_rows (k ∷ kids) b =
     length-append (node_rows k b) _ ∙ omega (arith, length-node_rows k b, length-all_kid_rows kids (b + length (node_rows k b)))
+
+pub count-Text : (value : List ℕ) → count_node (Text value) ≡ 1
+count-Text value = fold-Text ℕ count_step value
+
+pub count-Pi : (target value : List ℕ) → count_node (Pi target value) ≡ 1
+count-Pi target value = fold-Pi ℕ count_step target value
