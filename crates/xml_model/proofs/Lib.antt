@@ -1,4 +1,5 @@
 pub mod Building
+pub mod Chains
 pub mod Entries
 pub mod Escapes
 pub mod Formed
@@ -15,10 +16,12 @@ mod NavRows
 pub mod NodeCases
 pub mod Numbered
 pub mod Numbers
+pub mod Reached
 mod Rows
 pub mod Standing
 pub mod TextAgain
 pub mod TextLines
+pub mod PlaceOrder
 pub mod Placing
 pub mod Sorting
 pub mod Validity

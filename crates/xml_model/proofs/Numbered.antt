@@ -57,13 +57,13 @@ only x y (suc k) e = absurd (none-some y e)
 pub row_in : (from w : Placed) (s : PlaceStep) (b k : ℕ) (r : Row) → step_from from s ≡ Some w
     → slice_get (rows w (offset from s)) k ≡ Some r → slice_get (rows from b) (offset from s + k) ≡ Some r
 row_in from w (steps.Attr i) b k r e h =
-    let m = mapped an_attribute _ w e in
+    let m = mapped an_attribute (slice_get (attrs_of from) i) w e in
     let one = only _ r k (subst (λ w. slice_get (rows w (1 + i)) k ≡ Some r) (sym m.is) h) in
     let there = attr_row_at 1 i (attrs_of from) m.it m.was in
     let zero_more : k ≡ 0 = one.0 in
     row_inside from b i (1 + i + k) r (omega arith) (get_before (attr_rows 1 (attrs_of from)) _ i r (there ∙ ap (λ r. Some r) one.1))
 row_in from w (steps.Kid i) b k r e h =
-    let m = mapped a_node _ w e in
+    let m = mapped a_node (slice_get (kids_of from) i) w e in
     let at = length (attrs_of from) + count_of (take i (kids_of from)) in
     let inside = subst (λ w. slice_get (rows w (1 + at)) k ≡ Some r) (sym m.is) h in
     let same : 1 + at ≡ 1 + length (attrs_of from) + count_of (take i (kids_of from)) = omega arith in
@@ -74,13 +74,13 @@ row_in from w (steps.Kid i) b k r e h =
 pub way_in : (from w : Placed) (s : PlaceStep) (k : ℕ) (p : List PlaceStep) → step_from from s ≡ Some w
     → slice_get (ways w) k ≡ Some p → slice_get (ways from) (offset from s + k) ≡ Some (s ∷ p)
 way_in from w (steps.Attr i) k p e h =
-    let m = mapped an_attribute _ w e in
+    let m = mapped an_attribute (slice_get (attrs_of from) i) w e in
     let one = only _ p k (subst (λ w. slice_get (ways w) k ≡ Some p) (sym m.is) h) in
     let zero_more : k ≡ 0 = one.0 in
     way_inside from i (1 + i + k) _ (omega arith)
     (get_before (one_step_each steps.Attr 0 (attrs_of from)) _ i _ (one_step_at steps.Attr 0 i (attrs_of from) m.it m.was ∙ (ap (λ n. Some (steps.Attr n ∷ [])) (omega arith) ∙ ap (λ p. Some (steps.Attr i ∷ p)) one.1)))
 way_in from w (steps.Kid i) k p e h =
-    let m = mapped a_node _ w e in
+    let m = mapped a_node (slice_get (kids_of from) i) w e in
     let at = length (attrs_of from) + count_of (take i (kids_of from)) in
     let inside = subst (λ w. slice_get (ways w) k ≡ Some p) (sym m.is) h in
     way_inside from (at + k) (1 + at + k) _ (omega arith)
@@ -180,11 +180,11 @@ size_positive from = omega (arith, (root from).sized)
 -- what a step leads to has its rows before the end of those of where it begins
 pub step_within : (from w : Placed) (s : PlaceStep) → step_from from s ≡ Some w → offset from s + size w ≤ size from
 step_within from w (steps.Attr i) e =
-    let m = mapped an_attribute _ w e in
+    let m = mapped an_attribute (slice_get (attrs_of from) i) w e in
     let one : size w ≡ 1 = ap size (sym m.is) in
     omega (arith, slice_get_within (attrs_of from) i m.it m.was, (root from).sized)
 step_within from w (steps.Kid i) e =
-    let m = mapped a_node _ w e in
+    let m = mapped a_node (slice_get (kids_of from) i) w e in
     let same : size w ≡ count_node m.it = ap size (sym m.is) in
     omega (arith, take_within i (kids_of from) m.it m.was, (root from).sized)
 
