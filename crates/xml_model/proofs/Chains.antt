@@ -39,7 +39,7 @@ kid_goes from i h =
     record { to = a_node it.0; leads = ap (option_map a_node) it.1; behind = refl }
 
 -- what comes next in a chain, if there is more of it: rows that begin at n, or the end of the node's rows
-pub GoesOn : Placed → Option PlaceStep → ℕ → Type 0
+abbrev pub GoesOn : Placed → Option PlaceStep → ℕ → Type 0
 GoesOn from None n = size from ≡ n
 GoesOn from (Some s) n = Goes from s n
 
@@ -53,7 +53,6 @@ none_counted (k ∷ kids) h = absurd (omega arith)
 
 kid_goes_on : (from : Placed) (i n : ℕ) → n ≡ 1 + (length (attrs_of from) + count_of (take i (kids_of from)))
     → (length (kids_of from) ≤ i → count_of (take i (kids_of from)) ≡ count_of (kids_of from)) → GoesOn from (kid_step from i) n
-unfolding GoesOn
 kid_goes_on from i n e all = go (nat_lt i (length (kids_of from))) refl
   where
     go : (b : Bool) → nat_lt i (length (kids_of from)) ≡ b → GoesOn from (cond b (Some (steps.Kid i)) None) n
@@ -61,7 +60,6 @@ kid_goes_on from i n e all = go (nat_lt i (length (kids_of from))) refl
     go false q = let done = all (ltb-false i (length (kids_of from)) q) in omega (arith, (root from).sized, e, done)
 
 attr_goes_on : (from : Placed) (i : ℕ) → i ≤ length (attrs_of from) → GoesOn from (option_or (attr_step from i) (kid_step from 0)) (1 + i)
-unfolding GoesOn
 attr_goes_on from i h = go (nat_lt i (length (attrs_of from))) refl
   where
     go : (b : Bool) → nat_lt i (length (attrs_of from)) ≡ b → GoesOn from (option_or (cond b (Some (steps.Attr i)) None) (kid_step from 0)) (1 + i)

@@ -1,5 +1,6 @@
 pub mod Building
 pub mod Chains
+pub mod DocumentNumbers
 pub mod Entries
 pub mod Escapes
 pub mod Formed

@@ -117,3 +117,11 @@ kid_way_at c (suc i) k n (x ∷ kids) kid p e m h =
     let same : c + 1 + i ≡ c + suc i = omega arith in
     get_behind front _ n (count_of (take i kids) + k) there
     ∙ (kid_way_at (c + 1) i k (count_of (take i kids) + k) kids kid p e refl h ∙ ap (λ i. Some (steps.Kid i ∷ p)) same)
+
+counted : (nodes : List Node) → Each WaysCounted nodes
+unfolding WaysCounted
+counted [] = tt
+counted (n ∷ nodes) = (length-all_ways n, counted nodes)
+
+pub length-all_kid_ways : (c : ℕ) (kids : List Node) → length (into_each c (map all_ways kids)) ≡ count_of kids
+length-all_kid_ways c kids = length-into_each c kids (counted kids)
