@@ -16,3 +16,4 @@ pub mod DocumentOrder
 pub mod Numbering
 pub mod NavFaults
 pub mod TreeRows
+pub mod TreeNodes

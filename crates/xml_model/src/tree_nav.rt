@@ -1,12 +1,19 @@
 //! Plain trees behind `Nav`: the nodes of documents in a list, numbered in document order.
-ghost use Rattle.std.specs.Prelude.{◌≡◌, ◌+◌, ◌-◌, ◌≤◌, ◌<◌, [], ◌++◌, map, length, ◌^◌, vec_len, IfOk, OnOk};
+ghost use Rattle.std.specs.Prelude.{◌≡◌, ℕ, ◌+◌, ◌-◌, ◌≤◌, ◌<◌, [], ◌++◌, map, length, ◌^◌, vec_len, IfSome, IfNone, IfOk, OnOk};
+ghost use Rattle.std.specs.Option.{option_copied};
 ghost use Rattle.xml_model.specs.Trees.{count_node, count_of};
 ghost use Rattle.xml_model.specs.Numbering.{attr_rows, kid_rows, node_rows, document_rows};
-ghost use Rattle.xml_model.specs.TreeRows.{row_of};
+ghost use Rattle.xml_model.specs.TreeRows.{row_of, told_by};
+ghost use Rattle.xml_model.specs.TreeNodes.{tree_name, node_of_id, entry_at, StandFor};
+ghost use Rattle.xml_model.specs.Forest.{IsForest};
 
+use crate::forest::DocMap;
 use crate::limits::NODES_MAX;
+use crate::nav::{Id, Kind, Nav, NavEnd};
 use crate::node::{Attr, AttrList, Doc, Node, NodeList};
 use std::alloc::Global;
+use std::cmp::Ordering;
+use std::marker::Model;
 use xq_ast::{NoMemory, Str};
 
 // What a row is of.
@@ -85,4 +92,242 @@ fn add_node<'a>(rows: &mut Entries<'a>, node: &'a Node, parent: usize) -> Result
         Node::Text { .. } => Ok(()),
         Node::Pi { .. } => Ok(()),
     }
+}
+
+// A document's rows, under its name.
+#[derive(Drop)]
+pub(crate) struct Tree<'a> {
+    pub name: Str,
+    pub rows: Entries<'a>,
+}
+
+// The rows of a document, which is the first of them.
+fn rows_of<'a>(alloc: Global, doc: &'a Doc) -> Result<Entries<'a>, NoMemory>
+    requires { count_of doc.now.kids ≤ NODES_MAX }
+    ensures { IfOk result (λ rows. map row_of rows.items ≡ document_rows doc.now) }
+{
+    let mut rows = Vec::new(alloc);
+    rows.push(Entry {
+        held: Held::Document,
+        back: 0,
+        size: 1,
+    })?;
+    add_kids(&mut rows, &doc.kids, 0)?;
+    let size = rows.len() as u32;
+    rows[0] = Entry {
+        held: Held::Document,
+        back: 0,
+        size,
+    };
+    Ok(rows)
+}
+
+/// The nodes of a map's documents. Contracts see the forest. Documents are numbered in the order of
+/// the bytes of their names, and the nodes of each in document order, the document being 0. No call
+/// has a fault.
+#[derive(Drop)]
+pub struct TreeNav<'a> {
+    docs: &'a DocMap,
+    trees: Vec<Tree<'a>>,
+}
+
+impl<'a> Model for TreeNav<'a> {
+    ghost use Rattle.xml_model.specs.Forest.{Forest, forest_code};
+    ghost use Rattle.xml_model.specs.TreeNodes.{StandFor};
+
+    ghost Value = { Forest };
+
+    ghost coded = { forest_code };
+
+    ghost view = { λ nav. nav.docs.now };
+
+    ghost invariant = { λ nav. StandFor nav.docs.now nav.trees.items };
+}
+
+/// A fault that never comes.
+#[derive(Clone, Copy, Debug, PartialEq, Eq)]
+pub enum NoFault {}
+
+fn name_of<'t, 'a>(trees: &'t [Tree<'a>], doc: u32) -> &'t str
+    ensures { result.now ≡ tree_name trees.now doc }
+{
+    match trees.get(doc as usize) {
+        Some(tree) => tree.name.as_str(),
+        None => "",
+    }
+}
+
+fn entry_of<'t, 'a>(trees: &'t [Tree<'a>], n: Id) -> Option<&'t Entry<'a>>
+    ensures { option_copied result ≡ entry_at trees.now n }
+{
+    match trees.get(n.doc as usize) {
+        Some(tree) => tree.rows.as_slice().get(n.node as usize),
+        None => None,
+    }
+}
+
+// The document of this name, by its turn.
+fn root_among(trees: &[Tree], name: &Str) -> Option<Id>
+    requires { length trees.now < 2 ^ 32 }
+    ensures found { IfSome result (λ n. (n.node ≡ 0) × (tree_name trees.now n.doc ≡ name.now) × (n.doc < length trees.now)) }
+    ensures none { IfNone result ((k : ℕ) → k < length trees.now → ¬ tree_name trees.now k ≡ name.now) }
+{
+    for (i, tree) in trees.iter().enumerate() {
+        if tree.name.same(name) {
+            return Some(Id {
+                doc: i as u32,
+                node: 0,
+            });
+        }
+    }
+    None
+}
+
+fn kind_of(held: Held) -> Kind
+    ensures { result ≡ (told_by held.entry).kind }
+{
+    match held {
+        Held::Document => Kind::Document,
+        Held::Attribute(_) => Kind::Attribute,
+        Held::Node(node) => match node {
+            Node::Element { .. } => Kind::Element,
+            Node::Text { .. } => Kind::Text,
+            Node::Pi { .. } => Kind::Pi,
+        },
+    }
+}
+
+fn name_in(alloc: Global, held: Held) -> Result<Str, NoMemory>
+    ensures { IfOk result (λ s. s ≡ (told_by held.entry).name) }
+{
+    match held {
+        Held::Document => Ok(Str::new(alloc)),
+        Held::Attribute(attr) => attr.name.copy(),
+        Held::Node(node) => match node {
+            Node::Element { name, .. } => name.copy(),
+            Node::Text { .. } => Ok(Str::new(alloc)),
+            Node::Pi { target, .. } => target.copy(),
+        },
+    }
+}
+
+fn value_in(alloc: Global, held: Held) -> Result<Str, NoMemory>
+    ensures { IfOk result (λ s. s ≡ (told_by held.entry).value) }
+{
+    match held {
+        Held::Document => Ok(Str::new(alloc)),
+        Held::Attribute(attr) => attr.value.copy(),
+        Held::Node(node) => match node {
+            Node::Element { .. } => Ok(Str::new(alloc)),
+            Node::Text { value } => value.copy(),
+            Node::Pi { value, .. } => value.copy(),
+        },
+    }
+}
+
+impl<'a> Nav for TreeNav<'a> {
+    ghost use Rattle.xml_model.specs.Forest.{IsForest};
+    ghost use Rattle.xml_model.specs.TreeNodes.{node_of_id};
+    ghost use Rattle.std.proofs.Common.{arith};
+
+    type Fault = NoFault;
+
+    ghost passes = { λ F fault. ⊥ };
+
+    ghost honest = { λ F. IsForest F };
+
+    ghost forest = { λ F. F };
+
+    ghost place = { node_of_id };
+
+    ghost number = { λ F n. 2 ^ 32 - n.node };
+
+    fn root(&self, name: &Str) -> Result<Option<Id>, NoFault> {
+        Ok(root_among(&self.trees, name))
+    }
+
+    fn first(&self, n: Id) -> Result<Option<Id>, NoFault> {
+        let Some(entry) = entry_of(&self.trees, n) else {
+            return Ok(None);
+        };
+        if entry.size <= 1 {
+            return Ok(None);
+        }
+        Ok(Some(Id {
+            doc: n.doc,
+            node: n.node + 1,
+        }))
+    }
+
+    fn next(&self, n: Id) -> Result<Option<Id>, NoFault> {
+        let Some(entry) = entry_of(&self.trees, n) else {
+            return Ok(None);
+        };
+        if n.node == 0 {
+            return Ok(None);
+        }
+        let parent = n.node - entry.back;
+        let above = Id {
+            doc: n.doc,
+            node: parent,
+        };
+        let Some(holder) = entry_of(&self.trees, above) else {
+            return Ok(None);
+        };
+        let behind = n.node + entry.size;
+        if behind >= parent + holder.size {
+            return Ok(None);
+        }
+        Ok(Some(Id {
+            doc: n.doc,
+            node: behind,
+        }))
+    }
+
+    fn parent(&self, n: Id) -> Result<Option<Id>, NoFault> {
+        let Some(entry) = entry_of(&self.trees, n) else {
+            return Ok(None);
+        };
+        if n.node == 0 {
+            return Ok(None);
+        }
+        Ok(Some(Id {
+            doc: n.doc,
+            node: n.node - entry.back,
+        }))
+    }
+
+    fn kind(&self, n: Id) -> Result<Kind, NoFault> {
+        match entry_of(&self.trees, n) {
+            Some(entry) => Ok(kind_of(entry.held)),
+            None => Ok(Kind::Document),
+        }
+    }
+
+    fn order(&self, a: Id, b: Id) -> Result<Ordering, NoFault> {
+        match name_of(&self.trees, a.doc).cmp(name_of(&self.trees, b.doc)) {
+            Ordering::Equal => Ok(a.node.cmp(&b.node)),
+            different => Ok(different),
+        }
+    }
+
+    fn name(&self, n: Id) -> Result<Str, NavEnd<NoFault>> {
+        let alloc = *self.trees.allocator();
+        match entry_of(&self.trees, n) {
+            Some(entry) => Ok(name_in(alloc, entry.held)?),
+            None => Ok(Str::new(alloc)),
+        }
+    }
+
+    fn value(&self, n: Id) -> Result<Str, NavEnd<NoFault>> {
+        let alloc = *self.trees.allocator();
+        match entry_of(&self.trees, n) {
+            Some(entry) => Ok(value_in(alloc, entry.held)?),
+            None => Ok(Str::new(alloc)),
+        }
+    }
+
+    ghost few = { λ F n. Prim.omega arith };
+
+    ghost valid = { λ F honest. honest };
 }
