@@ -25,4 +25,6 @@ pub mod TextLines
 pub mod PlaceOrder
 pub mod Placing
 pub mod Sorting
+pub mod TreeFacts
+pub mod TreeCalls
 pub mod Validity

@@ -66,7 +66,7 @@ behind_steps s t p q from w v a b e f g h same = go (step_cmp s t) (steps_ordere
         ∙ (ap (λ x. nat_cmp (offset from s + number p (Some w)) (offset from s + number q (Some x))) alike
         ∙ ap (λ x. nat_cmp (offset from s + number p (Some w)) (offset from x + number q (Some v))) m))
 
-offset_positive : (from : Placed) (s : PlaceStep) → 0 < offset from s
+pub offset_positive : (from : Placed) (s : PlaceStep) → 0 < offset from s
 offset_positive from (steps.Attr i) = omega arith
 offset_positive from (steps.Kid i) = omega arith
 

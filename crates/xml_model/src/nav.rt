@@ -1,6 +1,7 @@
 //! Navigation: how evaluation moves among the nodes of documents, wherever these are kept.
 ghost use Rattle.std.specs.Prelude.{◌≡◌, ℕ, ◌<◌, ◌≤◌, List, IfOk, IfErr, IfSome};
 ghost use Rattle.std.specs.Option.{option_map};
+ghost use Rattle.xml_model.specs.declared.nav.TheConstants.{NUMBER_MAX};
 ghost use Rattle.xml_model.specs.declared.nav.Id.{Id};
 ghost use Rattle.xml_model.specs.Forest.{Forest, IsForest};
 ghost use Rattle.xml_model.specs.DocumentOrder.{node_cmp};
