@@ -80,7 +80,7 @@ before_past doc (steps.Kid i ∷ p) w n e past = within (slice_get doc.kids i) r
           ap (λ o. ordering_then o (place_cmp [] p)) (sym (nat_cmp_is n i Greater less)),
         )
 
-then_equal : (o : Ordering) → ordering_then o Equal ≡ o
+pub then_equal : (o : Ordering) → ordering_then o Equal ≡ o
 then_equal Less = refl
 then_equal Equal = refl
 then_equal Greater = refl

@@ -31,7 +31,7 @@ use Rattle.xml_model.proofs.Placing.{size, row}
 use Rattle.xml_model.proofs.Standing.{Mapped, mapped}
 
 -- a tree that is there is that of its document
-tree_is : (F : Forest) (trees : List Tree) (n : ℕ) (tree : Tree) → AreTreesOf F trees → slice_get trees n ≡ Some tree → IsTreeOf F tree
+pub tree_is : (F : Forest) (trees : List Tree) (n : ℕ) (tree : Tree) → AreTreesOf F trees → slice_get trees n ≡ Some tree → IsTreeOf F tree
 tree_is F [] n tree are e = absurd (none-some tree e)
 tree_is F (t ∷ trees) zero tree are e = subst (IsTreeOf F) (same_Some t tree e) are.0
 tree_is F (t ∷ trees) (suc n) tree are e = tree_is F trees n tree are.1 e
