@@ -282,3 +282,7 @@ module _ (F : Forest) (trees : List Tree) (s : StandFor F trees) where
   root_missing name none =
       sym (ap (option_map (λ doc. record { name = name; place = [] }))
       (no_value (fin_map.get F name) (fin_map.contains_key-keys F name ∙ (ap (list_any (eq_by_cmp (slice_cmp nat_cmp) name)) (sym s.names) ∙ none_named name trees none))))
+
+-- what stands for a forest stands for an equal one
+pub along : (F G : Forest) (these those : List Tree) → F ≡ G → these ≡ those → StandFor F those → StandFor G these
+along F G these those e f s = subst (λ F. StandFor F these) e (subst (StandFor F) (sym f) s)

@@ -1,10 +1,11 @@
 //! Plain trees behind `Nav`: the nodes of documents in a list, numbered in document order.
-ghost use Rattle.std.specs.Prelude.{◌≡◌, ℕ, ◌+◌, ◌-◌, ◌≤◌, ◌<◌, [], ◌++◌, map, length, ◌^◌, vec_len, IfSome, IfNone, IfOk, OnOk};
+ghost use Rattle.std.specs.Prelude.{◌≡◌, ℕ, ◌+◌, ◌-◌, ◌≤◌, ◌<◌, [], ◌++◌, map as list_map, is_some, length, ◌^◌, vec_len, IfSome, IfNone, IfOk, OnOk};
 ghost use Rattle.std.specs.Option.{option_copied};
+ghost use Rattle.std.specs.FinMap as map;
 ghost use Rattle.xml_model.specs.Trees.{count_node, count_of};
 ghost use Rattle.xml_model.specs.Numbering.{attr_rows, kid_rows, node_rows, document_rows};
 ghost use Rattle.xml_model.specs.TreeRows.{row_of, told_by};
-ghost use Rattle.xml_model.specs.TreeNodes.{tree_name, node_of_id, entry_at, StandFor};
+ghost use Rattle.xml_model.specs.TreeNodes.{tree_name, node_of_id, entry_at, IsTreeOf, AreTreesOf};
 ghost use Rattle.xml_model.specs.Forest.{IsForest};
 
 use crate::forest::DocMap;
@@ -14,7 +15,7 @@ use crate::node::{Attr, AttrList, Doc, Node, NodeList};
 use std::alloc::Global;
 use std::cmp::Ordering;
 use std::marker::Model;
-use xq_ast::{NoMemory, Str};
+use xq_ast::{NoMemory, Str, StrList};
 
 // What a row is of.
 #[derive(Clone, Copy)]
@@ -37,7 +38,7 @@ pub(crate) type Entries<'a> = Vec<Entry<'a>>;
 // The attributes of an element, which is the last row so far.
 fn add_attrs<'a>(rows: &mut Entries<'a>, attrs: &'a AttrList) -> Result<(), NoMemory>
     requires { length attrs.now < 2 ^ 32 - 1 }
-    ensures rows { OnOk result (map row_of rows.new.items ≡ map row_of rows.old.items ++ attr_rows 1 attrs.now) }
+    ensures rows { OnOk result (list_map row_of rows.new.items ≡ list_map row_of rows.old.items ++ attr_rows 1 attrs.now) }
     ensures len { OnOk result (vec_len rows.new ≡ vec_len rows.old + length attrs.now) }
 {
     for (i, attr) in attrs.as_slice().iter().enumerate() {
@@ -54,7 +55,7 @@ fn add_attrs<'a>(rows: &mut Entries<'a>, attrs: &'a AttrList) -> Result<(), NoMe
 fn add_kids<'a>(rows: &mut Entries<'a>, kids: &'a NodeList, parent: usize) -> Result<(), NoMemory>
     requires parent { parent < vec_len rows.old }
     requires fits { vec_len rows.old + count_of kids.now ≤ NODES_MAX + 1 }
-    ensures rows { OnOk result (map row_of rows.new.items ≡ map row_of rows.old.items ++ kid_rows (vec_len rows.old - parent) (map node_rows kids.now)) }
+    ensures rows { OnOk result (list_map row_of rows.new.items ≡ list_map row_of rows.old.items ++ kid_rows (vec_len rows.old - parent) (list_map node_rows kids.now)) }
     ensures len { OnOk result (vec_len rows.new ≡ vec_len rows.old + count_of kids.now) }
 {
     for kid in kids.as_slice() {
@@ -67,7 +68,7 @@ fn add_kids<'a>(rows: &mut Entries<'a>, kids: &'a NodeList, parent: usize) -> Re
 fn add_node<'a>(rows: &mut Entries<'a>, node: &'a Node, parent: usize) -> Result<(), NoMemory>
     requires parent { parent < vec_len rows.old }
     requires fits { vec_len rows.old + count_node node.now ≤ NODES_MAX + 1 }
-    ensures rows { OnOk result (map row_of rows.new.items ≡ map row_of rows.old.items ++ node_rows node.now (vec_len rows.old - parent)) }
+    ensures rows { OnOk result (list_map row_of rows.new.items ≡ list_map row_of rows.old.items ++ node_rows node.now (vec_len rows.old - parent)) }
     ensures len { OnOk result (vec_len rows.new ≡ vec_len rows.old + count_node node.now) }
 {
     let at = rows.len();
@@ -104,7 +105,7 @@ pub(crate) struct Tree<'a> {
 // The rows of a document, which is the first of them.
 fn rows_of<'a>(alloc: Global, doc: &'a Doc) -> Result<Entries<'a>, NoMemory>
     requires { count_of doc.now.kids ≤ NODES_MAX }
-    ensures { IfOk result (λ rows. map row_of rows.items ≡ document_rows doc.now) }
+    ensures { IfOk result (λ rows. list_map row_of rows.items ≡ document_rows doc.now) }
 {
     let mut rows = Vec::new(alloc);
     rows.push(Entry {
@@ -222,6 +223,54 @@ fn value_in(alloc: Global, held: Held) -> Result<Str, NoMemory>
             Node::Text { value } => value.copy(),
             Node::Pi { value, .. } => value.copy(),
         },
+    }
+}
+
+// The tree of the document of this name, if there is one.
+fn tree_of<'a>(alloc: Global, docs: &'a DocMap, name: &Str) -> Result<Option<Tree<'a>>, NoMemory>
+    requires { IsForest docs.now }
+    ensures some { IfOk result (λ o. is_some o ≡ is_some (map.get docs.now name.now)) }
+    ensures tree { IfOk result (λ o. IfSome o (λ tree. (tree.name ≡ name.now) × IsTreeOf docs.now tree)) }
+{
+    let Some(doc) = docs.get(name) else {
+        return Ok(None);
+    };
+    Ok(Some(Tree {
+        name: name.copy()?,
+        rows: rows_of(alloc, doc)?,
+    }))
+}
+
+// The trees of these documents, in the order of the names.
+fn trees_of<'a>(docs: &'a DocMap, names: &StrList) -> Result<Vec<Tree<'a>>, NoMemory>
+    requires forest { IsForest docs.now }
+    requires names { names.now ≡ map.keys docs.now }
+    ensures { IfOk result (λ trees. (list_map (λ tree. tree.name) trees.items ≡ names.now) × AreTreesOf docs.now trees.items) }
+{
+    let alloc = names.allocator();
+    let mut trees = Vec::new(alloc);
+    for name in names.as_slice() {
+        if let Some(tree) = tree_of(alloc, docs, name)? {
+            trees.push(tree)?;
+        }
+    }
+    Ok(trees)
+}
+
+impl<'a> TreeNav<'a> {
+    /// The nodes of these documents. Takes time and memory by the number of their nodes. More than
+    /// 4,294,967,295 documents have no room.
+    pub fn of(docs: &'a DocMap) -> Result<TreeNav<'a>, NoMemory>
+        ensures forest { IfOk result (λ nav. nav ≡ docs.now) }
+        ensures valid { IsForest docs.now }
+    {
+        docs.is_forest();
+        let names = docs.names()?;
+        if names.len() > u32::MAX as usize {
+            return Err(NoMemory);
+        }
+        let trees = trees_of(docs, &names)?;
+        Ok(TreeNav { docs, trees })
     }
 }
 
