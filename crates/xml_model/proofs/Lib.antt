@@ -27,4 +27,5 @@ pub mod Placing
 pub mod Sorting
 pub mod TreeFacts
 pub mod TreeCalls
+pub mod TreesMade
 pub mod Validity
