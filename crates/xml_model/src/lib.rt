@@ -24,6 +24,7 @@ mod nav;
 mod node;
 mod place;
 mod text_lines;
+mod tree_nav;
 mod valid;
 mod value;
 
