@@ -18,7 +18,6 @@ mod forest;
 mod laws;
 mod layers;
 mod limits;
-mod meaning;
 mod measure;
 mod nav;
 mod node;
