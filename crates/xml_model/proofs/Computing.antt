@@ -1,28 +1,29 @@
--- Answers of queries that compute. What a query means reads documents by a forest's look-up and nodes by their fold, and
--- neither computes. So the definitions that rest on these stand here once more, over any look-up and any fold: at the
--- forest's and at the fold they are the definitions themselves, and at those below they compute (`computes`).
+-- Answers of queries that compute. What a query means rests on folds over nodes, which do not compute. So the
+-- definitions that rest on them stand here once more, over any fold: at the fold of nodes they are the definitions
+-- themselves, and at `refold` they compute. With documents that are entries of a list, and expressions to a bounded
+-- depth, an answer is then what computes (`computes`).
 use Rattle.std.proofs.Common.{ap, sym, ◌∙◌}
 use Rattle.std.specs.Cmp.Lexicographic.{slice_cmp}
 use Rattle.std.specs.Fmt.{char_count, digits, signed_decimal}
 use Rattle.std.specs.List.{concat}
 use Rattle.std.specs.Option.{option_map_or}
 use Rattle.std.specs.Ordering.{nat_cmp}
-use Rattle.std.specs.Prelude.{Bool, Err, List, None, Ok, Option, Result, Some, T, [], codes, false, filter, if◌then◌else◌, length, map, nat_lt, not, option_map, pos, refl, slice_get, true, ℕ, ◌++◌, ◌+◌, ◌∷◌, ◌≡◌}
+use Rattle.std.specs.Prelude.{Err, List, None, Ok, Option, Result, Some, T, [], codes, false, filter, if◌then◌else◌, length, map, nat_lt, not, pos, refl, true, ℕ, ◌++◌, ◌∷◌, ◌≡◌}
 use Rattle.xml_model.proofs.Bounded.{bounded, fits, run}
 use Rattle.xml_model.proofs.Nodes.{fold-Element', fold-Pi, fold-Text}
 use Rattle.xml_model.specs.Atoms.{Atoms, atom_text, boolean_text, chained, compares, effective_boolean, operated, product_op, range_of, signed_by, sum_of, sum_op}
 use Rattle.xml_model.specs.Axes.{attribute_places, child_places, down_step, into_each, led, parent_places, texts_step}
-use Rattle.xml_model.specs.Constructors.{Piece, attributes_of, children_of, has_late_attribute, has_name_twice, is_empty_text, joined_texts, limited_text, piece_text, pieces_of, spaced, words}
-use Rattle.xml_model.specs.Evaluation.{StepMeans, all_of, any_of, boolean_value, bound_value, content_or, counted, filtered, from_each, one_after_another, or_nothing, parts, truth, values}
+use Rattle.xml_model.specs.Constructors.{Piece, attributes_of, children_of, content_of, has_late_attribute, has_name_twice, limited_text, spaced}
+use Rattle.xml_model.specs.Evaluation.{ProductMeans, StepMeans, SumMeans, all_of, any_of, boolean_value, bound_value, content_or, counted, document_node, filtered, from_each, one_after_another, or_nothing, parts, truth, values}
 use Rattle.xml_model.specs.Forest.{Forest}
-use Rattle.xml_model.specs.FunctionAnswers.{Context, FunctionRow, answer_of_row, begins_with, boolean_answer, concat_arguments, context_item, first_of, has_within, integer_answer, is_empty, name_at, of_focus, or_context, second_of, string_answer, string_argument, tested_texts}
+use Rattle.xml_model.specs.FunctionAnswers.{Context, FunctionRow, answer_of_row, begins_with, boolean_answer, concat_arguments, context_item, first_of, has_within, integer_answer, is_empty, name_of_one, of_focus, or_context, second_of, string_answer, string_argument, tested_texts}
 use Rattle.xml_model.specs.ItemLines.{atom_line, lines_of as spec_lines}
-use Rattle.xml_model.specs.Items.{Item, Items, Made, Making, NodeAt, Tree, boolean, construct, constructed, fail, give, integer, look, node, plain, stored, string, ◌>>=◌, ◌>>?◌}
+use Rattle.xml_model.specs.Items.{Documents, Item, Items, Made, Making, NodeAt, boolean, construct, fail, give, integer, look, node, node_at, plain, string, tree_root, ◌>>=◌, ◌>>?◌}
 use Rattle.xml_model.specs.Nodes.{is_attribute_axis, nodes_or, passes_at, united_all}
-use Rattle.xml_model.specs.Place.{Placed, a_node, an_attribute, kids_of, placed_from, the_document}
+use Rattle.xml_model.specs.Place.{Placed, a_node, an_attribute, kids_of, the_document}
 use Rattle.xml_model.specs.Pyx.{Line, attribute_line, pyx_step}
 use Rattle.xml_model.specs.Trees.{bytes_step, count_step, depth_step, joined}
-use Rattle.xml_model.specs.Tuples.{BindMeans, Bindings, KeyMeans, Keyed, Means, Tuples, first_type, joined_type, key_of, no_keys, no_tuples, other_types, returned, sorted, type_of, with_key}
+use Rattle.xml_model.specs.Tuples.{BindMeans, Bindings, KeyMeans, Keyed, Means, Tuples, each, first_type, joined_type, key_of, no_keys, no_tuples, other_types, returned, sorted, stays, type_of, with_key}
 use Rattle.xml_model.specs.declared.limits.TheConstants.{DEPTH_MAX, NODES_MAX, TEXT_BYTES_MAX}
 use Rattle.xml_model.specs.declared.node.Doc.{Doc}
 use Rattle.xml_model.specs.declared.node.Node.{Element', Node, Pi, Row_of-Node, end_of-Node, items-the_row-Node, more_of-Node, out-Node}
@@ -33,15 +34,14 @@ use Rattle.xml_model.specs.declared.place.PlaceStep.{PlaceStep}
 use Rattle.xml_model.specs.declared.value.Atom.{Atom}
 use Rattle.xml_model.specs.declared.value.KeyType.{KeyType}
 use Rattle.xq_ast.specs.declared.code.Code.{Code}
-use Rattle.xq_ast.specs.declared.code.Code.TheVariants.{FODC0002, NotBuilt, TooDeep, TooManyNodes, TooMuchText, XPTY0004, XPTY0019, XPTY0020, XQDY0025, XQTY0024}
+use Rattle.xq_ast.specs.declared.code.Code.TheVariants.{NotBuilt, TooDeep, TooManyNodes, TooMuchText, XPTY0004, XPTY0019, XPTY0020, XQDY0025, XQTY0024}
 use Rattle.xq_ast.specs.declared.step.Axis.{Axis}
 use Rattle.xq_ast.specs.declared.step.Axis.TheVariants.{DescendantOrSelf}
 use Rattle.xq_ast.specs.declared.step.Test.{Test}
 use Rattle.xq_ast.specs.declared.step.Test.TheVariants.{AnyNode}
 use Rattle.xq_ast.specs.declared.tree.Bind.{out-Bind}
-use Rattle.xq_ast.specs.declared.tree.Bind.TheOpen.{Bind-F, Expr-F, Start-F, Step-F}
+use Rattle.xq_ast.specs.declared.tree.Bind.TheOpen.{Expr-F, Start-F, Step-F}
 use Rattle.xq_ast.specs.declared.tree.Expr.{Expr, out-Expr}
-use Rattle.xq_ast.specs.declared.tree.ProductOp.{ProductOp}
 use Rattle.xq_ast.specs.declared.tree.Start.{out-Start}
 use Rattle.xml_model.specs.declared.value.Atom.TheVariants as atom
 use Rattle.xq_ast.specs.declared.step.Axis.TheVariants as axis
@@ -52,7 +52,7 @@ use Rattle.xml_model.specs.declared.node.Node.TheBlock as nodes
 use Rattle.xml_model.specs.Evaluation as spec
 use Rattle.xml_model.specs.declared.value.KeyType.TheVariants as types
 
-module _ (docs : List ℕ → Option Doc) (fold : (A : Type 0) → (Node-F A → A) → Node → A) where
+module _ (docs : Documents) (fold : (A : Type 0) → (Node-F A → A) → Node → A) where
   abbrev pub ways_down : Node → List (List PlaceStep)
   ways_down = fold (List (List PlaceStep)) down_step
 
@@ -96,15 +96,6 @@ module _ (docs : List ℕ → Option Doc) (fold : (A : Type 0) → (Node-F A →
   abbrev pub depth_node : Node → ℕ
   depth_node = fold ℕ depth_step
 
-  -- the root of a tree that is there
-  abbrev pub tree_root : Made → Tree → Option Placed
-  tree_root made (stored name) = option_map the_document (docs name)
-  tree_root made (constructed number) = slice_get made number
-
-  -- what stands at the node, where its tree and its place are there
-  abbrev pub node_at : Made → NodeAt → Option Placed
-  node_at made n = placed_from n.place (tree_root made n.tree)
-
   -- the string value of what stands there; nothing has none
   abbrev pub value_at : Option Placed → List ℕ
   value_at None = []
@@ -112,7 +103,7 @@ module _ (docs : List ℕ → Option Doc) (fold : (A : Type 0) → (Node-F A →
 
   -- atomizing: a node gives its string value, untyped
   abbrev pub atomized_item : Made → Item → Atom
-  atomized_item made (node n) = atom.Untyped (value_at (node_at made n))
+  atomized_item made (node n) = atom.Untyped (value_at (node_at docs made n))
   atomized_item made (string text) = atom.Text text
   atomized_item made (integer n) = atom.Int n
   atomized_item made (boolean b) = atom.Truth b
@@ -124,21 +115,8 @@ module _ (docs : List ℕ → Option Doc) (fold : (A : Type 0) → (Node-F A →
   -- the nodes of an axis that pass the test, in document order
   abbrev pub tested : Made → Axis → Test → NodeAt → List NodeAt
   tested made way wanted n =
-      filter (λ m. passes_at (is_attribute_axis way) wanted (node_at made m))
-        (option_map_or (λ root. map (λ place. record { tree = n.tree; place = place }) (axis_places way root n.place)) (tree_root made n.tree) [])
-
-  -- what the items make in order: nodes are copied, and documents replaced by their children. The first list has the
-  -- texts of the atomic values directly before.
-  abbrev pub pieces : Made → List (List ℕ) → Items → List Piece
-  pieces made before [] = words before
-  pieces made before (node n ∷ items) = words before ++ (pieces_of (node_at made n) ++ pieces made [] items)
-  pieces made before (string text ∷ items) = pieces made (before ++ atom_text (atom.Text text) ∷ []) items
-  pieces made before (integer n ∷ items) = pieces made (before ++ atom_text (atom.Int n) ∷ []) items
-  pieces made before (boolean b ∷ items) = pieces made (before ++ atom_text (atom.Truth b) ∷ []) items
-
-  -- the content that the items make: neighbouring texts are joined, and then empty ones dropped
-  abbrev pub content_of : Made → Items → List Piece
-  content_of made items = filter (λ p. not (is_empty_text (piece_text p))) (joined_texts (pieces made [] items))
+      filter (λ m. passes_at (is_attribute_axis way) wanted (node_at docs made m))
+        (option_map_or (λ root. map (λ place. record { tree = n.tree; place = place }) (axis_places way root n.place)) (tree_root docs made n.tree) [])
 
   -- a tree that keeps to the three limits
   abbrev pub limited : Node → Result Node Code
@@ -159,15 +137,6 @@ module _ (docs : List ℕ → Option Doc) (fold : (A : Type 0) → (Node-F A →
   string_of made (item ∷ []) = Ok (atom_text (atomized_item made item))
   string_of made (item ∷ other ∷ items) = Err XPTY0004
 
-  -- the name of one node at most
-  abbrev pub name_of_one : Made → Items → Result (List ℕ) Code
-  name_of_one made [] = Ok []
-  name_of_one made (node n ∷ []) = Ok (name_at (node_at made n))
-  name_of_one made (string text ∷ []) = Err XPTY0004
-  name_of_one made (integer n ∷ []) = Err XPTY0004
-  name_of_one made (boolean b ∷ []) = Err XPTY0004
-  name_of_one made (item ∷ other ∷ items) = Err XPTY0004
-
   -- what is measured: the argument, which must be a string, or without one the text of the context item, whatever it is
   abbrev pub measured : Made → Context → List Items → Result (List ℕ) Code
   measured made cx [] = context_item cx >>? string_of made
@@ -183,7 +152,7 @@ module _ (docs : List ℕ → Option Doc) (fold : (A : Type 0) → (Node-F A →
       ∷ (codes "true", λ args. boolean_answer true)
       ∷ (codes "false", λ args. boolean_answer false)
       ∷ (codes "string", λ args. or_context cx args >>? string_of made >>? string_answer)
-      ∷ (codes "name", λ args. or_context cx args >>? name_of_one made >>? string_answer)
+      ∷ (codes "name", λ args. or_context cx args >>? name_of_one docs made >>? string_answer)
       ∷ (codes "contains", λ args. tested_texts has_within (atomized made (first_of args)) (atomized made (second_of args)))
       ∷ (codes "starts-with", λ args. tested_texts begins_with (atomized made (first_of args)) (atomized made (second_of args)))
       ∷ (codes "string-length", λ args. measured made cx args >>? (λ text. integer_answer (pos (char_count text))))
@@ -206,25 +175,15 @@ module _ (docs : List ℕ → Option Doc) (fold : (A : Type 0) → (Node-F A →
       k.value env cx >>= (λ value. look (λ made. key_of (atomized made value))) >>= (λ key.
         plain (joined_type (first_type types) (type_of key)) >>= (λ type. keyed ks env cx (other_types types) (with_key all key type)))
 
-  -- whether `where` lets a tuple stay
-  abbrev pub stays : Option Means → Bindings → Context → Making Bool
-  stays None env cx = give true
-  stays (Some filter) env cx = filter env cx >>= (λ value. plain (effective_boolean value))
-
   -- one tuple more, where it stays
   abbrev pub tuple : Option Means → List KeyMeans → Bindings → Context → Tuples → Making Tuples
   tuple filter keys env cx all =
-      stays filter env cx >>= (λ b. if b then keyed keys env cx all.types no_keys >>= (λ k. give (with_row all env k)) else give all)
-
-  -- for each of the values of a binding
-  abbrev pub each : (Bindings → Context → Tuples → Making Tuples) → Bindings → Context → List Bindings → Tuples → Making Tuples
-  each go env cx [] all = give all
-  each go env cx (bound ∷ more) all = go (env ++ bound) cx all >>= each go env cx more
+      stays docs filter env cx >>= (λ b. if b then keyed keys env cx all.types no_keys >>= (λ k. give (with_row all env k)) else give all)
 
   -- all tuples of the bindings
   abbrev pub tuples : List BindMeans → Option Means → List KeyMeans → Bindings → Context → Tuples → Making Tuples
   tuples [] filter keys env cx all = tuple filter keys env cx all
-  tuples (bind ∷ binds) filter keys env cx all = bind env cx >>= (λ values. each (tuples binds filter keys) env cx values all)
+  tuples (bind ∷ binds) filter keys env cx all = bind env cx >>= (λ values. each docs (tuples binds filter keys) env cx values all)
 
   -- what `//` stands for: a node itself and all below it
   abbrev pub below : NodeAt → Making (List NodeAt)
@@ -245,32 +204,8 @@ module _ (docs : List ℕ → Option Doc) (fold : (A : Type 0) → (Node-F A →
   first_step s env cx =
       plain (context_item cx >>? nodes_or XPTY0020) >>= stepped s env >>= (λ ns. give (map node ns))
 
-  -- the node of a document that is there
-  abbrev pub document_node : Option Doc → List ℕ → Result Items Code
-  document_node None name = Err FODC0002
-  document_node (Some doc) name = Ok (node (record { tree = stored name; place = [] }) ∷ [])
-
-  abbrev pub ProductMeans : Type 0
-  ProductMeans = ProductOp × Means
-
-  abbrev pub SumMeans : Type 0
-  SumMeans = Bool × Means
-
-  -- an item and its position, counted from 1
-  abbrev pub bound_items : List ℕ → Option (List ℕ) → ℕ → Items → List Bindings
-  bound_items name at position [] = []
-  bound_items name None position (item ∷ items) = (record { name = name; value = item ∷ [] } ∷ []) ∷ bound_items name None (position + 1) items
-  bound_items name (Some at) position (item ∷ items) =
-      (record { name = name; value = item ∷ [] } ∷ record { name = at; value = integer (pos position) ∷ [] } ∷ [])
-      ∷ bound_items name (Some at) (position + 1) items
-
-  -- the items of `for` one after another, and the value of `let` at once
-  abbrev pub bind_step : Bind-F BindMeans Means Means ProductMeans KeyMeans StepMeans SumMeans → BindMeans
-  bind_step (Bind-F.For name at source) env cx = source env cx >>= (λ items. give (bound_items name at 1 items))
-  bind_step (Bind-F.Let name value) env cx = value env cx >>= (λ items. give ((record { name = name; value = items } ∷ []) ∷ []))
-
   -- the value of each kind of expression, before its items are counted
-  abbrev pub value_of : Expr-F BindMeans Means Means ProductMeans KeyMeans StepMeans SumMeans → Means
+  abbrev pub value_of : Expr-F BindMeans Means Means (ProductMeans docs) KeyMeans StepMeans (SumMeans docs) → Means
   value_of (Expr-F.Text value) env cx = give (string value ∷ [])
   value_of (Expr-F.Int value) env cx = give (integer value ∷ [])
   value_of (Expr-F.Var name) env cx = give (or_nothing (bound_value name env))
@@ -294,9 +229,9 @@ module _ (docs : List ℕ → Option Doc) (fold : (A : Type 0) → (Node-F A →
   value_of (Expr-F.Path start rest) env cx = start env cx >>= path_from rest env
   value_of (Expr-F.Filter inner preds) env cx = inner env cx >>= filtered (λ item. item) preds env
   value_of (Expr-F.Fun name args) env cx = values args env cx >>= (λ lists. look (λ made. call_function made cx name lists))
-  value_of (Expr-F.Doc name) env cx = plain (document_node (docs name) name)
+  value_of (Expr-F.Doc name) env cx = plain (document_node docs (docs name) name)
   value_of (Expr-F.Element name content) env cx =
-      content_or content env cx >>= (λ items. look (λ made. element name (content_of made items))) >>= (λ n. construct (a_node n))
+      content_or content env cx >>= (λ items. look (λ made. element name (content_of docs made items))) >>= (λ n. construct (a_node n))
   value_of (Expr-F.Attribute name content) env cx =
       content_or content env cx >>= (λ items. look (λ made. limited_text (spaced (atomized made items))))
       >>= (λ value. construct (an_attribute (record { name = name; value = value })))
@@ -307,15 +242,15 @@ module _ (docs : List ℕ → Option Doc) (fold : (A : Type 0) → (Node-F A →
     new_text (item ∷ items) = look (λ made. limited_text (spaced (atomized made (item ∷ items)))) >>= (λ value. construct (a_node (Text value)))
 
   -- and counted
-  abbrev pub expr_step : Expr-F BindMeans Means Means ProductMeans KeyMeans StepMeans SumMeans → Means
+  abbrev pub expr_step : Expr-F BindMeans Means Means (ProductMeans docs) KeyMeans StepMeans (SumMeans docs) → Means
   expr_step layer env cx = value_of layer env cx >>= counted
 
-  abbrev pub start_step : Start-F BindMeans Means Means ProductMeans KeyMeans StepMeans SumMeans → Means
+  abbrev pub start_step : Start-F BindMeans Means Means (ProductMeans docs) KeyMeans StepMeans (SumMeans docs) → Means
   start_step (Start-F.Value inner) env cx = inner env cx
   start_step (Start-F.First step) env cx = first_step step env cx
 
   -- the nodes of the axis that pass the test, and then each predicate
-  abbrev pub step_step : Step-F BindMeans Means Means ProductMeans KeyMeans StepMeans SumMeans → StepMeans
+  abbrev pub step_step : Step-F BindMeans Means Means (ProductMeans docs) KeyMeans StepMeans (SumMeans docs) → StepMeans
   step_step s = record {
       deep = s.deep;
       from_node = λ env n. look (λ made. Ok (tested made s.axis s.test n)) >>= filtered node s.preds env }
@@ -341,7 +276,7 @@ module _ (docs : List ℕ → Option Doc) (fold : (A : Type 0) → (Node-F A →
   placed_lines (Some (an_attribute a)) = attribute_line a ∷ []
 
   abbrev pub item_lines : Made → Item → List Line
-  item_lines made (node n) = placed_lines (node_at made n)
+  item_lines made (node n) = placed_lines (node_at docs made n)
   item_lines made (string text) = atom_line text
   item_lines made (integer n) = atom_line (signed_decimal n)
   item_lines made (boolean b) = atom_line (boolean_text b)
@@ -349,26 +284,26 @@ module _ (docs : List ℕ → Option Doc) (fold : (A : Type 0) → (Node-F A →
   abbrev pub lines_of : Made → Items → List Line
   lines_of made items = joined (map (item_lines made) items)
 
--- ---- the definitions are these, at the forest's look-up and the fold of nodes
+-- ---- at the fold of nodes they are the definitions
 
-module _ (F : Forest) where
-  abbrev the_fold : (A : Type 0) → (Node-F A → A) → Node → A
-  the_fold A step n = fold-Node A step n
+abbrev the_fold : (A : Type 0) → (Node-F A → A) → Node → A
+the_fold A step n = fold-Node A step n
 
+module _ (docs : Documents) where
   -- a layer of an expression
-  same_expr_step : expr_step (forests.get F) the_fold ≡ spec.expr_step F
+  same_expr_step : expr_step docs the_fold ≡ spec.expr_step docs
   same_expr_step = refl
 
-  same_step_step : step_step (forests.get F) the_fold ≡ spec.step_step F
+  -- a step of a path
+  same_step_step : step_step docs the_fold ≡ spec.step_step docs
   same_step_step = refl
 
-  same_start_step : start_step (forests.get F) the_fold ≡ spec.start_step F
+  -- the beginning of a path
+  same_start_step : start_step docs the_fold ≡ spec.start_step docs
   same_start_step = refl
 
-  same_bind_step : bind_step (forests.get F) the_fold ≡ spec.bind_step F
-  same_bind_step = refl
-
-  same_lines : lines_of (forests.get F) the_fold ≡ spec_lines F
+  -- the lines of an answer
+  same_lines : lines_of docs the_fold ≡ spec_lines docs
   same_lines = refl
 
 -- ---- a fold of nodes that computes
@@ -407,7 +342,12 @@ Entries = List (List ℕ × Doc)
 abbrev pub looked : Entries → List ℕ → Option Doc
 looked es name = forests.find (slice_cmp nat_cmp) name es
 
-same_looked : (es : Entries) → T (forests.is_sorted (slice_cmp nat_cmp) es) → forests.get (forests.from_sorted {R = slice_cmp nat_cmp} es) ≡ looked es
+-- the documents of these entries, which stand in the order of their names
+abbrev pub forest_of : Entries → Forest
+forest_of es = forests.from_sorted es
+
+-- a forest looks up among its entries
+same_looked : (es : Entries) → T (forests.is_sorted (slice_cmp nat_cmp) es) → forests.get (forest_of es) ≡ looked es
 same_looked es h = λ i name. forests.get-from_sorted (slice_cmp nat_cmp) es name h i
 
 -- the lines of an answer, or its code
@@ -415,26 +355,30 @@ abbrev pub with_lines : (Made → Items → List Line) → Result (Items × Made
 with_lines lines (Ok both) = Ok (lines both.1 both.0)
 with_lines lines (Err code) = Err code
 
--- what an expression answers where these are the documents, in the order of their names
+-- what an expression answers where these are the documents
 abbrev pub answer : Entries → Expr → Result (List Line) Code
-answer es e = let F : Forest = forests.from_sorted es in with_lines (spec_lines F) (spec.eval F e)
+answer es e = with_lines (spec_lines (forests.get (forest_of es))) (spec.eval (forest_of es) e)
 
-module _ (docs : List ℕ → Option Doc) (fold : (A : Type 0) → (Node-F A → A) → Node → A) where
+module _ (docs : Documents) (fold : (A : Type 0) → (Node-F A → A) → Node → A) where
   -- the meaning of an expression that is no deeper than the number
   abbrev pub meaning_to : ℕ → Expr → Means
-  meaning_to = run (λ env cx. fail NotBuilt) (bind_step docs fold) (expr_step docs fold) (start_step docs fold)
-      (λ p. (p.op, p.expr)) (λ k. record { value = k.expr; descending = k.descending }) (step_step docs fold) (λ p. (p.minus, p.expr))
+  meaning_to = run (λ env cx. fail NotBuilt) (spec.bind_step docs) (expr_step docs fold) (start_step docs fold)
+      (spec.product_step docs) (spec.key_step docs) (step_step docs fold) (spec.sum_step docs)
 
+  -- and what it answers
   abbrev pub answer_to : ℕ → Expr → Result (List Line) Code
   answer_to n e = with_lines (lines_of docs fold) (meaning_to n e [] None [])
 
--- where no expression is deeper, the answer is what computes
-pub computes : (es : Entries) → T (forests.is_sorted (slice_cmp nat_cmp) es) → (n : ℕ) (e : Expr) → fits n e ≡ true → answer es e ≡ answer_to (looked es) refold n e
+-- the meaning is the one that computes, over the same documents and the fold
+same_meaning : (docs : Documents) (n : ℕ) (e : Expr) → fits n e ≡ true → meaning_to docs the_fold n e ≡ spec.meaning docs e
+same_meaning docs = bounded (λ env cx. fail NotBuilt) (spec.bind_step docs) (spec.expr_step docs) (spec.start_step docs)
+    (spec.product_step docs) (spec.key_step docs) (spec.step_step docs) (spec.sum_step docs)
+
+-- an answer is what computes, where the number is no less than the depth
+pub computes : (es : Entries) → T (forests.is_sorted (slice_cmp nat_cmp) es) → (n : ℕ) (e : Expr) → fits n e ≡ true
+    → answer es e ≡ answer_to (looked es) refold n e
 computes es sorted n e h =
-    let F : Forest = forests.from_sorted es in
-    let whole : meaning_to (forests.get F) (the_fold F) n e ≡ spec.meaning F e = bounded (λ env cx. fail NotBuilt) (spec.bind_step F) (spec.expr_step F) (spec.start_step F)
-          (spec.product_step F) (spec.key_step F) (spec.step_step F) (spec.sum_step F) n e h in
-    ap (λ means. with_lines (spec_lines F) (means [] None [])) (sym whole)
+    ap (λ means. with_lines (spec_lines (forests.get (forest_of es))) (means [] None [])) (sym (same_meaning (forests.get (forest_of es)) n e h))
     ∙ (λ i. answer_to (same_looked es sorted i) (same_fold i) n e)
 
 -- what has to unfold where an answer computes

@@ -1,5 +1,8 @@
 pub mod Bounded
 pub mod Computing
+pub mod Building
+pub mod Chains
+pub mod DocumentNumbers
 pub mod Entries
 pub mod Escapes
 pub mod Formed
@@ -14,8 +17,18 @@ pub mod ReadIsSpelled
 pub mod SpelledIsRead
 mod MeaningRows
 mod NavRows
+pub mod NodeCases
+pub mod Numbered
+pub mod Numbers
+pub mod Reached
 mod Rows
+pub mod Standing
 pub mod TextAgain
 pub mod TextLines
+pub mod PlaceOrder
+pub mod Placing
 pub mod Sorting
+pub mod TreeFacts
+pub mod TreeCalls
+pub mod TreesMade
 pub mod Validity

@@ -8,10 +8,9 @@ use Rattle.xml_model.specs.declared.node.Attr.{Attr}
 use Rattle.xml_model.specs.declared.node.Node.{Node, out-Node}
 use Rattle.xml_model.specs.declared.node.Node.TheOpen.{Node-F}
 use Rattle.xml_model.specs.declared.node.Node.TheVariants.{Element, Text}
-use Rattle.xml_model.specs.Forest.{Forest}
 use Rattle.xml_model.specs.Place.{Placed, the_document, a_node, an_attribute}
 use Rattle.xml_model.specs.Trees.{count_node, bytes_node, depth_node, has_attribute}
-use Rattle.xml_model.specs.Items.{Item, Items, node, string, integer, boolean, Made, node_at, ◌>>?◌}
+use Rattle.xml_model.specs.Items.{Documents, Item, Items, node, string, integer, boolean, Made, node_at, ◌>>?◌}
 use Rattle.xml_model.specs.declared.value.Atom.{Atom}
 use Rattle.xml_model.specs.declared.value.Atom.TheVariants as atom
 use Rattle.xml_model.specs.Atoms.{Atoms, atom_text}
@@ -35,12 +34,12 @@ words (w ∷ ws) = a_child (Text (join_with_byte 32 (w ∷ ws))) ∷ []
 
 -- what the items make in order: nodes are copied, and documents replaced by their children. The first list has the
 -- texts of the atomic values directly before.
-abbrev pub pieces : Forest → Made → List (List ℕ) → Items → List Piece
-pieces F made before [] = words before
-pieces F made before (node n ∷ items) = words before ++ (pieces_of (node_at F made n) ++ pieces F made [] items)
-pieces F made before (string text ∷ items) = pieces F made (before ++ atom_text (atom.Text text) ∷ []) items
-pieces F made before (integer n ∷ items) = pieces F made (before ++ atom_text (atom.Int n) ∷ []) items
-pieces F made before (boolean b ∷ items) = pieces F made (before ++ atom_text (atom.Truth b) ∷ []) items
+abbrev pub pieces : Documents → Made → List (List ℕ) → Items → List Piece
+pieces docs made before [] = words before
+pieces docs made before (node n ∷ items) = words before ++ (pieces_of (node_at docs made n) ++ pieces docs made [] items)
+pieces docs made before (string text ∷ items) = pieces docs made (before ++ atom_text (atom.Text text) ∷ []) items
+pieces docs made before (integer n ∷ items) = pieces docs made (before ++ atom_text (atom.Int n) ∷ []) items
+pieces docs made before (boolean b ∷ items) = pieces docs made (before ++ atom_text (atom.Truth b) ∷ []) items
 
 -- ---- texts that are neighbours, and empty ones
 
@@ -74,8 +73,8 @@ is_empty_text (Some []) = true
 is_empty_text (Some (b ∷ bytes)) = false
 
 -- the content that the items make: neighbouring texts are joined, and then empty ones dropped
-abbrev pub content_of : Forest → Made → Items → List Piece
-content_of F made items = filter (λ p. not (is_empty_text (piece_text p))) (joined_texts (pieces F made [] items))
+abbrev pub content_of : Documents → Made → Items → List Piece
+content_of docs made items = filter (λ p. not (is_empty_text (piece_text p))) (joined_texts (pieces docs made [] items))
 
 -- ---- new elements
 

@@ -1,4 +1,4 @@
--- What an expression means in a forest: the items that it gives and the trees that it constructs, or the first code
+-- What an expression means: the items that it gives and the trees that it constructs, or the first code
 -- (XQuery 1.0, section 3). The parts of an expression are evaluated from left to right and before its operator.
 use Rattle.std.specs.Prelude.{ℕ, ◌+◌, ◌==◌, ℤ, pos, Bool, true, false, if◌then◌else◌, nat_lt, List, [], ◌∷◌, ◌++◌, map, length, bytes_eq, Option, Some, None, Result, Ok, Err}
 use Rattle.std.specs.Ordering.{int_eq}
@@ -19,7 +19,7 @@ use Rattle.xml_model.specs.declared.node.Doc.{Doc}
 use Rattle.xml_model.specs.declared.node.Node.TheVariants.{Text}
 use Rattle.xml_model.specs.Forest.{Forest}
 use Rattle.xml_model.specs.Place.{a_node, an_attribute}
-use Rattle.xml_model.specs.Items.{NodeAt, Item, Items, stored, node, string, integer, boolean, Made, Making, give, fail, plain, look, ◌>>=◌, ◌>>?◌, construct}
+use Rattle.xml_model.specs.Items.{Documents, NodeAt, Item, Items, stored, node, string, integer, boolean, Made, Making, give, fail, plain, look, ◌>>=◌, ◌>>?◌, construct}
 use Rattle.xml_model.specs.Atoms.{Atoms, effective_boolean, compares, operated, chained, signed_by, sum_op, product_op, range_of}
 use Rattle.xml_model.specs.DocumentOrder.{union}
 use Rattle.xml_model.specs.Nodes.{node_cmp, nodes_or, united_all, atomized, tested}
@@ -118,10 +118,10 @@ abbrev pub from_each : (NodeAt → Making (List NodeAt)) → List NodeAt → Lis
 from_each go joined [] = give joined
 from_each go joined (n ∷ ns) = go n >>= (λ more. from_each go (union node_cmp joined more) ns)
 
-module _ (F : Forest) where
+module _ (docs : Documents) where
   -- what `//` stands for: a node itself and all below it
   abbrev pub below : NodeAt → Making (List NodeAt)
-  below n = look (λ made. Ok (tested F made DescendantOrSelf AnyNode n))
+  below n = look (λ made. Ok (tested docs made DescendantOrSelf AnyNode n))
 
   -- a step from each of the nodes, in the order of the value
   abbrev pub stepped : StepMeans → Bindings → List NodeAt → Making (List NodeAt)
@@ -172,34 +172,34 @@ module _ (F : Forest) where
   value_of Expr-F.Context env cx = plain (context_item cx)
   value_of (Expr-F.Seq es) env cx = one_after_another es env cx
   value_of (Expr-F.Flwor binds filter keys result) env cx =
-      tuples F binds filter keys env cx no_tuples >>= (λ all. returned result cx (sorted keys all.rows))
+      tuples docs binds filter keys env cx no_tuples >>= (λ all. returned result cx (sorted keys all.rows))
   value_of (Expr-F.If test good other) env cx = truth test env cx >>= (λ b. if b then good env cx else other env cx)
   value_of (Expr-F.Or es) env cx = any_of es env cx >>= (λ b. give (boolean_value b))
   value_of (Expr-F.And es) env cx = all_of es env cx >>= (λ b. give (boolean_value b))
   value_of (Expr-F.Compare left op right) env cx =
-      left env cx >>= (λ a. right env cx >>= (λ b. look (λ made. compares op (atomized F made a) (atomized F made b)) >>= (λ t. give (boolean_value t))))
+      left env cx >>= (λ a. right env cx >>= (λ b. look (λ made. compares op (atomized docs made a) (atomized docs made b)) >>= (λ t. give (boolean_value t))))
   value_of (Expr-F.Range low high) env cx =
-      low env cx >>= (λ a. high env cx >>= (λ b. look (λ made. operated range_of (atomized F made a) (atomized F made b))))
+      low env cx >>= (λ a. high env cx >>= (λ b. look (λ made. operated range_of (atomized docs made a) (atomized docs made b))))
   value_of (Expr-F.Sum first rest) env cx =
-      first env cx >>= (λ a. parts rest env cx >>= (λ more. look (λ made. chained (atomized F made) sum_op a more)))
+      first env cx >>= (λ a. parts rest env cx >>= (λ more. look (λ made. chained (atomized docs made) sum_op a more)))
   value_of (Expr-F.Product first rest) env cx =
-      first env cx >>= (λ a. parts rest env cx >>= (λ more. look (λ made. chained (atomized F made) product_op a more)))
+      first env cx >>= (λ a. parts rest env cx >>= (λ more. look (λ made. chained (atomized docs made) product_op a more)))
   value_of (Expr-F.Union es) env cx = values es env cx >>= (λ lists. plain (united_all [] lists)) >>= (λ ns. give (map node ns))
-  value_of (Expr-F.Signed signs inner) env cx = inner env cx >>= (λ a. look (λ made. signed_by (atomized F made) signs a))
+  value_of (Expr-F.Signed signs inner) env cx = inner env cx >>= (λ a. look (λ made. signed_by (atomized docs made) signs a))
   value_of (Expr-F.Path start rest) env cx = start env cx >>= path_from rest env
   value_of (Expr-F.Filter inner preds) env cx = inner env cx >>= filtered (λ item. item) preds env
-  value_of (Expr-F.Fun name args) env cx = values args env cx >>= (λ lists. look (λ made. call_function F made cx name lists))
-  value_of (Expr-F.Doc name) env cx = plain (document_node (forests.get F name) name)
+  value_of (Expr-F.Fun name args) env cx = values args env cx >>= (λ lists. look (λ made. call_function docs made cx name lists))
+  value_of (Expr-F.Doc name) env cx = plain (document_node (docs name) name)
   value_of (Expr-F.Element name content) env cx =
-      content_or content env cx >>= (λ items. look (λ made. element name (content_of F made items))) >>= (λ n. construct (a_node n))
+      content_or content env cx >>= (λ items. look (λ made. element name (content_of docs made items))) >>= (λ n. construct (a_node n))
   value_of (Expr-F.Attribute name content) env cx =
-      content_or content env cx >>= (λ items. look (λ made. limited_text (spaced (atomized F made items))))
+      content_or content env cx >>= (λ items. look (λ made. limited_text (spaced (atomized docs made items))))
       >>= (λ value. construct (an_attribute (record { name = name; value = value })))
   value_of (Expr-F.TextNode content) env cx = content_or content env cx >>= new_text
     where
     new_text : Items → Making Items
     new_text [] = give []
-    new_text (item ∷ items) = look (λ made. limited_text (spaced (atomized F made (item ∷ items)))) >>= (λ value. construct (a_node (Text value)))
+    new_text (item ∷ items) = look (λ made. limited_text (spaced (atomized docs made (item ∷ items)))) >>= (λ value. construct (a_node (Text value)))
 
   -- and counted
   abbrev pub expr_step : Expr-F BindMeans Means Means ProductMeans KeyMeans StepMeans SumMeans → Means
@@ -219,7 +219,7 @@ module _ (F : Forest) where
   abbrev pub step_step : Step-F BindMeans Means Means ProductMeans KeyMeans StepMeans SumMeans → StepMeans
   step_step s = record {
       deep = s.deep;
-      from_node = λ env n. look (λ made. Ok (tested F made s.axis s.test n)) >>= filtered node s.preds env }
+      from_node = λ env n. look (λ made. Ok (tested docs made s.axis s.test n)) >>= filtered node s.preds env }
 
   abbrev pub sum_step : SumPart-F BindMeans Means Means ProductMeans KeyMeans StepMeans SumMeans → SumMeans
   sum_step p = (p.minus, p.expr)
@@ -228,6 +228,6 @@ module _ (F : Forest) where
   abbrev pub meaning : Expr → Means
   meaning = fold-Expr BindMeans Means Means ProductMeans KeyMeans StepMeans SumMeans bind_step expr_step start_step product_step key_step step_step sum_step
 
--- an expression by itself: no variable is bound and there is no context
+-- an expression by itself, in a forest: no variable is bound and there is no context
 abbrev pub eval : Forest → Expr → Result (Items × Made) Code
-eval F e = meaning F e [] None []
+eval F e = meaning (forests.get F) e [] None []

@@ -5,9 +5,8 @@ use Rattle.std.specs.List.{concat}
 use Rattle.std.specs.Fmt.{char_count}
 use Rattle.xq_ast.specs.declared.code.Code.{Code}
 use Rattle.xq_ast.specs.declared.code.Code.TheVariants.{XPDY0002, XPTY0004}
-use Rattle.xml_model.specs.Forest.{Forest}
 use Rattle.xml_model.specs.Place.{Placed}
-use Rattle.xml_model.specs.Items.{NodeAt, Item, Items, node, string, integer, boolean, Made, Making, give, fail, plain, look, ◌>>=◌, ◌>>?◌, node_at}
+use Rattle.xml_model.specs.Items.{Documents, NodeAt, Item, Items, node, string, integer, boolean, Made, Making, give, fail, plain, look, ◌>>=◌, ◌>>?◌, node_at}
 use Rattle.xml_model.specs.declared.value.Atom.{Atom}
 use Rattle.xml_model.specs.declared.value.Atom.TheVariants as atom
 use Rattle.xml_model.specs.Atoms.{Atoms, atom_text, effective_boolean, sum_of}
@@ -48,10 +47,10 @@ is_empty (item ∷ items) = false
 -- ---- texts
 
 -- the string of one item at most
-abbrev pub string_of : Forest → Made → Items → Result (List ℕ) Code
-string_of F made [] = Ok []
-string_of F made (item ∷ []) = Ok (atom_text (atomized_item F made item))
-string_of F made (item ∷ other ∷ items) = Err XPTY0004
+abbrev pub string_of : Documents → Made → Items → Result (List ℕ) Code
+string_of docs made [] = Ok []
+string_of docs made (item ∷ []) = Ok (atom_text (atomized_item docs made item))
+string_of docs made (item ∷ other ∷ items) = Err XPTY0004
 
 -- the name of what stands there
 abbrev pub name_at : Option Placed → List ℕ
@@ -59,13 +58,13 @@ name_at None = []
 name_at (Some there) = name_of there
 
 -- the name of one node at most
-abbrev pub name_of_one : Forest → Made → Items → Result (List ℕ) Code
-name_of_one F made [] = Ok []
-name_of_one F made (node n ∷ []) = Ok (name_at (node_at F made n))
-name_of_one F made (string text ∷ []) = Err XPTY0004
-name_of_one F made (integer n ∷ []) = Err XPTY0004
-name_of_one F made (boolean b ∷ []) = Err XPTY0004
-name_of_one F made (item ∷ other ∷ items) = Err XPTY0004
+abbrev pub name_of_one : Documents → Made → Items → Result (List ℕ) Code
+name_of_one docs made [] = Ok []
+name_of_one docs made (node n ∷ []) = Ok (name_at (node_at docs made n))
+name_of_one docs made (string text ∷ []) = Err XPTY0004
+name_of_one docs made (integer n ∷ []) = Err XPTY0004
+name_of_one docs made (boolean b ∷ []) = Err XPTY0004
+name_of_one docs made (item ∷ other ∷ items) = Err XPTY0004
 
 -- an argument that must be a string: nothing is the empty one, and a node has its string value
 abbrev pub string_argument : Atoms → Result (List ℕ) Code
@@ -118,30 +117,30 @@ abbrev pub tested_texts : (List ℕ → List ℕ → Bool) → Atoms → Atoms �
 tested_texts holds a b = string_argument a >>? (λ text. string_argument b >>? (λ wanted. boolean_answer (holds text wanted)))
 
 -- what is measured: the argument, which must be a string, or without one the text of the context item, whatever it is
-abbrev pub measured : Forest → Made → Context → List Items → Result (List ℕ) Code
-measured F made cx [] = context_item cx >>? string_of F made
-measured F made cx (value ∷ more) = string_argument (atomized F made value)
+abbrev pub measured : Documents → Made → Context → List Items → Result (List ℕ) Code
+measured docs made cx [] = context_item cx >>? string_of docs made
+measured docs made cx (value ∷ more) = string_argument (atomized docs made value)
 
 -- the name of a function with what it answers of its arguments
 abbrev pub FunctionRow : Type 0
 FunctionRow = List ℕ × (List Items → Result Items Code)
 
 -- the functions of `functions` of xq_ast, each with its answer
-abbrev pub rows : Forest → Made → Context → List FunctionRow
-rows F made cx =
+abbrev pub rows : Documents → Made → Context → List FunctionRow
+rows docs made cx =
     (codes "count", λ args. integer_answer (pos (length (first_of args))))
     ∷ (codes "empty", λ args. boolean_answer (is_empty (first_of args)))
     ∷ (codes "exists", λ args. boolean_answer (not (is_empty (first_of args))))
     ∷ (codes "not", λ args. effective_boolean (first_of args) >>? (λ b. boolean_answer (not b)))
     ∷ (codes "true", λ args. boolean_answer true)
     ∷ (codes "false", λ args. boolean_answer false)
-    ∷ (codes "string", λ args. or_context cx args >>? string_of F made >>? string_answer)
-    ∷ (codes "name", λ args. or_context cx args >>? name_of_one F made >>? string_answer)
-    ∷ (codes "contains", λ args. tested_texts has_within (atomized F made (first_of args)) (atomized F made (second_of args)))
-    ∷ (codes "starts-with", λ args. tested_texts begins_with (atomized F made (first_of args)) (atomized F made (second_of args)))
-    ∷ (codes "string-length", λ args. measured F made cx args >>? (λ text. integer_answer (pos (char_count text))))
-    ∷ (codes "concat", λ args. concat_arguments (map (atomized F made) args) >>? (λ texts. string_answer (concat texts)))
-    ∷ (codes "sum", λ args. sum_of (atomized F made (first_of args)) >>? integer_answer)
+    ∷ (codes "string", λ args. or_context cx args >>? string_of docs made >>? string_answer)
+    ∷ (codes "name", λ args. or_context cx args >>? name_of_one docs made >>? string_answer)
+    ∷ (codes "contains", λ args. tested_texts has_within (atomized docs made (first_of args)) (atomized docs made (second_of args)))
+    ∷ (codes "starts-with", λ args. tested_texts begins_with (atomized docs made (first_of args)) (atomized docs made (second_of args)))
+    ∷ (codes "string-length", λ args. measured docs made cx args >>? (λ text. integer_answer (pos (char_count text))))
+    ∷ (codes "concat", λ args. concat_arguments (map (atomized docs made) args) >>? (λ texts. string_answer (concat texts)))
+    ∷ (codes "sum", λ args. sum_of (atomized docs made (first_of args)) >>? integer_answer)
     ∷ (codes "position", λ args. of_focus (λ focus. focus.position) cx)
     ∷ (codes "last", λ args. of_focus (λ focus. focus.size) cx)
     ∷ []
@@ -151,5 +150,5 @@ abbrev pub answer_of_row : List FunctionRow → List ℕ → List Items → Resu
 answer_of_row [] name args = Ok []
 answer_of_row (row ∷ more) name args = if bytes_eq name row.0 then row.1 args else answer_of_row more name args
 
-abbrev pub call_function : Forest → Made → Context → List ℕ → List Items → Result Items Code
-call_function F made cx = answer_of_row (rows F made cx)
+abbrev pub call_function : Documents → Made → Context → List ℕ → List Items → Result Items Code
+call_function docs made cx = answer_of_row (rows docs made cx)

@@ -1,10 +1,9 @@
 -- Items: what the values of expressions are lists of (XQuery 1.0 and XPath 2.0 Data Model, section 2.5), and what makes
 -- them. Evaluation also makes trees, so each of its parts takes the trees constructed so far and answers those after it.
 use Rattle.std.specs.Prelude.{ℕ, ℤ, Bool, List, [], ◌∷◌, ◌++◌, length, Option, Some, None, Result, Ok, Err, slice_get, option_map}
-use Rattle.std.specs.FinMap as forests
 use Rattle.xq_ast.specs.declared.code.Code.{Code}
 use Rattle.xml_model.specs.declared.place.PlaceStep.{PlaceStep}
-use Rattle.xml_model.specs.Forest.{Forest}
+use Rattle.xml_model.specs.declared.node.Doc.{Doc}
 use Rattle.xml_model.specs.Place.{Placed, the_document, placed_from}
 
 -- the tree that a node stands in: a document of the forest, by its name, or a constructed tree, by its number in the
@@ -27,6 +26,10 @@ pub data Item : Type 0 where
 
 abbrev pub Items : Type 0
 Items = List Item
+
+-- the documents that a query may name
+abbrev pub Documents : Type 0
+Documents = List ℕ → Option Doc
 
 -- the roots of the constructed trees, in the order of their construction
 abbrev pub Made : Type 0
@@ -73,10 +76,10 @@ construct root made = Ok (node (record { tree = constructed (length made); place
 -- ---- what stands behind a node
 
 -- the root of a tree that is there
-abbrev pub tree_root : Forest → Made → Tree → Option Placed
-tree_root F made (stored name) = option_map the_document (forests.get F name)
-tree_root F made (constructed number) = slice_get made number
+abbrev pub tree_root : Documents → Made → Tree → Option Placed
+tree_root docs made (stored name) = option_map the_document (docs name)
+tree_root docs made (constructed number) = slice_get made number
 
 -- what stands at the node, where its tree and its place are there
-abbrev pub node_at : Forest → Made → NodeAt → Option Placed
-node_at F made n = placed_from n.place (tree_root F made n.tree)
+abbrev pub node_at : Documents → Made → NodeAt → Option Placed
+node_at docs made n = placed_from n.place (tree_root docs made n.tree)

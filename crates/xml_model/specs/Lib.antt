@@ -23,3 +23,5 @@ pub mod FunctionAnswers
 pub mod Tuples
 pub mod Evaluation
 pub mod ItemLines
+pub mod TreeRows
+pub mod TreeNodes

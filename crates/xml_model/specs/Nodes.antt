@@ -14,11 +14,10 @@ use Rattle.xq_ast.specs.declared.step.Test.{Test}
 use Rattle.xq_ast.specs.declared.step.Test.TheVariants as test
 use Rattle.xml_model.specs.declared.node.Node.{Node, out-Node}
 use Rattle.xml_model.specs.declared.node.Node.TheOpen.{Node-F}
-use Rattle.xml_model.specs.Forest.{Forest}
 use Rattle.xml_model.specs.Place.{Placed, the_document, a_node, an_attribute, place_cmp}
 use Rattle.xml_model.specs.Axes.{axis_places, string_value}
 use Rattle.xml_model.specs.DocumentOrder.{union, in_order}
-use Rattle.xml_model.specs.Items.{Tree, stored, constructed, NodeAt, Item, Items, node, string, integer, boolean, Made, tree_root, node_at, ◌>>?◌}
+use Rattle.xml_model.specs.Items.{Documents, Tree, stored, constructed, NodeAt, Item, Items, node, string, integer, boolean, Made, tree_root, node_at, ◌>>?◌}
 use Rattle.xml_model.specs.declared.value.Atom.{Atom}
 use Rattle.xml_model.specs.declared.value.Atom.TheVariants as atom
 use Rattle.xml_model.specs.Atoms.{Atoms}
@@ -63,15 +62,15 @@ value_at None = []
 value_at (Some there) = string_value there
 
 -- atomizing: a node gives its string value, untyped
-abbrev pub atomized_item : Forest → Made → Item → Atom
-atomized_item F made (node n) = atom.Untyped (value_at (node_at F made n))
-atomized_item F made (string text) = atom.Text text
-atomized_item F made (integer n) = atom.Int n
-atomized_item F made (boolean b) = atom.Truth b
+abbrev pub atomized_item : Documents → Made → Item → Atom
+atomized_item docs made (node n) = atom.Untyped (value_at (node_at docs made n))
+atomized_item docs made (string text) = atom.Text text
+atomized_item docs made (integer n) = atom.Int n
+atomized_item docs made (boolean b) = atom.Truth b
 
 -- each item of a list
-abbrev pub atomized : Forest → Made → Items → Atoms
-atomized F made items = map (atomized_item F made) items
+abbrev pub atomized : Documents → Made → Items → Atoms
+atomized docs made items = map (atomized_item docs made) items
 
 -- the name of an element or attribute and the target of an instruction; texts and documents have none
 abbrev pub name_in : Node-F Node → List ℕ
@@ -134,7 +133,7 @@ passes_at on_attributes wanted None = false
 passes_at on_attributes wanted (Some there) = passes on_attributes wanted there
 
 -- the nodes of an axis that pass the test, in document order
-abbrev pub tested : Forest → Made → Axis → Test → NodeAt → List NodeAt
-tested F made way wanted n =
-    filter (λ m. passes_at (is_attribute_axis way) wanted (node_at F made m))
-      (option_map_or (λ root. map (λ place. record { tree = n.tree; place = place }) (axis_places way root n.place)) (tree_root F made n.tree) [])
+abbrev pub tested : Documents → Made → Axis → Test → NodeAt → List NodeAt
+tested docs made way wanted n =
+    filter (λ m. passes_at (is_attribute_axis way) wanted (node_at docs made m))
+      (option_map_or (λ root. map (λ place. record { tree = n.tree; place = place }) (axis_places way root n.place)) (tree_root docs made n.tree) [])

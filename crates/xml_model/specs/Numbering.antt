@@ -34,8 +34,8 @@ kid_rows back (kid ∷ more) = kid back ++ kid_rows (back + length (kid back)) m
 
 abbrev pub rows_step : Node-F (ℕ → List Row) → ℕ → List Row
 rows_step (Element name attrs kids) back = headed (told_in (Element name attrs kids)) back (attr_rows 1 attrs ++ kid_rows (1 + length attrs) kids)
-rows_step (Text value) back = headed (told_in {ℕ} (Text value)) back []
-rows_step (Pi target value) back = headed (told_in {ℕ} (Pi target value)) back []
+rows_step (Text value) back = headed (told_in {X = ℕ} (Text value)) back []
+rows_step (Pi target value) back = headed (told_in {X = ℕ} (Pi target value)) back []
 
 -- the rows of a node that stands so far behind its parent
 abbrev pub node_rows : Node → ℕ → List Row

@@ -10,8 +10,7 @@ use Rattle.xml_model.specs.declared.value.Key.{Key}
 use Rattle.xml_model.specs.declared.value.Key.TheVariants as key
 use Rattle.xml_model.specs.declared.value.KeyType.{KeyType}
 use Rattle.xml_model.specs.declared.value.KeyType.TheVariants as types
-use Rattle.xml_model.specs.Forest.{Forest}
-use Rattle.xml_model.specs.Items.{Items, Making, give, plain, look, ◌>>=◌, ◌>>?◌}
+use Rattle.xml_model.specs.Items.{Documents, Items, Making, give, plain, look, ◌>>=◌, ◌>>?◌}
 use Rattle.xml_model.specs.declared.value.Atom.{Atom}
 use Rattle.xml_model.specs.declared.value.Atom.TheVariants as atom
 use Rattle.xml_model.specs.Atoms.{Atoms, text_cmp, effective_boolean}
@@ -151,12 +150,12 @@ with_key all key type = record { keys = all.keys ++ key ∷ []; types = all.type
 abbrev pub with_row : Tuples → Bindings → Keyed → Tuples
 with_row all env keyed = record { types = keyed.types; rows = all.rows ++ record { keys = keyed.keys; bindings = env } ∷ [] }
 
-module _ (F : Forest) where
+module _ (docs : Documents) where
   -- the keys in order, after those that are there; the types are those of earlier tuples at the places from here on
   abbrev pub keyed : List KeyMeans → Bindings → Context → List KeyType → Keyed → Making Keyed
   keyed [] env cx types all = give all
   keyed (k ∷ ks) env cx types all =
-      k.value env cx >>= (λ value. look (λ made. key_of (atomized F made value))) >>= (λ key.
+      k.value env cx >>= (λ value. look (λ made. key_of (atomized docs made value))) >>= (λ key.
         plain (joined_type (first_type types) (type_of key)) >>= (λ type. keyed ks env cx (other_types types) (with_key all key type)))
 
   -- whether `where` lets a tuple stay

@@ -18,12 +18,12 @@ mod forest;
 mod laws;
 mod layers;
 mod limits;
-mod meaning;
 mod measure;
 mod nav;
 mod node;
 mod place;
 mod text_lines;
+mod tree_nav;
 mod valid;
 mod value;
 

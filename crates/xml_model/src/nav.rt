@@ -1,6 +1,8 @@
 //! Navigation: how evaluation moves among the nodes of documents, wherever these are kept.
 ghost use Rattle.std.specs.Prelude.{◌≡◌, ℕ, ◌<◌, ◌≤◌, List, IfOk, IfErr, IfSome};
 ghost use Rattle.std.specs.Option.{option_map};
+ghost use Rattle.xml_model.specs.declared.nav.TheConstants.{NUMBER_MAX};
+ghost use Rattle.xml_model.specs.declared.nav.Id.{Id};
 ghost use Rattle.xml_model.specs.Forest.{Forest, IsForest};
 ghost use Rattle.xml_model.specs.DocumentOrder.{node_cmp};
 ghost use Rattle.xml_model.specs.Nav.{Stored, root_of, first_of_node, next_of_node, parent_of_node, stored_at, told_at};
@@ -118,3 +120,7 @@ pub trait Nav {
     /// Documents are valid, and their names are names of documents.
     ghost valid: { (nav : Self) → honest nav → IsForest (forest nav) };
 }
+
+fn scratch()
+    ensures { (n : ℕ) → n ≡ n }
+{}
