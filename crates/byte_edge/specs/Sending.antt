@@ -9,6 +9,7 @@ pub record Stage : Type 0 where
   pub faults : ℕ
   pub waiting : List ℕ
 
+-- the sink and the buffer at a moment, by their parts
 abbrev pub stage : Option (List ℕ) → ℕ → List ℕ → Stage
 stage written faults waiting = record { written = written; faults = faults; waiting = waiting }
 
@@ -28,6 +29,7 @@ pub record Broke (bytes : List ℕ) (old new : Stage) : Type 0 where
   pub later : old.faults ≤ new.faults
   pub rose : Rose old.faults new.faults
 
+-- the bytes were sent where the answer is good, and the sink failed where it is a fault
 abbrev pub Sends : {T E : Type 0} → Result T E → List ℕ → (old new : Stage) → Type 0
 Sends (Ok x) bytes old new = Sent bytes old new
 Sends (Err e) bytes old new = Broke bytes old new

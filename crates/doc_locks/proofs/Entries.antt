@@ -15,6 +15,7 @@ use Rattle.indexmap.specs.IndexMap.{IndexMap, Updates}
 use Rattle.xq_ast.specs.declared.need.LockMode.{LockMode}
 use Rattle.doc_locks.specs.Names.{names_of_entries}
 
+-- entries found by the order of names are those looked up by equal bytes
 pub find-texts : {A X : Type 0} (q : List ℕ) (es : List (String A × X))
     → find (slice_cmp nat_cmp) q (map (λ e. (string_bytes e.0, e.1)) es) ≡ lookup (λ k. bytes_eq q (string_bytes k)) es
 find-texts q [] = refl

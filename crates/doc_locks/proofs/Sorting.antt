@@ -64,6 +64,7 @@ module _ {A V X : Type 0} (f : V → X) where
 
 -- ---- needs in byte order
 
+-- the needs that entries keep as texts, in the order of the entries
 abbrev pub needs_in : {A : Type 0} → List (String A × LockMode) → List Need
 needs_in [] = []
 needs_in (e ∷ es) = record { name = string_bytes e.0; mode = e.1 } ∷ needs_in es

@@ -36,6 +36,7 @@ pub record IsFirstConflict (t : Locks) (session : ℕ) (needs : List Need) (plac
 abbrev pub with_need : Names → Need → Names
 with_need names need = fin.insert names need.name (stronger need.mode (fin.get names need.name))
 
+-- what a session holds once all of these needs are granted to it as well
 abbrev pub with_needs : List Need → Names → Names
 with_needs [] names = names
 with_needs (need ∷ needs) names = with_needs needs (with_need names need)
@@ -44,6 +45,7 @@ with_needs (need ∷ needs) names = with_needs needs (with_need names need)
 abbrev pub need_of : List ℕ × LockMode → Need
 need_of e = record { name = e.0; mode = e.1 }
 
+-- what a session holds, as a list of needs in byte order
 abbrev pub needs_of : Names → List Need
 needs_of names = map need_of (fin.entries names)
 

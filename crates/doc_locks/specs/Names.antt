@@ -12,6 +12,7 @@ use Rattle.xq_ast.specs.contracts.need.LockMode as the_mode
 abbrev pub Names : Type 0
 Names = fin.FinMap (slice_cmp nat_cmp) LockMode
 
+-- how names and their modes are written as one value: by their entries
 abbrev pub names_code : Coded Names
 names_code = fin.code (coded_list coded_ℕ) the_mode.the_row.coded
 
@@ -19,6 +20,7 @@ names_code = fin.code (coded_list coded_ℕ) the_mode.the_row.coded
 abbrev pub Locks : Type 0
 Locks = fin.FinMap nat_cmp Names
 
+-- how the table of locks is written as one value: by its sessions and what each holds
 abbrev pub locks_code : Coded Locks
 locks_code = fin.code coded_ℕ names_code
 

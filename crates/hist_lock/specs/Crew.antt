@@ -12,6 +12,7 @@ pub record Hand (E O : Type 0) : Type 0 where
   pub told : List E
   pub found : List E
 
+-- a worker with this number and pass, which told of these events and found those
 abbrev pub hand : {E O : Type 0} → ℕ → Known E O → List E → List E → Hand E O
 hand n p told found = record { number = n; pass = p; told = told; found = found }
 
@@ -29,6 +30,7 @@ module _ {W E O : Type 0} (seen_as : W → Hand E O) where
     pub told : (seen_as w).pass.mine ≡ (seen_as w).told
     pub found : Begins (seen_as w).pass.seen (seen_as w).found
 
+  -- each worker is so at its place in the list
   abbrev pub AllReady : TableId → List W → Type 0
   AllReady lock ws = (k : ℕ) (d : W) → k < length ws → Ready lock k (slice_index_or ws k d)
 

@@ -1,3 +1,4 @@
+-- The lock: turns at the value, what passes know, and what the list of events tells of them.
 pub mod Holding
 pub mod Lending
 pub mod Passes

@@ -25,6 +25,7 @@ abbrev pub most_passes : ℕ
 most_passes = 4294967295
 
 module _ {E O : Type 0} where
+  -- what contracts see of a pass of this lock that keeps this view
   abbrev pub known_of : TableId → View E O → Known E O
   known_of lock v = record { lock = lock; id = v.id; origin = v.origin; seen = v.seen; mine = v.mine; inside = v.inside; made = v.made; kept = v.kept }
 

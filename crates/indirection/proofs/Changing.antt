@@ -21,9 +21,11 @@ use Rattle.indirection.proofs.Writings.{entered_table, entered_stays, entered_wr
 apart : (x h : ℕ) → x ≢ h → (x == h) ≡ false
 apart x h differ = grind (arith, nat_tests)
 
+-- the number that was given an address has it
 pub get-with_same : (m : map.FinMap nat_cmp Addr) (h : ℕ) (to : Addr) → map.get (map.insert m h to) h ≡ Some to
 get-with_same m h to = get-with m h to h ∙ ap (λ b. cond b (Some to) (map.get m h)) (eq-eqb h h refl)
 
+-- every other number has the address that it had, or none as before
 pub get-with_other : (m : map.FinMap nat_cmp Addr) (h x : ℕ) (to : Addr) → x ≢ h → map.get (map.insert m h to) x ≡ map.get m x
 get-with_other m h x to differ = get-with m h to x ∙ ap (λ b. cond b (Some to) (map.get m x)) (apart x h differ)
 
@@ -33,6 +35,7 @@ get-without_same m h = get-without m h h ∙ ap (λ b. cond b None (map.get m h)
 get-without_other : (m : map.FinMap nat_cmp Addr) (h x : ℕ) → x ≢ h → map.get (map.remove m h) x ≡ map.get m x
 get-without_other m h x differ = get-without m h x ∙ ap (λ b. cond b None (map.get m x)) (apart x h differ)
 
+-- that one number more is listed changes nothing for another
 pub listed_other : (hs : List ℕ) (h x : ℕ) → x ≢ h → is_listed (h ∷ hs) x ≡ is_listed hs x
 listed_other hs h x differ = ap (λ b. b || is_listed hs x) (apart x h differ)
 
@@ -83,25 +86,31 @@ module _ (w : Work) (all : PageId → Option (List ℕ)) (space : Space) (m : No
           absurd (true≢false (sym (part x listed) ∙ (means.outside x (inr (omega (arith, over)))).1))
 
   module _ (page place : ℕ) where
+    -- the workspace once this page and place are written in the number's entry
     abbrev pub entry_written : Work
     entry_written = with_entry_in w space (leaf_number (seen w.now all space) (leaf_index h)) (entry_index h) page place
 
+    -- the table stands as it did: as many directory pages and leaves, each where it was
     pub written_table : IsTable (seen entry_written.now all space) directories directories leaves
     written_table = entered_table w all space h page place directories directories leaves means.table (λ some. some) placed below there
 
+    -- the head is as it was
     pub written_head : bytes (seen entry_written.now all space) 0 ≡ bytes (seen w.now all space) 0
     written_head = entered_head w all space h page place directories directories leaves means.table (λ some. some) placed below there
 
+    -- the number's entry has the page that was written, if that has eight bytes
     pub written_page : page < 256 ^ 8 → page_at (seen entry_written.now all space) h ≡ page
     written_page = page_at-written (seen w.now all space) (seen entry_written.now all space) h page place leaves (means.table.leaf (leaf_index h) below).0.1
         (entered_stays w all space h page place directories directories leaves means.table (λ some. some) placed below there) means.table.leaves_apart below
         (entered_writes w all space h page place directories directories leaves means.table (λ some. some) placed below there)
 
+    -- the number's entry has the place that was written, if that has four bytes
     pub written_place : place < 256 ^ 4 → place_at (seen entry_written.now all space) h ≡ place
     written_place = place_at-written (seen w.now all space) (seen entry_written.now all space) h page place leaves (means.table.leaf (leaf_index h) below).0.1
         (entered_stays w all space h page place directories directories leaves means.table (λ some. some) placed below there) means.table.leaves_apart below
         (entered_writes w all space h page place directories directories leaves means.table (λ some. some) placed below there)
 
+    -- every other number up to the highest has its page as before
     pub written_page_kept : (x : ℕ) → 0 < x → x ≤ m.highest → x ≢ h → page_at (seen entry_written.now all space) x ≡ page_at (seen w.now all space) x
     written_page_kept x some up differ =
         page_at-kept (seen w.now all space) (seen entry_written.now all space) h page place leaves (means.table.leaf (leaf_index h) below).0.1
@@ -109,6 +118,7 @@ module _ (w : Work) (all : PageId → Option (List ℕ)) (space : Space) (m : No
         (entered_writes w all space h page place directories directories leaves means.table (λ some. some) placed below there) x some positive differ
         (entry_below x some up)
 
+    -- every other number up to the highest has its place as before
     pub written_place_kept : (x : ℕ) → 0 < x → x ≤ m.highest → x ≢ h → place_at (seen entry_written.now all space) x ≡ place_at (seen w.now all space) x
     written_place_kept x some up differ =
         place_at-kept (seen w.now all space) (seen entry_written.now all space) h page place leaves (means.table.leaf (leaf_index h) below).0.1

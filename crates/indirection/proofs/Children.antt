@@ -63,15 +63,18 @@ module _ (b : List ℕ) (d n : ℕ) (below : d < 511) (small : n ≤ LAST_PAGE) 
 
 module _ (all : PageId → Option (List ℕ)) (space : Space) (begun : ℕ → Option (List ℕ)) (old : ℕ) (w : Work) (roots directories leaves : ℕ)
     (s : Stands all space begun old w roots directories leaves) (kind : ℕ) (more : next_page (bytes (seen w.now all space) 0) < LAST_PAGE) where
+  -- where a next page number is left, a new page without a link to it is made as the table expects it
   pub mid_made : MakesPage (seen w.now all space) (seen (with_new kind w space).now all space) kind (next_in w space)
   mid_made = made w all space kind s.table.head s.there s.table.next more
 
   mid_keeps : Keeping (seen w.now all space) (seen (with_new kind w space).now all space) roots directories leaves
   mid_keeps = page_made (seen w.now all space) (seen (with_new kind w space).now all space) roots directories leaves s.table kind (next_in w space) mid_made
 
+  -- the root has the number that it had
   pub mid_root : root_number (seen (with_new kind w space).now all space) ≡ root_number (seen w.now all space)
   mid_root = mid_keeps.root
 
+  -- each directory page has the number that it had
   pub mid_directory : (d : ℕ) → d < directories → directory_number (seen (with_new kind w space).now all space) d ≡ directory_number (seen w.now all space) d
   mid_directory = directory_stays (seen w.now all space)
       (seen (with_new kind w space).now all space) roots directories leaves s.table mid_keeps s.rooted s.placed
@@ -94,6 +97,7 @@ module _ (all : PageId → Option (List ℕ)) (space : Space) (begun : ℕ → O
     placed = s.placed;
   }
 
+  -- the new page is none of the head, the root, the directory pages and the leaves
   pub mid_beside : IsBeside (seen (with_new kind w space).now all space) roots directories leaves (next_in w space)
   mid_beside =
       let before = new_beside (seen w.now all space) (seen (with_new kind w space).now all space) roots directories leaves s.table kind
@@ -106,9 +110,11 @@ module _ (all : PageId → Option (List ℕ)) (space : Space) (begun : ℕ → O
             (seen (with_new kind w space).now all space) roots directories leaves s.table mid_keeps s.rooted s.placed l below);
       }
 
+  -- the new page's number is below the head's next page number
   pub mid_numbered : IsNumbered (seen (with_new kind w space).now all space) (next_in w space)
   mid_numbered = let number = mid_made.number in let next = mid_made.next in omega (arith, number, next)
 
+  -- the new page's number is at most the last page number
   pub mid_small : next_in w space ≤ LAST_PAGE
   mid_small = let number = mid_made.number in omega (arith, number, more)
 
@@ -122,6 +128,7 @@ module _ (all : PageId → Option (List ℕ)) (space : Space) (begun : ℕ → O
       ∙ ap (λ (b : List ℕ). with_field 8 b 18 (next_in w space))
       (sym (seen-first (with_new DIRECTORY_KIND w space).now all space 0 (there_with_new DIRECTORY_KIND w space (page_in space 0) s.there)))
 
+  -- the root is the new page
   pub rooted_number : root_number (seen (with_child DIRECTORY_KIND w space 0 18).now all space) ≡ next_in w space
   unfolding root_number
   rooted_number =
@@ -130,6 +137,7 @@ module _ (all : PageId → Option (List ℕ)) (space : Space) (begun : ℕ → O
       ap root root_bytes ∙ field-written 8 18 (next_in w space) (bytes (seen (with_new DIRECTORY_KIND w space).now all space) 0) (omega (arith, small))
       (omega (arith, long))
 
+  -- the table stands with one root, and no directory page and no leaf as before
   pub rooted_stands : Stands all space begun 0 (with_child DIRECTORY_KIND w space 0 18) 1 0 0
   unfolding root_number
   rooted_stands =
@@ -162,6 +170,7 @@ module _ (all : PageId → Option (List ℕ)) (space : Space) (begun : ℕ → O
       (omega (arith, long))
       ∙ (mid_made all space begun 0 w 0 0 0 s DIRECTORY_KIND more).next
 
+  -- the new root is there
   pub rooted_there : IsTrue (is_there (with_child DIRECTORY_KIND w space 0 18).now (page_in space (next_in w space)))
   rooted_there = there_with_page (with_new DIRECTORY_KIND w space) (page_in space 0) (page_in space (next_in w space)) _
       (written_there (with_fresh w space) (page_in space (next_in w space)) _)
@@ -170,6 +179,7 @@ module _ (all : PageId → Option (List ℕ)) (space : Space) (begun : ℕ → O
 module _ (all : PageId → Option (List ℕ)) (space : Space) (begun : ℕ → Option (List ℕ)) (old : ℕ) (w : Work) (directories leaves : ℕ)
     (s : Stands all space begun old w 1 directories leaves) (more : next_page (bytes (seen w.now all space) 0) < LAST_PAGE) (below : directories < 511)
     (root_there : IsTrue (is_there w.now (page_in space (root_number (seen w.now all space))))) where
+  -- the workspace with a new directory page, to which the root's next link leads
   abbrev pub directed : Work
   directed = with_child DIRECTORY_KIND w space (root_number (seen w.now all space)) (link_at directories)
 
@@ -205,6 +215,7 @@ module _ (all : PageId → Option (List ℕ)) (space : Space) (begun : ℕ → O
             ∙ ap (λ q. link d (bytes (seen v.now all space) q)) (sym is_root);
       }
 
+  -- the new page comes after the directory pages that there were
   pub directed_number : directory_number (seen directed.now all space) directories ≡ next_in w space
   directed_number =
       let v = with_new DIRECTORY_KIND w space in let mid = mid_stands all space begun old w 1 directories leaves s DIRECTORY_KIND more in
@@ -213,6 +224,7 @@ module _ (all : PageId → Option (List ℕ)) (space : Space) (begun : ℕ → O
       (mid_numbered all space begun old w 1 directories leaves s DIRECTORY_KIND more)
       (mid_made all space begun old w 1 directories leaves s DIRECTORY_KIND more).page links
 
+  -- the table stands with one directory page more and the same leaves
   pub directed_stands : Stands all space begun old directed 1 (directories + 1) leaves
   directed_stands =
       let v = with_new DIRECTORY_KIND w space in let mid = mid_stands all space begun old w 1 directories leaves s DIRECTORY_KIND more in let n =
@@ -233,6 +245,7 @@ module _ (all : PageId → Option (List ℕ)) (space : Space) (begun : ℕ → O
         placed = λ l less. let inside = s.placed l less in omega (arith, inside);
       }
 
+  -- the head's next page number is one more
   pub directed_next : next_page (bytes (seen directed.now all space) 0) ≡ next_page (bytes (seen w.now all space) 0) + 1
   directed_next =
       let v = with_new DIRECTORY_KIND w space in let mid = mid_stands all space begun old w 1 directories leaves s DIRECTORY_KIND more in
@@ -242,6 +255,7 @@ module _ (all : PageId → Option (List ℕ)) (space : Space) (begun : ℕ → O
       (mid_made all space begun old w 1 directories leaves s DIRECTORY_KIND more).page links)
       ∙ (mid_made all space begun old w 1 directories leaves s DIRECTORY_KIND more).next
 
+  -- the root is the page that it was
   pub directed_root : root_number (seen directed.now all space) ≡ root_number (seen w.now all space)
   directed_root =
       let v = with_new DIRECTORY_KIND w space in let mid = mid_stands all space begun old w 1 directories leaves s DIRECTORY_KIND more in
@@ -251,6 +265,7 @@ module _ (all : PageId → Option (List ℕ)) (space : Space) (begun : ℕ → O
       (mid_made all space begun old w 1 directories leaves s DIRECTORY_KIND more).page links
       ∙ mid_root all space begun old w 1 directories leaves s DIRECTORY_KIND more
 
+  -- the new directory page is there
   pub directed_there : IsTrue (is_there directed.now (page_in space (next_in w space)))
   directed_there = there_with_page (with_new DIRECTORY_KIND w space) (page_in space (root_number (seen w.now all space))) (page_in space (next_in w space)) _
       (written_there (with_fresh w space) (page_in space (next_in w space)) _)
@@ -260,6 +275,7 @@ module _ (all : PageId → Option (List ℕ)) (space : Space) (begun : ℕ → O
     (s : Stands all space begun old w 1 directories leaves) (more : next_page (bytes (seen w.now all space) 0) < LAST_PAGE) (room : (l : ℕ) → l < leaves + 1
     → l / 511 < directories)
     (above_there : IsTrue (is_there w.now (page_in space (directory_number (seen w.now all space) (leaves / 511))))) where
+  -- the workspace with a new leaf, to which the next link of its directory page leads
   abbrev pub leafed : Work
   leafed = with_child LEAF_KIND w space (directory_number (seen w.now all space) (leaves / 511)) (link_at (leaves % 511))
 
@@ -295,6 +311,7 @@ module _ (all : PageId → Option (List ℕ)) (space : Space) (begun : ℕ → O
             ∙ link_apart b (leaves % 511) n (omega arith) small page.1 i differ ∙ ap (λ q. link i (bytes (seen v.now all space) q)) (sym is_above);
       }
 
+  -- the new page comes after the leaves that there were
   pub leafed_number : leaf_number (seen leafed.now all space) leaves ≡ next_in w space
   leafed_number =
       let v = with_new LEAF_KIND w space in let mid = mid_stands all space begun old w 1 directories leaves s LEAF_KIND more in
@@ -302,6 +319,7 @@ module _ (all : PageId → Option (List ℕ)) (space : Space) (begun : ℕ → O
       (mid_beside all space begun old w 1 directories leaves s LEAF_KIND more) (mid_numbered all space begun old w 1 directories leaves s LEAF_KIND more)
       (mid_made all space begun old w 1 directories leaves s LEAF_KIND more).page leaf_links
 
+  -- the table stands with one leaf more and the same directory pages
   pub leafed_stands : Stands all space begun old leafed 1 directories (leaves + 1)
   leafed_stands =
       let v = with_new LEAF_KIND w space in let mid = mid_stands all space begun old w 1 directories leaves s LEAF_KIND more in let n = next_in w space in
@@ -321,6 +339,7 @@ module _ (all : PageId → Option (List ℕ)) (space : Space) (begun : ℕ → O
         placed = room;
       }
 
+  -- the new leaf is there
   pub leafed_there : IsTrue (is_there leafed.now (page_in space (next_in w space)))
   leafed_there = there_with_page (with_new LEAF_KIND w space) (page_in space (directory_number (seen w.now all space) (leaves / 511)))
       (page_in space (next_in w space)) _ (written_there (with_fresh w space) (page_in space (next_in w space)) _)

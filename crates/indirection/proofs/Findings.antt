@@ -28,6 +28,7 @@ module _ (k : Known) (all : PageId → Option (List ℕ)) (space : Space) where
   abbrev pages : ℕ → Option (List ℕ)
   pages = seen k all space
 
+  -- a head in its form is given with its bytes, and is there, or it is needed
   pub head-is : IsPage (seen k all space) 2 0 → 0 < next_page (bytes (seen k all space) 0) → highest (bytes (seen k all space) 0) ≤ MOST_NUMBERS
       → Gives k all space (numbers_head k space) (bytes (seen k all space) 0) (IsTrue (is_there k (page_in space 0)))
   head-is page next most =
@@ -43,6 +44,7 @@ module _ (k : Known) (all : PageId → Option (List ℕ)) (space : Space) where
       few : (b : List ℕ) → highest b ≤ MOST_NUMBERS → nat_le (highest b) MOST_NUMBERS ≡ true
       few b most = grind (arith, nat_tests)
 
+  -- a page of a kind past 0, other than the head, is given with its bytes, and is there, or it is needed
   pub linked-is : (kind from n : ℕ) → 0 < kind → n ≢ 0 → IsPage (seen k all space) kind n
       → Gives k all space (linked k space kind from n) (bytes (seen k all space) n) (IsTrue (is_there k (page_in space n)))
   linked-is kind from n positive past page =
@@ -64,6 +66,7 @@ module _ (k : Known) (all : PageId → Option (List ℕ)) (space : Space) where
         highest (bytes (seen k all space) 0);
   }
 
+  -- by a head in its form the root, the first free and the highest number are given, or the head is needed
   pub numbers-is : IsPage (seen k all space) 2 0 → 0 < next_page (bytes (seen k all space) 0) → highest (bytes (seen k all space) 0) ≤ MOST_NUMBERS
       → Gives k all space (numbers_in k space)
       (record {
@@ -89,21 +92,25 @@ module _ (k : Known) (all : PageId → Option (List ℕ)) (space : Space) where
     leaf_past l below = kinds_apart (seen k all space) LEAF_KIND 2 (leaf_number (seen k all space) l) 0 (λ is. absurd (omega (arith, is)))
         (t.leaf l below).0 t.head
 
+    -- the table's root is given with its bytes, and is there, or it is needed
     pub root-is : Gives k all space (linked k space DIRECTORY_KIND 0 (root_number (seen k all space)))
         (bytes (seen k all space) (root_number (seen k all space))) (IsTrue (is_there k (page_in space (root_number (seen k all space)))))
     root-is = linked-is DIRECTORY_KIND 0 (root_number (seen k all space)) (omega arith) root_past (t.root rooted).0
 
+    -- each directory page of the table is given with its bytes, and is there, or it is needed
     pub directory-is : (from d : ℕ) → d < directories
         → Gives k all space (linked k space DIRECTORY_KIND from (directory_number (seen k all space) d))
         (bytes (seen k all space) (directory_number (seen k all space) d)) (IsTrue (is_there k (page_in space (directory_number (seen k all space) d))))
     directory-is from d below =
         linked-is DIRECTORY_KIND from (directory_number (seen k all space) d) (omega arith) (directory_past d below) (t.directory d below).0
 
+    -- each leaf of the table is given with its bytes, and is there, or it is needed
     pub leaf-is : (from l : ℕ) → l < leaves
         → Gives k all space (linked k space LEAF_KIND from (leaf_number (seen k all space) l)) (bytes (seen k all space) (leaf_number (seen k all space) l))
         (IsTrue (is_there k (page_in space (leaf_number (seen k all space) l))))
     leaf-is from l below = linked-is LEAF_KIND from (leaf_number (seen k all space) l) (omega arith) (leaf_past l below) (t.leaf l below).0
 
+    -- the root gives the number of the leaf's directory page, if the table has that one, or the root is needed
     pub directory_in-is : (leaf : ℕ) → leaf / 511 < directories
         → Gives k all space (directory_in k space (root_number (seen k all space)) leaf) (directory_number (seen k all space) (leaf / 511)) (Unit {0})
     unfolding directory_number
@@ -111,6 +118,7 @@ module _ (k : Known) (all : PageId → Option (List ℕ)) (space : Space) where
         gives_then k all space (linked k space DIRECTORY_KIND 0 (root_number (seen k all space))) (λ b. Ok (link (leaf / 511) b))
         (bytes (seen k all space) (root_number (seen k all space))) _ root-is (λ there. inl (refl, tt))
 
+    -- the directory page gives the leaf's number, if the table has that directory page, or it is needed
     pub leaf_in-is : (leaf : ℕ) → leaf / 511 < directories
         → Gives k all space (leaf_in k space (root_number (seen k all space)) (directory_number (seen k all space) (leaf / 511)) leaf)
         (leaf_number (seen k all space) leaf) (Unit {0})
@@ -120,6 +128,7 @@ module _ (k : Known) (all : PageId → Option (List ℕ)) (space : Space) where
         (λ b. Ok (link (leaf % 511) b)) (bytes (seen k all space) (directory_number (seen k all space) (leaf / 511))) _
         (directory-is (root_number (seen k all space)) (leaf / 511) below) (λ there. inl (refl, tt))
 
+    -- what an entry says: with page 0 it is free and has the next free number, and else it has an address
     pub entry_seen : ℕ → ℕ → Entry
     entry_seen page place = if page == 0 then Free place else Taken (record { layer = page / 256; page = page % 256; at = place })
 
@@ -135,6 +144,8 @@ module _ (k : Known) (all : PageId → Option (List ℕ)) (space : Space) where
         at false false z_is s_is = let past = ltb-false place 65536 s_is in
             absurd (⊎_elim (λ zero_is. true≢false (sym (eq-eqb page 0 zero_is) ∙ z_is)) (λ small. absurd (omega (arith, past, small))) sound)
 
+    -- a number's leaf, which is then there, and its entry are given, or a page on the way is needed,
+    -- if the table has the leaf and the entry is free or has a place below 65,536
     pub found-is : (h : ℕ) → leaf_index h < leaves → leaf_index h / 511 < directories
         → (page_at (seen k all space) h ≡ 0) ⊎ (place_at (seen k all space) h < 65536)
         → Gives k all space (found_in k space (root_number (seen k all space)) h)
@@ -173,6 +184,7 @@ entry_address (Some a) listed page place is = at (page == 0) refl
 entry_address None listed page place is =
     ap (λ b. address_of (if b then Free place else Taken (record { layer = page / 256; page = page % 256; at = place }))) (eq-eqb page 0 is.0)
 
+-- an entry that means something is free or has a place below 65,536
 pub entry_sound : (o : Option Addr) (listed : Bool) (page place : ℕ) → EntryMeans o listed page place → (page ≡ 0) ⊎ (place < 65536)
 entry_sound (Some a) listed page place is = inr is.2
 entry_sound None listed page place is = inl is.0
@@ -192,11 +204,14 @@ out_or_in h top {P = P} out inside = at (h == 0) (nat_lt top h) refl refl
         inside (positive h (λ none. true≢false (sym (eq-eqb h 0 none) ∙ zero_is))) (ltb-false top h less) (λ i. zero_is i || less i)
 
 module _ (k : Known) (all : PageId → Option (List ℕ)) (space : Space) (m : NodeNumbers) (means : MeansNumbers (seen k all space) m) where
+  -- where the pages mean numbers, the head's three numbers are given, or the head is needed
   pub means_numbers-is : Gives k all space (numbers_in k space)
       (record { root = root_number (seen k all space); first_free = first_free (bytes (seen k all space) 0); highest = highest (bytes (seen k all space) 0) })
       (IsTrue (is_there k (page_in space 0)))
   means_numbers-is = let top = means.highest in let most = means.most in numbers-is k all space means.table.head means.table.next (omega (arith, top, most))
 
+  -- where the pages mean numbers, the leaf and the entry of each up to the highest are given,
+  -- or a page on the way is needed
   pub means_found-is : (h : ℕ) → 0 < h → h ≤ m.highest
       → Gives k all space (found_in k space (root_number (seen k all space)) h)
       (record {

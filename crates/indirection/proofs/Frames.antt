@@ -103,6 +103,7 @@ module _ (c : Call) (spares : SparesNumbers c) where
       (let low : numbers.highest < h → ⊥ = λ past. true≢false (sym listed ∙ (m.outside h (inr past)).1) in omega (arith, low)),
     )
 
+    -- after the call the pages mean the numbers that they meant before it
     pub numbers_stay : MeansNumbers (behind c) numbers
     numbers_stay = record {
       table = IsTable-kept (before c) (behind c) directories directories leaves m.table kept (λ some. some) placed;

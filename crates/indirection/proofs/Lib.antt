@@ -1,3 +1,4 @@
+-- Lemmas of node numbers: what a written page leaves of the table, and what each call does to the meaning.
 pub mod NewKinds
 pub mod Answering
 pub mod Steps

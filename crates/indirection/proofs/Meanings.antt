@@ -18,6 +18,7 @@ Pages = ℕ → Option (List ℕ)
 pub get-with : (m : map.FinMap nat_cmp Addr) (h : ℕ) (to : Addr) (x : ℕ) → map.get (map.insert m h to) x ≡ cond (x == h) (Some to) (map.get m x)
 get-with m h to x = map.get-insert nat_cmp_total m h to x ∙ ap (λ e. cond e (Some to) (map.get m x)) (unsigned_tied x h)
 
+-- a number that was taken out has no address, and every other has what it had
 pub get-without : (m : map.FinMap nat_cmp Addr) (h x : ℕ) → map.get (map.remove m h) x ≡ cond (x == h) None (map.get m x)
 get-without m h x = map.get-remove nat_cmp_total m h x ∙ ap (λ e. cond e None (map.get m x)) (unsigned_tied x h)
 
@@ -31,12 +32,14 @@ module _ (pages new : Pages) (h page place leaves : ℕ) (long : length (bytes p
     (stays : (l : ℕ) → l < leaves → leaf_number new l ≡ leaf_number pages l) (apart : (l m : ℕ) → l < leaves → m < leaves
     → leaf_number pages l ≡ leaf_number pages m → l ≡ m)
     (below : leaf_index h < leaves) (w : WritesEntry pages new h page place) where
+  -- the number's page is the one written, if that has eight bytes
   pub page_at-written : page < 256 ^ 8 → page_at new h ≡ page
   unfolding page_at
   page_at-written small =
       ap (λ n. entry_page (entry_index h) (bytes new n)) (stays (leaf_index h) below) ∙ ap (entry_page (entry_index h)) w.leaf
       ∙ entry_page-written (entry_index h) page place (bytes pages (leaf_number pages (leaf_index h))) (omega arith) long small
 
+  -- the number's place is the one written, if that has four bytes
   pub place_at-written : place < 256 ^ 4 → place_at new h ≡ place
   unfolding place_at
   place_at-written small =
@@ -63,10 +66,12 @@ module _ (pages new : Pages) (h page place leaves : ℕ) (long : length (bytes p
           let other : leaf_index x ≢ leaf_index h = λ one. true≢false (sym (eq-eqb (leaf_index x) (leaf_index h) one) ∙ is) in
           ap (read (entry_index x)) (w.others (leaf_index x) other (λ one. other (apart (leaf_index x) (leaf_index h) inside below one)))
 
+  -- another number's page is as it was, where both numbers are past 0 and its leaf is of the table
   pub page_at-kept : (x : ℕ) → 0 < x → 0 < h → x ≢ h → leaf_index x < leaves → page_at new x ≡ page_at pages x
   unfolding page_at
   page_at-kept = same_field entry_page (entry_page-apart (entry_index h) page place (bytes pages (leaf_number pages (leaf_index h))) (omega arith) long)
 
+  -- another number's place is as it was, where both numbers are past 0 and its leaf is of the table
   pub place_at-kept : (x : ℕ) → 0 < x → 0 < h → x ≢ h → leaf_index x < leaves → place_at new x ≡ place_at pages x
   unfolding place_at
   place_at-kept = same_field entry_place (entry_place-apart (entry_index h) page place (bytes pages (leaf_number pages (leaf_index h))) (omega arith) long)
@@ -99,6 +104,8 @@ pub record Differs (pages new : Pages) (before after : NodeNumbers) (h : ℕ) : 
   pub raised : (x : ℕ) → x ≢ h → x ≤ after.highest → x ≤ before.highest
   pub kept : before.highest ≤ after.highest
 
+-- where the pages meant numbers, and differ at one number alone as the numbers do, they mean the numbers after,
+-- if the table, the highest number and the free list after are these numbers' too
 pub means_after : (pages new : Pages) (before after : NodeNumbers) (h : ℕ) → MeansNumbers pages before → Differs pages new before after h
     → IsTable new (directory_count (leaf_count after.highest)) (directory_count (leaf_count after.highest)) (leaf_count after.highest)
     → highest (bytes new 0) ≡ after.highest → after.highest ≤ MOST_NUMBERS → IsFreeList new (first_free (bytes new 0)) after.free → MeansNumbers new after

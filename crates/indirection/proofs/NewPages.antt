@@ -16,6 +16,7 @@ use Rattle.page_bytes.proofs.WrittenFields.{length-with_field, field_apart, kind
 use Rattle.page_bytes.proofs.SeenPages.{seen-written, seen-beside, seen-first}
 use Rattle.indirection.proofs.Steps.{MakesPage}
 
+-- a page of zeros with a kind written first has that kind and 4,096 bytes
 pub kind_written : (kind : ℕ) → (slice_index (with_bytes zeros 0 (kind ∷ [])) 0 ≡ kind) × (length (with_bytes zeros 0 (kind ∷ [])) ≡ 4096)
 kind_written kind = (
   sym (slice_index-bytes_at (with_bytes zeros 0 (kind ∷ [])) 0) ∙ ap (λ l. slice_index l 0) (bytes_at-written zeros 0 (kind ∷ []) (omega arith)),
@@ -41,6 +42,7 @@ module _ (w : Work) (all : PageId → Option (List ℕ)) (space : Space) (kind :
   head_before : bytes (seen first.now all space) 0 ≡ bytes (seen w.now all space) 0
   head_before = seen-beside w all space (next_in w space) 0 zeros (λ is. next_past (sym is))
 
+  -- the head is as it was but for its next page number, which is one more
   pub made_head : bytes (seen (with_new kind w space).now all space) 0
       ≡ with_field 8 (bytes (seen w.now all space) 0) 2 (next_page (bytes (seen w.now all space) 0) + 1)
   made_head =
@@ -48,6 +50,7 @@ module _ (w : Work) (all : PageId → Option (List ℕ)) (space : Space) (kind :
       ∙ seen-written first all space 0 (with_next_page (first_bytes w.now (head_of space)) (next_in w space + 1))
       ∙ ap (λ (b : List ℕ). with_field 8 b 2 (next_page b + 1)) (sym (seen-first w.now all space 0 there))
 
+  -- a page of this kind is made: it has the head's next page number, and all beside it and the head is as it was
   pub made : MakesPage (seen w.now all space) (seen (with_new kind w space).now all space) kind (next_in w space)
   made =
       let long = head.1 in let b = bytes (seen w.now all space) 0 in record {

@@ -132,10 +132,12 @@ entered_own w v space leaf i page place (Err e) is head own fits = tt
 module _ (w v u : Work) (space : Space) (leaf i page place to x : ℕ) (entry : v ≡ with_entry_in w space leaf i page place) (head : IsWholeHead w.now space)
     (own : IsNumberPage w.now space leaf) (fits : i < 340)
     (field : (to ≡ 34) ⊎ (to ≡ 38)) where
+  -- with the entry written, and then this field of the head, it has kept to node numbers' own
   pub given_kept : u ≡ with_number 4 v space 0 to x → HasKept 0 w u space
   given_kept same = let one = entry_kept w v space leaf i page place entry head own fits in
       kept_twice number_pages w v u space 0 0 one (field_kept v u space to x field same one.head)
 
+  -- and so where the call that writes the field answers a value
   pub given_own : (r : Result (Unit {0}) PageEnd) → Answers (Ok (tt, with_number 4 v space 0 to x)) r u
       → OnOk r ((all : PageId → Option (List ℕ)) → KeepsToOwn number_pages 0 w u all space)
   given_own (Ok done) is = (given_kept is.1).kept

@@ -32,6 +32,7 @@ abbrev pub Reaches : {X : Type 0} → Known → (PageId → Option (List ℕ)) �
 Reaches {X} k all space most r Q =
     ((x : X) × (r ≡ Ok x) × Q x) ⊎ (Needs k all space r ⊎ ((r ≡ Err (Spent LAST_PAGE)) × (LAST_PAGE < next_of (seen k all space) + most)))
 
+-- where a first step reaches what Q says, and from each such value a second reaches what R says, both do in turn
 pub reaches_then : {X Y : Type 0} (k : Known) (all : PageId → Option (List ℕ)) (space : Space) (most : ℕ) (r : Result X PageEnd) (f : X → Result Y PageEnd)
     (Q : X → Type 0) (R : Y → Type 0)
     → Reaches k all space most r Q → ((x : X) → Q x → Reaches k all space most (f x) R) → Reaches k all space most (and_then r f) R
@@ -39,6 +40,7 @@ reaches_then k all space most r f Q R (inl given) more = subst (λ r. Reaches k 
 reaches_then k all space most r f Q R (inr (inl need)) more = inr (inl (need.0, (ap (λ r. and_then r f) need.1.0, need.1.1)))
 reaches_then k all space most r f Q R (inr (inr is)) more = inr (inr (ap (λ r. and_then r f) is.0, is.1))
 
+-- where a first step gives its value or needs a page, and with that value a second reaches what R says, so do both
 pub gives_reaches : {X Y : Type 0} {P : Type 0} (k : Known) (all : PageId → Option (List ℕ)) (space : Space) (most : ℕ) (r : Result X PageEnd) (f : X
     → Result Y PageEnd) (x : X) (R : Y → Type 0)
     → Gives k all space r x P → (P → Reaches k all space most (f x) R) → Reaches k all space most (and_then r f) R
@@ -65,6 +67,7 @@ unknown_page w id b q is =
     never_there (eq_by_cmp page_cmp q id) b (map.get w.now.pages q) out
     (sym (ap (λ o. not (is_some o) && out) (map.get-insert page_cmp-total w.now.pages id b q)) ∙ is)
 
+-- what is unknown once a child page is made was unknown before
 pub unknown_before : (kind : ℕ) (w : Work) (space : Space) (parent at : ℕ) (q : PageId) → IsTrue (is_unknown (with_child kind w space parent at).now q)
     → IsTrue (is_unknown w.now q)
 unknown_before kind w space parent at q is =
@@ -96,6 +99,7 @@ head_allows id (Some b) out is kind positive most = at (is_head b) (next_page b 
     at true false h_is l_is = inl (refl, less (next_page b) most l_is)
 
 module _ (all : PageId → Option (List ℕ)) (space : Space) (begun : ℕ → Option (List ℕ)) (old : ℕ) where
+  -- a child page is made as said, and the head had a next number left, or a page is needed or numbers are spent
   pub child-is : (w : Work) (roots directories leaves : ℕ) → Stands all space begun old w roots directories leaves → (kind parent at : ℕ)
       → Reaches w.now all space 1 (child_in w space kind parent at)
       (λ p. (p ≡ (next_in w space, with_child kind w space parent at)) × (next_page (bytes (seen w.now all space) 0) < LAST_PAGE))
@@ -278,6 +282,8 @@ module _ (all : PageId → Option (List ℕ)) (space : Space) (begun : ℕ → O
             ),
           )
 
+  -- a leaf is made, with all above it, or a page is needed or numbers are spent for three pages,
+  -- where the table stands with as many leaves, which are fewer than 511 times 511
   pub grown-is : (w : Work) (leaf : ℕ) → Stands all space begun old w (directory_count leaf) (directory_count leaf) leaf → leaf < 261121
       → Reaches w.now all space 3 (grown_in w space (root_number (seen w.now all space)) leaf) (HasLeaf leaf)
   grown-is w leaf s few =

@@ -25,12 +25,14 @@ pub record Keeping (pages new : Pages) (roots directories leaves : ℕ) : Type 0
 
 module _ (pages new : Pages) (roots directories leaves : ℕ) (t : IsTable pages roots directories leaves) (k : Keeping pages new roots directories leaves)
     (rooted : 0 < directories → 0 < roots) (placed : (l : ℕ) → l < leaves → l / 511 < directories) where
+  -- each directory page has the number that it had
   pub directory_stays : (d : ℕ) → d < directories → directory_number new d ≡ directory_number pages d
   unfolding directory_number
   directory_stays d below =
       let some : 0 < directories = omega arith in
       ap (λ n. link d (bytes new n)) k.root ∙ ap (link d) (k.root_bytes (rooted some))
 
+  -- each leaf has the number that it had
   pub leaf_stays : (l : ℕ) → l < leaves → leaf_number new l ≡ leaf_number pages l
   unfolding leaf_number
   leaf_stays l below =
@@ -42,6 +44,7 @@ module _ (pages new : Pages) (roots directories leaves : ℕ) (t : IsTable pages
   of_kind : (kind n m : ℕ) → m ≡ n → bytes new n ≡ bytes pages n → IsPage pages kind n → IsPage new kind m
   of_kind kind n m is same h = subst (IsPage new kind) (sym is) (subst (λ (b : List ℕ). (slice_index b 0 ≡ kind) × (length b ≡ 4096)) (sym same) h)
 
+  -- the pages after the change are a table with as many directory pages and leaves
   pub IsTable-kept : IsTable new roots directories leaves
   IsTable-kept = record {
     head = k.head;
@@ -130,6 +133,7 @@ pub record MakesPage (pages new : Pages) (kind n : ℕ) : Type 0 where
   pub page : IsPage new kind n
 
 module _ (pages new : Pages) (roots directories leaves : ℕ) (t : IsTable pages roots directories leaves) where
+  -- a page that is made is none of the table's
   pub new_beside : (kind n : ℕ) → MakesPage pages new kind n → IsBeside pages roots directories leaves n
   new_beside kind n made =
       let number = made.number in let positive = t.next in record {
@@ -145,6 +149,7 @@ module _ (pages new : Pages) (roots directories leaves : ℕ) (t : IsTable pages
       made.others (leaf_number pages l) (kinds_apart pages LEAF_KIND 2 (leaf_number pages l) 0 (λ is. absurd (omega (arith, is))) (t.leaf l below).0 t.head)
       (λ is. (new_beside kind n made).leaf l below (sym is))
 
+  -- a page that is made leaves the head, the root, the directory pages and the leaves as the table needs them
   pub page_made : (kind n : ℕ) → MakesPage pages new kind n → Keeping pages new roots directories leaves
   unfolding root_number
   page_made kind n made =
@@ -202,9 +207,11 @@ pub record LinksDirectory (pages new : Pages) (directories n : ℕ) : Type 0 whe
 module _ (pages new : Pages) (directories leaves n : ℕ) (t : IsTable pages 1 directories leaves) (placed : (l : ℕ) → l < leaves → l / 511 < directories)
     (apart : IsBeside pages 1 directories leaves n) (numbered : IsNumbered pages n) (page : IsPage pages DIRECTORY_KIND n)
     (linked : LinksDirectory pages new directories n) where
+  -- the head is as it was
   pub head_same : bytes new 0 ≡ bytes pages 0
   head_same = linked.others 0 (kinds_apart pages 2 DIRECTORY_KIND 0 (root_number pages) (λ is. absurd (omega (arith, is))) t.head (t.root (omega arith)).0)
 
+  -- the root is the page that it was
   pub root_same : root_number new ≡ root_number pages
   unfolding root_number
   root_same = ap root head_same
@@ -213,6 +220,7 @@ module _ (pages new : Pages) (directories leaves n : ℕ) (t : IsTable pages 1 d
   unfolding directory_number
   old_directory d below = ap (λ r. link d (bytes new r)) root_same ∙ linked.old_links d below
 
+  -- the new page comes after the directory pages that there were
   pub new_directory : directory_number new directories ≡ n
   unfolding directory_number
   new_directory = ap (λ r. link directories (bytes new r)) root_same ∙ linked.new_link
@@ -220,11 +228,13 @@ module _ (pages new : Pages) (directories leaves n : ℕ) (t : IsTable pages 1 d
   directory_bytes_same : (d : ℕ) → d < directories → bytes new (directory_number pages d) ≡ bytes pages (directory_number pages d)
   directory_bytes_same d below = linked.others (directory_number pages d) (t.root_apart d below)
 
+  -- each leaf has the number that it had
   pub old_leaf : (l : ℕ) → l < leaves → leaf_number new l ≡ leaf_number pages l
   unfolding leaf_number
   old_leaf l below =
       ap (λ d. link (l % 511) (bytes new d)) (old_directory (l / 511) (placed l below)) ∙ ap (link (l % 511)) (directory_bytes_same (l / 511) (placed l below))
 
+  -- each leaf has the bytes that it had
   pub leaf_bytes_same : (l : ℕ) → l < leaves → bytes new (leaf_number new l) ≡ bytes pages (leaf_number pages l)
   leaf_bytes_same l below = ap (bytes new) (old_leaf l below)
       ∙ linked.others (leaf_number pages l)
@@ -239,6 +249,7 @@ module _ (pages new : Pages) (directories leaves n : ℕ) (t : IsTable pages 1 d
             (sym head_same) h.1,
       )
 
+  -- the pages are a table with one directory page more
   pub directory_linked : IsTable new 1 (directories + 1) leaves
   directory_linked = record {
     head = subst (λ (b : List ℕ). (slice_index b 0 ≡ 2) × (length b ≡ 4096)) (sym head_same) t.head;
@@ -281,10 +292,12 @@ module _ (pages new : Pages) (directories leaves n : ℕ) (t : IsTable pages 1 d
   above_is : IsPage pages DIRECTORY_KIND (directory_number pages (leaves / 511)) × IsNumbered pages (directory_number pages (leaves / 511))
   above_is = t.directory (leaves / 511) (placed leaves (omega arith))
 
+  -- the head is as it was
   pub head_as_before : bytes new 0 ≡ bytes pages 0
   head_as_before = linked.others 0
       (kinds_apart pages 2 DIRECTORY_KIND 0 (directory_number pages (leaves / 511)) (λ is. absurd (omega (arith, is))) t.head above_is.0)
 
+  -- the root is the page that it was
   pub root_as_before : root_number new ≡ root_number pages
   unfolding root_number
   root_as_before = ap root head_as_before
@@ -296,6 +309,7 @@ module _ (pages new : Pages) (directories leaves n : ℕ) (t : IsTable pages 1 d
   unfolding directory_number
   same_directory d = ap (λ r. link d (bytes new r)) root_as_before ∙ ap (link d) root_bytes_as_before
 
+  -- the new page comes after the leaves that there were
   pub new_leaf : leaf_number new leaves ≡ n
   unfolding leaf_number
   new_leaf = ap (λ d. link (leaves % 511) (bytes new d)) (same_directory (leaves / 511)) ∙ linked.new_link
@@ -340,9 +354,11 @@ module _ (pages new : Pages) (directories leaves n : ℕ) (t : IsTable pages 1 d
   leaf_differs l below = kinds_apart pages LEAF_KIND DIRECTORY_KIND (leaf_number pages l) (directory_number pages (leaves / 511))
       (λ is. absurd (omega (arith, is))) (t.leaf l below).0 above_is.0
 
+  -- each leaf that there was has the bytes that it had
   pub leaf_bytes_as_before : (l : ℕ) → l < leaves → bytes new (leaf_number new l) ≡ bytes pages (leaf_number pages l)
   leaf_bytes_as_before l below = ap (bytes new) (leaf_as_before l below) ∙ linked.others (leaf_number pages l) (leaf_differs l below)
 
+  -- the pages are a table with one leaf more
   pub leaf_linked : IsTable new 1 directories (leaves + 1)
   leaf_linked = record {
     head = subst (λ (b : List ℕ). (slice_index b 0 ≡ 2) × (length b ≡ 4096)) (sym head_as_before) t.head;

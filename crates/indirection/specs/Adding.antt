@@ -25,6 +25,7 @@ abbrev pub taken_leaf : Space → ℕ → Entry → Result ℕ PageEnd
 taken_leaf space leaf (Taken to) = Ok leaf
 taken_leaf space leaf (Free next) = Err (Damaged (head_of space))
 
+-- the leaf of a number from 1 to the highest that is a node's. Where it is none, the head is damaged
 abbrev pub taken_in : Known → Space → Numbers → ℕ → Result ℕ PageEnd
 taken_in k space numbers h =
     if h == 0 || nat_lt numbers.highest h then Err (Damaged (head_of space))

@@ -5,9 +5,11 @@
 use Rattle.std.specs.Prelude.{ℕ, ◌+◌, ◌-◌, ◌*◌, ◌/◌, ◌%◌, List}
 use Rattle.page_bytes.specs.Fields.{field, with_field}
 
+-- the first byte of every leaf
 abbrev pub LEAF_KIND : ℕ
 LEAF_KIND = 6
 
+-- the first byte of the root and of every directory page
 abbrev pub DIRECTORY_KIND : ℕ
 DIRECTORY_KIND = 7
 
@@ -19,15 +21,19 @@ MOST_NUMBERS = 88781140
 abbrev pub leaf_index : ℕ → ℕ
 leaf_index h = (h - 1) / 340
 
+-- the place of a number's entry among the 340 of its leaf
 abbrev pub entry_index : ℕ → ℕ
 entry_index h = (h - 1) % 340
 
+-- the page number of the root: eight bytes of the head, at 18
 abbrev pub root : List ℕ → ℕ
 root head = field 8 18 head
 
+-- the number that is given again first, or 0: four bytes of the head, at 34
 abbrev pub first_free : List ℕ → ℕ
 first_free head = field 4 34 head
 
+-- the highest number: four bytes of the head, at 38
 abbrev pub highest : List ℕ → ℕ
 highest head = field 4 38 head
 
@@ -35,6 +41,7 @@ highest head = field 4 38 head
 abbrev pub link_at : ℕ → ℕ
 link_at i = 8 + i * 8
 
+-- the page number in a link: eight bytes
 abbrev pub link : ℕ → List ℕ → ℕ
 link i page = field 8 (link_at i) page
 
@@ -42,9 +49,11 @@ link i page = field 8 (link_at i) page
 abbrev pub entry_at : ℕ → ℕ
 entry_at i = 16 + i * 12
 
+-- an entry's page, or 0 where its number is free: eight bytes
 abbrev pub entry_page : ℕ → List ℕ → ℕ
 entry_page i leaf = field 8 (entry_at i) leaf
 
+-- an entry's place in its page, or the next free number: four bytes
 abbrev pub entry_place : ℕ → List ℕ → ℕ
 entry_place i leaf = field 4 (entry_at i + 8) leaf
 

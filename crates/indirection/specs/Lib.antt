@@ -1,3 +1,4 @@
+-- Node numbers: the forms of their pages, what calls read and write of these, and what the pages mean.
 pub mod Forms
 pub mod Reading
 pub mod Finding

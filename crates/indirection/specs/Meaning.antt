@@ -22,9 +22,11 @@ IsPage pages kind n = (slice_index (bytes pages n) 0 ≡ kind) × (length (bytes
 unfoldable pub root_number : (ℕ → Option (List ℕ)) → ℕ
 root_number pages = root (bytes pages 0)
 
+-- the page that the root's d-th link leads to
 unfoldable pub directory_number : (ℕ → Option (List ℕ)) → ℕ → ℕ
 directory_number pages d = link d (bytes pages (root_number pages))
 
+-- the page that the leaf's link in its directory page leads to
 unfoldable pub leaf_number : (ℕ → Option (List ℕ)) → ℕ → ℕ
 leaf_number pages l = link (l % 511) (bytes pages (directory_number pages (l / 511)))
 
@@ -48,6 +50,7 @@ pub record IsTable (pages : ℕ → Option (List ℕ)) (roots directories leaves
 abbrev pub leaf_count : ℕ → ℕ
 leaf_count highest = (highest + 339) / 340
 
+-- one directory page for each 511 leaves begun
 abbrev pub directory_count : ℕ → ℕ
 directory_count leaves = (leaves + 510) / 511
 
@@ -55,6 +58,7 @@ directory_count leaves = (leaves + 510) / 511
 unfoldable pub page_at : (ℕ → Option (List ℕ)) → ℕ → ℕ
 page_at pages h = entry_page (entry_index h) (bytes pages (leaf_number pages (leaf_index h)))
 
+-- the place in a number's entry, or the next free number
 unfoldable pub place_at : (ℕ → Option (List ℕ)) → ℕ → ℕ
 place_at pages h = entry_place (entry_index h) (bytes pages (leaf_number pages (leaf_index h)))
 
@@ -106,10 +110,12 @@ abbrev pub highest_given : ℕ → List ℕ → ℕ
 highest_given highest [] = highest + 1
 highest_given highest (h ∷ hs) = highest
 
+-- the free numbers that are left: all but the first
 abbrev pub free_left : List ℕ → List ℕ
 free_left [] = []
 free_left (h ∷ hs) = hs
 
+-- the next number is a node's, with this address
 abbrev pub with_number_given : NodeNumbers → Addr → NodeNumbers
 with_number_given numbers to = record {
   taken = map.insert numbers.taken (next_number numbers.highest numbers.free) to;

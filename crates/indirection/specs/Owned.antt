@@ -8,6 +8,7 @@ use Rattle.indirection.specs.Forms.{LEAF_KIND, DIRECTORY_KIND}
 abbrev pub is_number_kind : ℕ → Bool
 is_number_kind kind = kind == LEAF_KIND || kind == DIRECTORY_KIND
 
+-- node numbers' kinds of pages, and its three fields of the head
 abbrev pub number_pages : Own
 number_pages = record {
   is_kind = is_number_kind;

@@ -1,3 +1,4 @@
+-- Lemmas of labels: digits and fractions, codes and their order, and keys beside others.
 pub mod ByteOrder
 pub mod DigitLemmas
 pub mod CodeOrder

@@ -4,10 +4,12 @@ use Rattle.order_labels.specs.KeyValue.{KeyValue, whole}
 use Rattle.order_labels.specs.LabelOrder.{IsKeyBelow}
 use Rattle.order_labels.specs.Neighbours.{LiesBetween}
 
+-- the first of the keys, if there is one
 abbrev pub first_key : List KeyValue → Option KeyValue
 first_key [] = None
 first_key (k ∷ ks) = Some k
 
+-- the last of the keys, if there is one
 abbrev pub last_key : List KeyValue → Option KeyValue
 last_key [] = None
 last_key (k ∷ []) = Some k

@@ -40,6 +40,7 @@ code k = integer_code k.integer ++ k.fraction
 abbrev pub byte_order : List ℕ → List ℕ → Ordering
 byte_order = slice_cmp nat_cmp
 
+-- the first is before the second in this order
 abbrev pub IsBelow : List ℕ → List ℕ → Type 0
 IsBelow a b = byte_order a b ≡ Less
 

@@ -1,3 +1,4 @@
+-- Labels: the values of keys, their codes, and the order of both.
 pub mod Sign
 pub mod Reading
 pub mod KeyValue

@@ -33,6 +33,7 @@ also-in set n = itself n (set n)
     itself : (n : ℕ) (b : Bool) → (n == n || b) ≡ true
     itself n b = grind (arith, nat_tests)
 
+-- all that were of the set before are of it still
 pub also-true : (set : ℕ → Bool) (n q : ℕ) → set q ≡ true → also set n q ≡ true
 also-true set n q is = either (q == n) (set q) is
   where

@@ -70,6 +70,7 @@ pub with_field-bytes : (n at x : ℕ) (page : List ℕ) → with_field n page at
 unfolding with_field
 with_field-bytes n at x page = refl
 
+-- a number written in n bytes has n bytes
 pub length-big_bytes : (n x : ℕ) → length (big_bytes n x) ≡ n
 length-big_bytes n x = length-bytes_high_first n x
 

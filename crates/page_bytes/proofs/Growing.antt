@@ -12,6 +12,7 @@ use Rattle.page_bytes.proofs.Orders.{page_cmp-total}
 abbrev pub Grows : Known → Known → Type 0
 Grows old new = (id : PageId) → IsTrue (is_unknown new id) → IsTrue (is_unknown old id)
 
+-- what is unknown after two steps, neither of which forgets anything, was unknown before both
 pub grows_twice : (a b c : Known) → Grows a b → Grows b c → Grows a c
 grows_twice a b c one two id is = one id (two id is)
 
@@ -20,6 +21,7 @@ written : (e : Bool) (page : Option (List ℕ)) (out : Bool) (x : List ℕ) → 
 written true page out x is = absurd (true≢false (sym is))
 written false page out x is = is
 
+-- a page that is written makes nothing unknown
 pub grows_with : (w : Work) (id : PageId) (b : List ℕ) → Grows w.now (with_page w id b).now
 grows_with w id b q is =
     let out = not (map.contains_key w.now.whole q.space || map.contains_key w.now.freed q) in
@@ -32,6 +34,7 @@ freed true page true lost is = absurd (true≢false (sym is))
 freed true page false lost is = absurd (true≢false (sym is))
 freed false page whole lost is = is
 
+-- a page that is freed makes nothing unknown, not even itself
 pub grows_without : (w : Work) (id : PageId) → Grows w.now (without_page w id).now
 grows_without w id q is =
     let whole = map.contains_key w.now.whole q.space in

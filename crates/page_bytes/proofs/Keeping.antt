@@ -130,12 +130,14 @@ module _ (own : Own) where
     abbrev raised : List ℕ
     raised = with_next_page (first_bytes w.now (head_of space)) (next_in w space + 1)
 
+    -- the workspace with the new page, which has these bytes, and the head's next number raised by one
     abbrev pub made : Work
     made = with_page (with_fresh w space) (page_in space (next_in w space)) b
 
     positive : 0 < number
     positive = next_positive w space none
 
+    -- with a page of the structure's kinds made new, it has kept to its own with one new page, and the head is whole
     pub new_kept : HasKept own 1 w made space
     new_kept = record {
       kept = λ all. own_fresh own all space w b none fits head.long mine;
@@ -148,6 +150,7 @@ module _ (own : Own) where
       };
     }
 
+    -- the new page is a whole page of the structure
     pub new_itself : IsWholePage own made.now space number
     new_itself = page_itself (with_fresh w space) space number b positive long_page mine
 

@@ -1,3 +1,4 @@
+-- Lemmas of pages, their fields and workspaces, for this crate and for the structures that stand on pages.
 pub mod Orders
 pub mod Tables
 pub mod Works

@@ -16,6 +16,7 @@ use Rattle.page_bytes.proofs.Works.{get-inserted, get-beside, get-pages_of}
 abbrev Changes : Type 0
 Changes = map.FinMap page_cmp (Option (List ℕ))
 
+-- a value that is there isn't none, from which all follows
 pub some_none : {X P : Type 0} (x : X) → Some x ≡ None → P
 some_none x e = absurd (true≢false (ap is_some e))
 
@@ -46,6 +47,7 @@ AreLong-inserted changes id page long all q = either id q
     (λ same tied. subst IsLongChange (sym (ap (map.get (map.insert changes id page)) same ∙ get-inserted changes id page)) long)
     (λ apart. subst IsLongChange (sym (get-beside changes id q page apart)) (all q))
 
+-- in a table without changes all pages have 4,096 bytes
 pub AreLong-empty : (changes : Changes) → changes ≡ map.empty → AreLong changes
 AreLong-empty changes none q = subst IsLongChange (sym (ap (λ m. map.get m q) none ∙ map.get-empty page_cmp q)) tt
 

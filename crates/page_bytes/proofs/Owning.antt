@@ -70,15 +70,18 @@ abbrev pub Stays : (PageId → Option (List ℕ)) → Space → Work → Work �
 Stays all space w new = (n : ℕ) → is_some (seen w.now all space n) ≡ true → is_some (seen new.now all space n) ≡ true
 
 module _ (all : PageId → Option (List ℕ)) (space : Space) where
+  -- where a page is written, all pages that were seen are seen
   pub stays_page : (w : Work) (n : ℕ) (b : List ℕ) → Stays all space w (with_page w (page_in space n) b)
   stays_page w n b q there = ⊎_elim
       (λ same. subst (λ m. is_some (seen (with_page w (page_in space n) b).now all space m) ≡ true) (sym same) (ap is_some (page-written w all space n b)))
       (λ differ. ap is_some (page-beside w all space n q b differ) ∙ there)
       (same_or_other q n)
 
+  -- pages that stay seen over a first step and over a second stay seen over both
   pub stays_twice : (a b c : Work) → Stays all space a b → Stays all space b c → Stays all space a c
   stays_twice a b c one two n there = two n (one n there)
 
+  -- where a new page is made and written, all pages that were seen are seen
   pub stays_fresh : (w : Work) (b : List ℕ) → Stays all space w (with_page (with_fresh w space) (page_in space (next_in w space)) b)
   stays_fresh w b =
       let n = next_in w space in let cleared = with_page w (page_in space n) zeros in
@@ -190,6 +193,8 @@ module _ (own : Own) (all : PageId → Option (List ℕ)) (space : Space) where
     head_beside : bytes (seen (with_page w (page_in space n) b).now all space) 0 ≡ bytes (seen w.now all space) 0
     head_beside = seen-beside w all space n 0 b (λ is. omega (arith, is, positive))
 
+    -- a page of the structure, other than the head, gets bytes of one of its kinds:
+    -- it has kept to its own and made no page
     pub own_page : HasOwnPage own (seen w.now all space n) → IsTrue (own.is_kind (slice_index b 0))
         → KeepsToOwn own 0 w (with_page w (page_in space n) b) all space
     own_page was is = record {
@@ -217,6 +222,7 @@ module _ (own : Own) (all : PageId → Option (List ℕ)) (space : Space) where
     head_freed : bytes (seen (without_page w (page_in space n)).now all space) 0 ≡ bytes (seen w.now all space) 0
     head_freed = seen-freed_beside w all space n 0 (λ is. omega (arith, is, positive))
 
+    -- a page of the structure, other than the head, is freed: it has kept to its own and made no page
     pub own_freed : HasOwnPage own (seen w.now all space n) → KeepsToOwn own 0 w (without_page w (page_in space n)) all space
     own_freed was = record {
       pages = λ q past. ⊎_elim
@@ -258,6 +264,8 @@ module _ (own : Own) (all : PageId → Option (List ℕ)) (space : Space) where
     next_is = ap next_page now_is ∙ field_apart 8 2 m (first_bytes w.now (head_of space)) to x (inl (omega (arith, past))) (omega (arith, within, long))
         ∙ sym (ap next_page first_is)
 
+    -- a number is written over fields of the structure alone in a whole head, from byte 10 on:
+    -- it has kept to its own and made no page
     pub own_field : KeepsToOwn own 0 w then_written all space
     own_field = record {
       pages = λ q positive. inl (page-beside w all space 0 q head_written (λ is. omega (arith, is, positive)));
@@ -313,6 +321,8 @@ module _ (own : Own) (all : PageId → Option (List ℕ)) (space : Space) where
     is_new : (q : ℕ) → q ≡ fresh → IsNewNumber (seen w.now all space) (seen made_page.now all space) q
     is_new q same = (let was = next_was in omega (arith, same, was), let now = next_now in omega (arith, same, now))
 
+    -- a new page that isn't refused gets bytes of one of the structure's kinds, over a whole head:
+    -- it has kept to its own and made one page
     pub own_fresh : IsTrue (own.is_kind (slice_index b 0)) → KeepsToOwn own 1 w made_page all space
     own_fresh is = record {
       pages = λ q positive. ⊎_elim
@@ -371,6 +381,8 @@ module _ (own : Own) (all : PageId → Option (List ℕ)) (space : Space) where
         subst (λ o. HasFieldWrite own.fields n o (seen after_write.now all space n)) (sym (page-first w.now all space n there))
         (subst (HasFieldWrite own.fields n (Some (first_bytes w.now (page_in space n)))) (sym (page-written w all space n page_then)) wrote)
 
+    -- a number is written over fields of the structure alone in any whole page beside the head, past its kind:
+    -- it has kept to its own and made no page
     pub own_foreign_field : KeepsToOwn own 0 w after_write all space
     own_foreign_field =
         let head_is = seen-beside w all space n 0 page_then (λ is. omega (arith, is, positive)) in record {

@@ -31,6 +31,7 @@ pub get_with_page : (w : Work) (id : PageId) (bytes : List ℕ) → map.get (wit
 get_with_page w id bytes = map.get-insert page_cmp-total w.now.pages id bytes id
     ∙ ap (λ o. cond (is_eq o) (Some bytes) (map.get w.now.pages id)) (tied_itself page_cmp-total id)
 
+-- a page that is written is there afterwards
 pub written_there : (w : Work) (id : PageId) (bytes : List ℕ) → IsTrue (is_there (with_page w id bytes).now id)
 written_there w id bytes = ap is_some (get_with_page w id bytes)
 
@@ -62,6 +63,7 @@ needed : (b : Bool) (id : PageId) (there : Option (List ℕ)) → (if b then Som
 needed true id there is = cc
 needed false id there is = head_of_refusal id there is
 
+-- where a new page isn't refused, the head's next page number is past 0
 pub next_positive : (w : Work) (space : Space) → fresh_refusal w.now space ≡ None → 0 < next_in w space
 next_positive w space is = needed (is_unknown w.now (head_of space)) (head_of space) (map.get w.now.pages (head_of space)) is
 
@@ -83,6 +85,7 @@ known_last : (b : Bool) (id : PageId) (there : Option (List ℕ)) → (if b then
 known_last true id there is last = cc
 known_last false id there is last = not_last id there is last
 
+-- where a new page isn't refused, and the next page number has eight bytes, the one after it has eight bytes too
 pub next_small : (w : Work) (space : Space) → fresh_refusal w.now space ≡ None → next_in w space < 256 ^ 8 → next_in w space + 1 < 256 ^ 8
 next_small w space is fits =
     let other = known_last (is_unknown w.now (head_of space)) (head_of space) (map.get w.now.pages (head_of space)) is in
@@ -97,6 +100,7 @@ there_by true id there is = cc
 there_by false id None is = cc
 there_by false id (Some bytes) is = refl
 
+-- where a new page isn't refused, the head is there
 pub head_there : (w : Work) (space : Space) → fresh_refusal w.now space ≡ None → IsTrue (is_there w.now (head_of space))
 head_there w space is = there_by (is_unknown w.now (head_of space)) (head_of space) (map.get w.now.pages (head_of space)) is
 
@@ -104,6 +108,7 @@ head_there w space is = there_by (is_unknown w.now (head_of space)) (head_of spa
 zeros_apart : (n : ℕ) (x y : List ℕ) (o : Option (List ℕ)) → 0 < n → cond (n == 0) (Some x) (cond (n == n) (Some y) o) ≡ Some y
 zeros_apart n x y o positive = grind (arith, nat_tests)
 
+-- a new page, if its number is past 0, is all zeros
 pub fresh_zeros : (w : Work) (space : Space) → 0 < next_in w space → map.get (with_fresh w space).now.pages (page_in space (next_in w space)) ≡ Some zeros
 fresh_zeros w space positive =
     let n = next_in w space in let first = with_page w (page_in space n) zeros in
@@ -116,6 +121,7 @@ pub not_refused : {X : Type 0} (refusal : Option PageEnd) (x : X) → RefusedBy 
 not_refused (Some e) x is = cc
 not_refused None x is = refl
 
+-- where a new page isn't refused, it is there once it is made
 pub fresh_there : (w : Work) (space : Space) → fresh_refusal w.now space ≡ None → IsTrue (is_there (with_fresh w space).now (page_in space (next_in w space)))
 fresh_there w space none = ap is_some (fresh_zeros w space (next_positive w space none))
 
@@ -135,6 +141,7 @@ get_head_without w space n positive =
     map.get-remove page_cmp-total w.now.pages (page_in space n) (head_of space)
     ∙ some_beside (eq_by_cmp page_cmp (head_of space) (page_in space n)) (map.get w.now.pages (head_of space)) (head_apart space n positive)
 
+-- a head that is there is there once a page beside it is freed
 pub head_there_without : (w : Work) (space : Space) (n : ℕ) → 0 < n → IsTrue (is_there w.now (head_of space))
     → IsTrue (is_there (without_page w (page_in space n)).now (head_of space))
 head_there_without w space n positive is = ap is_some (get_head_without w space n positive) ∙ is

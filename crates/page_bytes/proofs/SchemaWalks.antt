@@ -31,6 +31,7 @@ module _ (k : Known) (space : Space) (id : ℕ) where
   abbrev pub HasLooked : ℕ → ℕ → List ℕ → Type 0
   HasLooked from number passed = (n : ℕ) × ((looked k space id n ≡ Ok (Next from number)) × All (IsPassed n) passed)
 
+  -- at the start, before the head's first schema page, no page is passed and none is listed
   pub looked_start : (first : ℕ) → first_in k space ≡ Ok first → HasLooked 0 first []
   looked_start first is = (0, (ap (λ r. and_then r (λ first. Ok (Next 0 first))) is, λ k d less. absurd (omega (arith, less))))
 

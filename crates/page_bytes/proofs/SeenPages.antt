@@ -28,12 +28,14 @@ seen_some : (page : Option (List ℕ)) (out : Bool) (all : Option (List ℕ)) (x
 seen_some None out all x is = cc
 seen_some (Some y) out all x is = is
 
+-- a page that is written is seen, with the bytes written
 pub page-written : (w : Work) (all : PageId → Option (List ℕ)) (space : Space) (n : ℕ) (b : List ℕ)
     → seen (with_page w (page_in space n) b).now all space n ≡ Some b
 page-written w all space n b =
     let id = page_in space n in let k = (with_page w id b).now in
     seen_some (map.get k.pages id) (not (map.contains_key k.whole space || map.contains_key k.freed id)) (all id) b (get_with_page w id b)
 
+-- the bytes seen of a page that is written are those written
 pub seen-written : (w : Work) (all : PageId → Option (List ℕ)) (space : Space) (n : ℕ) (b : List ℕ)
     → bytes (seen (with_page w (page_in space n) b).now all space) n ≡ b
 unfolding bytes
@@ -44,6 +46,7 @@ beside : (eq : Bool) (page : Option (List ℕ)) (out : Bool) (all : Option (List
 beside true page out all x is = absurd (true≢false is)
 beside false page out all x is = refl
 
+-- any other page of the space is seen as it was
 pub page-beside : (w : Work) (all : PageId → Option (List ℕ)) (space : Space) (n q : ℕ) (b : List ℕ) → q ≢ n
     → seen (with_page w (page_in space n) b).now all space q ≡ seen w.now all space q
 page-beside w all space n q b differ =
@@ -51,6 +54,7 @@ page-beside w all space n q b differ =
     ap (λ o. if not (is_some o) && out then all id else o) (get_of_space w space n q b)
     ∙ beside (q == n) (map.get w.now.pages id) out (all id) b (apart q n differ)
 
+-- the bytes seen of any other page of the space are as they were
 pub seen-beside : (w : Work) (all : PageId → Option (List ℕ)) (space : Space) (n q : ℕ) (b : List ℕ) → q ≢ n
     → bytes (seen (with_page w (page_in space n) b).now all space) q ≡ bytes (seen w.now all space) q
 unfolding bytes
@@ -73,6 +77,7 @@ some_of : (page : Option (List ℕ)) (out : Bool) (all : Option (List ℕ)) → 
 some_of None out all is = absurd (true≢false (sym is))
 some_of (Some x) out all is = refl
 
+-- a page that is there is seen, with the bytes that an edit of it begins with
 pub page-first : (k : Known) (all : PageId → Option (List ℕ)) (space : Space) (n : ℕ) → IsTrue (is_there k (page_in space n))
     → seen k all space n ≡ Some (first_bytes k (page_in space n))
 page-first k all space n is =
@@ -109,21 +114,25 @@ module _ (w : Work) (all : PageId → Option (List ℕ)) (space : Space) (n : �
   page-freed = seen_now n ∙ gone (n == n) (map.get w.now.pages (page_in space n)) (map.contains_key w.now.whole space) (map.get w.now.freed (page_in space n))
       (all (page_in space n)) (itself n)
 
+  -- a page that is freed has no bytes to be seen
   pub seen-freed : bytes (seen (without_page w (page_in space n)).now all space) n ≡ []
   unfolding bytes
   seen-freed = ap (λ o. unwrap_or o []) page-freed
 
+  -- any other page of the space is seen as it was where one is freed
   pub page-freed_beside : (q : ℕ) → q ≢ n → seen (without_page w (page_in space n)).now all space q ≡ seen w.now all space q
   page-freed_beside q differ = seen_now q
       ∙ kept (q == n) (map.get w.now.pages (page_in space q)) (map.contains_key w.now.whole space) (map.get w.now.freed (page_in space q))
       (all (page_in space q)) (apart q n differ)
 
+  -- the bytes seen of any other page of the space are as they were where one is freed
   pub seen-freed_beside : (q : ℕ) → q ≢ n → bytes (seen (without_page w (page_in space n)).now all space) q ≡ bytes (seen w.now all space) q
   unfolding bytes
   seen-freed_beside q differ = ap (λ o. unwrap_or o []) (page-freed_beside q differ)
 
 -- ---- pages of other spaces
 
+-- a page of another space is tied with no page of this one
 pub other_space : (space : Space) (n : ℕ) (q : PageId) → q.space ≢ space → eq_by_cmp page_cmp q (page_in space n) ≡ false
 other_space space n q differ = at (page_cmp q (page_in space n)) refl
   where
@@ -140,11 +149,13 @@ beside_gone : {X : Type 0} (e : Bool) (o : Option X) → e ≡ false → cond e 
 beside_gone true o is = absurd (true≢false is)
 beside_gone false o is = refl
 
+-- where a page of one space is written, what is there of a page of another space is as it was
 pub other_with : (w : Work) (space : Space) (n : ℕ) (b : List ℕ) (q : PageId) → q.space ≢ space
     → map.get (with_page w (page_in space n) b).now.pages q ≡ map.get w.now.pages q
 other_with w space n b q differ = map.get-insert page_cmp-total w.now.pages (page_in space n) b q
     ∙ beside_put (eq_by_cmp page_cmp q (page_in space n)) b (map.get w.now.pages q) (other_space space n q differ)
 
+-- where a page of one space is freed, what is there of a page of another space is as it was
 pub other_without : (w : Work) (space : Space) (n : ℕ) (q : PageId) → q.space ≢ space
     → map.get (without_page w (page_in space n)).now.pages q ≡ map.get w.now.pages q
 other_without w space n q differ = map.get-remove page_cmp-total w.now.pages (page_in space n) q
@@ -155,12 +166,14 @@ other_freed w space n q differ = map.get-insert page_cmp-total w.now.freed (page
     ∙ beside_put (eq_by_cmp page_cmp q (page_in space n)) tt (map.get w.now.freed q) (other_space space n q differ)
 
 module _ (w : Work) (all : PageId → Option (List ℕ)) (space : Space) (n : ℕ) (other : Space) (m : ℕ) (differ : other ≢ space) where
+  -- where a page of one space is written, the pages of another are seen as they were
   pub page-other : (b : List ℕ) → seen (with_page w (page_in space n) b).now all other m ≡ seen w.now all other m
   page-other b =
       let id = page_in other m in
       ap (λ o. if not (is_some o) && not (map.contains_key w.now.whole other || map.contains_key w.now.freed id) then all id else o)
       (other_with w space n b id differ)
 
+  -- where a page of one space is freed, the pages of another are seen as they were
   pub page-other_freed : seen (without_page w (page_in space n)).now all other m ≡ seen w.now all other m
   page-other_freed =
       let id = page_in other m in let page_is = other_without w space n id differ in let gone_is = other_freed w space n id differ in

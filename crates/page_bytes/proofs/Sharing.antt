@@ -95,6 +95,7 @@ pub on_err_is : {T E P : Type 0} (r : Result T E) → is_err r ≡ true → OnEr
 on_err_is (Ok x) is p = absurd (true≢false (sym is))
 on_err_is (Err e) is p = p
 
+-- what holds of an answer if it is a value holds, where the answer isn't an error
 pub on_ok_is : {T E P : Type 0} (r : Result T E) → is_err r ≡ false → OnOk r P → P
 on_ok_is (Ok x) is p = p
 on_ok_is (Err e) is p = absurd (true≢false is)

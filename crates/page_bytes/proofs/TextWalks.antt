@@ -16,6 +16,7 @@ module _ (k : Known) (space : Space) (first : TextRef) where
       (n : ℕ) × ((m : ℕ) × ((r : Joined)
       × ((m ≤ n) × (joined k space first n ≡ Ok (record { at = at; from = from; text = text })) × (joined k space first m ≡ Ok r) × (r.at ≡ mark))))
 
+  -- before its first piece a text is joined as far as that piece, with no bytes, and the mark is there too
   pub joined_start : HasJoined first first.page [] first
   joined_start = (0, (0, (record { at = first; from = first.page; text = [] }, (omega arith, refl, refl, refl))))
 

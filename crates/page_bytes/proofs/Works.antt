@@ -176,6 +176,7 @@ insert-inserted m k x y = map.same_map page_cmp-total page_cmp-exact _ _
 pub there_is_known : (k : Known) (id : PageId) (x : List ℕ) → map.get k.pages id ≡ Some x → is_unknown k id ≡ false
 there_is_known k id x is = ap (λ o. not (is_some o) && not (map.contains_key k.whole id.space || map.contains_key k.freed id)) is
 
+-- the bytes of a page that is there are those that an edit of it begins with
 pub first_bytes-there : (k : Known) (id : PageId) (x : List ℕ) → map.get k.pages id ≡ Some x → x ≡ first_bytes k id
 first_bytes-there k id x is = ap (λ o. unwrap_or o zeros) (sym is)
 
@@ -198,6 +199,7 @@ insert-same {X} m k x is = map.same_map page_cmp-total page_cmp-exact _ _ (λ q.
     at Equal q e = sym is ∙ ap (map.get m) (sym (page_cmp-exact q k e))
     at Greater q e = refl
 
+-- a page that is written with the bytes that it has leaves the workspace as it was
 pub with_page-same : (w : Work) (id : PageId) (x : List ℕ) → map.get w.now.pages id ≡ Some x → with_page w id x ≡ w
 with_page-same w id x is = let same = insert-same w.now.pages id x is in
     λ i. record { below = w.below; now = record { pages = same i; whole = w.now.whole; freed = w.now.freed } }

@@ -11,6 +11,8 @@ use Rattle.page_bytes.specs.Links.{page_in}
 use Rattle.page_bytes.specs.Seen.{PagesByNumber, next_of}
 use Rattle.page_bytes.specs.Work.{Work}
 
+-- where a value is asked for, that value with its workspace; where a refusal is, that refusal and never a value;
+-- in either case memory may be wanting instead
 abbrev pub Answers : {X : Type 0} → Result (X × Work) PageEnd → Result X PageEnd → Work → Type 0
 Answers (Ok asked) (Ok x) w = (x ≡ asked.0) × (w ≡ asked.1)
 Answers (Ok asked) (Err e) w = e ≡ NoMemory

@@ -19,6 +19,7 @@ pub record Call : Type 0 where
   pub all : PageId → Option (List ℕ)
   pub space : Space
 
+-- the call kept to what is its own, between the workspace before it and the one after it
 abbrev pub Keeps : Call → Type 0
 Keeps c = KeepsToOwn c.own c.most c.old c.new c.all c.space
 
@@ -26,6 +27,7 @@ Keeps c = KeepsToOwn c.own c.most c.old c.new c.all c.space
 abbrev pub before : Call → PagesByNumber
 before c = seen c.old.now c.all c.space
 
+-- the pages of the call's space after it
 abbrev pub behind : Call → PagesByNumber
 behind c = seen c.new.now c.all c.space
 

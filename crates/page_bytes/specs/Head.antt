@@ -7,6 +7,7 @@ use Rattle.page_bytes.specs.Fields.{field, with_field}
 use Rattle.page_bytes.specs.Known.{Known}
 use Rattle.page_bytes.specs.Links.{and_then, asked, tested}
 
+-- page 0 of a space
 abbrev pub head_of : Space → PageId
 head_of space = record { space = space; number = 0 }
 
@@ -14,9 +15,11 @@ head_of space = record { space = space; number = 0 }
 abbrev pub LAST_PAGE : ℕ
 LAST_PAGE = 18446744073709551615
 
+-- the number of the next new page: eight bytes of the head, at 2
 abbrev pub next_page : List ℕ → ℕ
 next_page head = field 8 2 head
 
+-- the head with another next page number
 abbrev pub with_next_page : List ℕ → ℕ → List ℕ
 with_next_page head number = with_field 8 head 2 number
 

@@ -15,9 +15,11 @@ use Rattle.page_bytes.specs.Work.{Work}
 abbrev pub stays : PageIds → Spaces → PageId → Bool
 stays gone whole id = not (map.contains_key whole id.space) && not (map.contains_key gone id)
 
+-- the pages that are there: the drafts, and below them what is neither gone nor of a whole space
 abbrev pub pages_of : PageMap → PageMap → PageIds → Spaces → PageMap
 pages_of below drafts gone whole = overlay drafts (map.retain_keys below (stays gone whole))
 
+-- the workspace that contracts see, with these pages below and those that are there now
 abbrev pub work_of : PageMap → PageMap → PageIds → Spaces → Work
 work_of below drafts gone whole = record { below = below; now = record { pages = pages_of below drafts gone whole; whole = whole; freed = gone } }
 

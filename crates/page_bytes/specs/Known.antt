@@ -49,6 +49,7 @@ known_of pages = record { pages = pages; whole = map.empty; freed = map.empty }
 abbrev pub page_map_code : Coded PageMap
 page_map_code = map.code page_code (coded_list coded_ℕ)
 
+-- what is known, stored as its pages, its whole spaces and its freed pages
 abbrev pub known_code : Coded Known
 known_code =
     code_by (PageMap × (Spaces × PageIds)) (coded× page_map_code (coded× (map.code space_code coded_unit) (map.code page_code coded_unit)))

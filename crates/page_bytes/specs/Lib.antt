@@ -1,3 +1,4 @@
+-- What the contracts of pages and workspaces cite, and the forms of the head, of texts and of schema entries.
 pub mod Order
 pub mod Fields
 pub mod PageNumber

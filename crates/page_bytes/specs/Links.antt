@@ -16,6 +16,7 @@ abbrev pub and_then : {X Y : Type 0} → Result X PageEnd → (X → Result Y Pa
 and_then (Ok x) f = f x
 and_then (Err end) f = Err end
 
+-- the page's bytes; where it is absent, the page that leads there is damaged
 abbrev pub or_damaged : PageId → Option (List ℕ) → Result (List ℕ) PageEnd
 or_damaged from None = Err (Damaged from)
 or_damaged from (Some bytes) = Ok bytes

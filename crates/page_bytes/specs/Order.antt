@@ -24,5 +24,6 @@ is_in space id = id.space.commit == space.commit && id.space.ordinal == space.or
 abbrev pub space_code : Coded Space
 space_code = the_space.the_row.coded
 
+-- a page's name, as its row in the program is stored
 abbrev pub page_code : Coded PageId
 page_code = the_page.the_row.coded

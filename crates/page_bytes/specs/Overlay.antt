@@ -8,6 +8,7 @@ use Rattle.std.specs.Cmp.{IsTotalOrder}
 use Rattle.std.specs.FinMap as map
 use Rattle.std.specs.FinMap.{FinMap, find}
 
+-- both maps' entries, where that of the upper one counts at a key that both have
 pub overlay : {K X : Type 0} {R : K → K → Ordering} → FinMap R X → FinMap R X → FinMap R X
 overlay upper lower = map.from_entries (map.entries upper ++ map.entries lower)
 

@@ -51,6 +51,7 @@ pub record IsFieldWrite (fields : List PageField) (n : ℕ) (old new : List ℕ)
   pub long : length new ≡ length old
   pub beside : (at m : ℕ) → AreBeside fields n at m → bytes_at at m new ≡ bytes_at at m old
 
+-- the page was there and is there, and nothing but these fields of it was written
 abbrev pub HasFieldWrite : List PageField → ℕ → Option (List ℕ) → Option (List ℕ) → Type 0
 HasFieldWrite fields n (Some old) (Some new) = IsFieldWrite fields n old new
 HasFieldWrite fields n (Some old) None = ⊥

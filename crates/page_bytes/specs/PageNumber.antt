@@ -2,6 +2,7 @@
 use Rattle.std.specs.Prelude.{ℕ, ◌+◌, ◌*◌}
 use Rattle.page_bytes.specs.declared.ids.Addr.{Addr}
 
+-- the pages of all layers before it, and those before it in its own layer
 abbrev pub page_number : Addr → ℕ
 page_number a = a.layer * 256 + a.page
 

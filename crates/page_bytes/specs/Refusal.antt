@@ -27,5 +27,6 @@ abbrev pub head_refusal : PageId → Option (List ℕ) → Option PageEnd
 head_refusal head None = Some (Damaged head)
 head_refusal head (Some bytes) = if not (is_head bytes) then Some (Damaged head) else if next_page bytes == LAST_PAGE then Some (Spent LAST_PAGE) else None
 
+-- the head is needed where nothing is known of it; else the refusal is by its bytes
 abbrev pub fresh_refusal : Known → Space → Option PageEnd
 fresh_refusal k space = if is_unknown k (head_of space) then Some (Need (head_of space)) else head_refusal (head_of space) (map.get k.pages (head_of space))

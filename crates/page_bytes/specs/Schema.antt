@@ -12,18 +12,23 @@ use Rattle.page_bytes.specs.Fields.{field}
 use Rattle.page_bytes.specs.Head.{head_in}
 use Rattle.page_bytes.specs.Links.{page_in, and_then, asked, tested}
 
+-- the first byte of every schema page
 abbrev pub SCHEMA_KIND : ℕ
 SCHEMA_KIND = 3
 
+-- the number of the first schema page, from the head; 0 where there is none
 abbrev pub first_schema_page : List ℕ → ℕ
 first_schema_page head = field 8 10 head
 
+-- how many entries a schema page has
 abbrev pub entry_count : List ℕ → ℕ
 entry_count page = field 2 2 page
 
+-- the number of the schema page after this one; 0 after the last
 abbrev pub next_schema_page : List ℕ → ℕ
 next_schema_page page = field 8 8 page
 
+-- the id of the entry that stands at a place of a schema page: its first four bytes
 abbrev pub entry_id : ℕ → List ℕ → ℕ
 entry_id at page = field 4 at page
 
@@ -55,10 +60,12 @@ pub data Looked : Type 0 where
   Next : ℕ → ℕ → Looked
   Found : ℕ → ℕ → Looked
 
+-- with the entry found on a page, its place there; and without, the next page
 abbrev pub looked_at : ℕ → List ℕ → Option ℕ → Looked
 looked_at number page None = Next number (next_schema_page page)
 looked_at number page (Some at) = Found number at
 
+-- the page is had and its entries are looked through, from byte 16 on
 abbrev pub looked_on_page : Known → Space → ℕ → ℕ → ℕ → Result Looked PageEnd
 looked_on_page k space id from number =
     and_then (schema_page k space from number)

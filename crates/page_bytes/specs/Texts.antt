@@ -10,9 +10,11 @@ use Rattle.page_bytes.specs.Known.{Known}
 use Rattle.page_bytes.specs.Fields.{field, bytes_at}
 use Rattle.page_bytes.specs.Links.{page_in, and_then, asked, tested}
 
+-- the first byte of every text page
 abbrev pub TEXT_KIND : ℕ
 TEXT_KIND = 5
 
+-- how many slots a text page has
 abbrev pub slot_count : List ℕ → ℕ
 slot_count page = field 2 2 page
 
@@ -24,6 +26,7 @@ slot_at slot = 8 + slot * 4
 abbrev pub piece_at : ℕ → List ℕ → ℕ
 piece_at slot page = field 2 (slot_at slot) page
 
+-- how many bytes the piece of a slot has, its reference among them
 abbrev pub piece_length : ℕ → List ℕ → ℕ
 piece_length slot page = field 2 (slot_at slot + 2) page
 
@@ -45,6 +48,7 @@ is_piece slot page = nat_le (slot_at (slot_count page)) (piece_at slot page) && 
 abbrev pub next_piece : ℕ → List ℕ → TextRef
 next_piece slot page = record { page = field 8 (piece_at slot page) page; slot = field 2 (piece_at slot page + 8) page }
 
+-- the bytes of the text in a piece: all after its reference of ten bytes
 abbrev pub piece_text : ℕ → List ℕ → List ℕ
 piece_text slot page = bytes_at (piece_at slot page + 10) (piece_length slot page - 10) page
 
@@ -62,6 +66,7 @@ pub record Joined : Type 0 where
   pub from : ℕ
   pub text : List ℕ
 
+-- the text read so far with the piece of this page joined on, and the piece after it next
 abbrev pub with_piece : Joined → List ℕ → Joined
 with_piece so_far page = record { at = next_piece so_far.at.slot page; from = so_far.at.page; text = so_far.text ++ piece_text so_far.at.slot page }
 

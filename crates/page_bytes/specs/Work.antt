@@ -9,6 +9,7 @@ use Rattle.page_bytes.specs.Head.{head_of, next_page, with_next_page}
 use Rattle.page_bytes.specs.Overlay.{overlay}
 use Rattle.page_bytes.specs.Known.{PageMap, Known, page_map_code, known_code, known_of, is_absent}
 
+-- `below` are the pages that it was given, `now` is what it knows
 pub record Work : Type 0 where
   pub below : PageMap
   pub now : Known

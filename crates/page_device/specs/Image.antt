@@ -4,6 +4,7 @@ use Rattle.page_device.specs.declared.device.TheConstants.{LONGEST}
 use Rattle.page_device.specs.declared.device.Which.{Which}
 use Rattle.page_device.specs.declared.device.Which.TheVariants.{Slots, LogA, LogB}
 
+-- the bytes of the page file and of both logs
 pub record Image : Type 0 where
   pub slots : List ℕ
   pub log_a : List ℕ

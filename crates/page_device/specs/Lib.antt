@@ -1,3 +1,4 @@
+-- The device: three files, the calls on them and their faults, and what a crash may leave.
 pub mod Image
 pub mod Write
 pub mod Device

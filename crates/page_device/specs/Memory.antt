@@ -34,16 +34,19 @@ pub record Kept : Type 0 where
   pub writes : List Extent
   pub now : List ℕ
 
+-- the three files
 pub record Disk : Type 0 where
   pub slots : Kept
   pub log_a : Kept
   pub log_b : Kept
 
+-- this file of the three
 abbrev pub kept_of : Disk → Which → Kept
 kept_of d Slots = d.slots
 kept_of d LogA = d.log_a
 kept_of d LogB = d.log_b
 
+-- the three files, this one with this kept
 abbrev pub with_kept : Disk → Which → Kept → Disk
 with_kept d Slots k = record { slots = k; log_a = d.log_a; log_b = d.log_b }
 with_kept d LogA k = record { slots = d.slots; log_a = k; log_b = d.log_b }
@@ -70,6 +73,7 @@ after_write d file at bytes = with_kept d file (wrote (kept_of d file) at bytes)
 abbrev pub after_sync : Disk → Which → Disk
 after_sync d file = with_kept d file (at_rest (kept_of d file).now)
 
+-- the three files after one write or one sync
 abbrev pub step : Disk → Done → Disk
 step d (Wrote file at bytes) = after_write d file at bytes.items
 step d (Synced file) = after_sync d file
@@ -123,6 +127,7 @@ abbrev pub marked : List ℕ → List Extent → List ℕ
 marked base [] = base
 marked base (w ∷ ws) = marked (filled base w.at w.count) ws
 
+-- the three files as last synced, with each byte that a write since reaches, and each past the end, at 255
 abbrev pub ones_of : Disk → Image
 ones_of d = record { slots = marked d.slots.synced d.slots.writes; log_a = marked d.log_a.synced d.log_a.writes; log_b = marked d.log_b.synced d.log_b.writes }
 
@@ -136,6 +141,7 @@ pub record Held : Type 0 where
 abbrev pub held_by : Disk → Held
 held_by d = record { now = now_of d; synced = synced_of d; ones = ones_of d }
 
+-- the versions kept, as images
 abbrev pub held_of_versions : Versions → Held
 held_of_versions v = record { now = image_of v.now; synced = image_of v.synced; ones = image_of v.ones }
 

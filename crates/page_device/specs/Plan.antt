@@ -15,6 +15,7 @@ count_of c Write = c.writes
 count_of c Sync = c.syncs
 count_of c Len = c.lens
 
+-- the same but for the calls of this kind, of which there were n
 abbrev pub with_count : Counts → CallKind → ℕ → Counts
 with_count c Read n = record c { reads = n }
 with_count c Write n = record c { writes = n }

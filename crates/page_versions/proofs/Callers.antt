@@ -138,6 +138,7 @@ empty_upto k is = subst (λ x. IsUpTo x 0) (sym is) (record {
 pub kept_upto : (k new : Kept) (n : ℕ) → new ≡ k → IsUpTo k n → IsUpTo new n
 kept_upto k new n same upto = subst (λ x. IsUpTo x n) (sym same) upto
 
+-- a call that opens a snapshot at the newest commit, or fails and changes nothing, leaves nothing of a later commit
 pub upto_opened : {E : Type 0} (k new : Kept) (n : ℕ) (r : Result ℕ E) → IsUpTo k n → IfOk r (λ key. snapshot_at new key ≡ Some n)
     → IfOk r (λ key. (other : ℕ) → other ≢ key → snapshot_at new other ≡ snapshot_at k other)
     → new.chains ≡ k.chains → new.staged ≡ k.staged → OnErr r (new ≡ k) → IsUpTo new n
@@ -198,6 +199,7 @@ newest_known k n o chain lt all = in_front o
     in_front None = known chain all
     in_front (Some image) = ((λ other. absurd (true≢false (sym (same_number k) ∙ other)), λ _. lt), known chain all)
 
+-- a chain known at a commit is known there too once an image of a later commit is staged in front
 pub staged_newest : (k n : ℕ) (o : Option Image) (chain new : List Version) → n < k → new ≡ with_image k o chain → All (IsKnownAt None n) chain
     → All (IsKnownAt (Some k) n) new
 staged_newest k n o chain new lt is all =

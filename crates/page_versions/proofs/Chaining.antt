@@ -18,6 +18,7 @@ same_number n = grind (arith, nat_tests)
 pub other_number : (m n : ℕ) → m < n → (m == n) ≡ false
 other_number m n less = grind (arith, nat_tests)
 
+-- a number above another is not that one
 pub later_number : (m n : ℕ) → m < n → (n == m) ≡ false
 later_number m n less = grind (arith, nat_tests)
 
@@ -26,10 +27,12 @@ abbrev pub AllBelow : ℕ → List Version → Type 0
 AllBelow n [] = Unit {0}
 AllBelow n (v ∷ vs) = (v.commit < n) × AllBelow n vs
 
+-- versions that fall below a commit are all of commits below any that is not less
 pub falls_below : (a b : ℕ) (vs : List Version) → a ≤ b → IsFallingBelow a vs → AllBelow b vs
 falls_below a b [] le falls = tt
 falls_below a b (v ∷ vs) le falls = let first : v.commit < a = falls.0 in (omega arith, falls_below v.commit b vs (omega arith) falls.1)
 
+-- versions that fall below a commit fall below any that is not less
 pub falls_from : (a b : ℕ) (vs : List Version) → a ≤ b → IsFallingBelow a vs → IsFallingBelow b vs
 falls_from a b [] le falls = tt
 falls_from a b (v ∷ vs) le falls = let first : v.commit < a = falls.0 in (omega arith, falls.1)
@@ -55,6 +58,7 @@ pub seen_falls : (slots : List (Option ℕ)) (a : ℕ) (vs : List Version) → A
 seen_falls slots a [] seen = tt
 seen_falls slots a (v ∷ vs) seen = (between_less v.commit a slots seen.0, seen_falls slots v.commit vs seen.1)
 
+-- the commits of a chain of which a snapshot sees all but the newest fall
 pub seen_base_falls : (slots : List (Option ℕ)) (chain : List Version) → IsSeen slots chain → IsFalling chain
 seen_base_falls slots [] seen = tt
 seen_base_falls slots (v ∷ vs) seen = seen_falls slots v.commit vs seen
@@ -75,20 +79,24 @@ seen_purge slots a [] seen = refl
 seen_purge slots a (v ∷ vs) seen =
     ap (λ b. cond b (v ∷ purge_below slots v.commit vs) (purge_below slots a vs)) seen.0 ∙ ap (λ xs. v ∷ xs) (seen_purge slots v.commit vs seen.1)
 
+-- versions that open snapshots see are seen by others that are between the same commits
 pub seen_more : (slots more : List (Option ℕ)) → ((c a : ℕ) → list_any (is_between c a) slots ≡ true → list_any (is_between c a) more ≡ true)
     → (a : ℕ) (vs : List Version) → AllSeen slots a vs → AllSeen more a vs
 seen_more slots more keeps a [] seen = tt
 seen_more slots more keeps a (v ∷ vs) seen = (keeps v.commit a seen.0, seen_more slots more keeps v.commit vs seen.1)
 
+-- and a chain of which they see all but the newest is one for these others
 pub seen_base_more : (slots more : List (Option ℕ)) → ((c a : ℕ) → list_any (is_between c a) slots ≡ true → list_any (is_between c a) more ≡ true)
     → (chain : List Version) → IsSeen slots chain → IsSeen more chain
 seen_base_more slots more keeps [] seen = tt
 seen_base_more slots more keeps (v ∷ vs) seen = seen_more slots more keeps v.commit vs seen
 
+-- of a chain that was cut a snapshot sees all but the newest version
 pub purged_base_seen : (slots : List (Option ℕ)) (chain : List Version) → IsSeen slots (purged_base slots chain)
 purged_base_seen slots [] = tt
 purged_base_seen slots (v ∷ vs) = purge_seen slots v.commit vs
 
+-- a chain of which a snapshot sees all but the newest version is cut to itself
 pub seen_purged_base : (slots : List (Option ℕ)) (chain : List Version) → IsSeen slots chain → purged_base slots chain ≡ chain
 seen_purged_base slots [] seen = refl
 seen_purged_base slots (v ∷ vs) seen = ap (λ xs. v ∷ xs) (seen_purge slots v.commit vs seen)
@@ -137,10 +145,12 @@ length-purge_below slots a (v ∷ vs) =
       | false ↦ let rest = length-purge_below slots a vs in omega arith
     ]
 
+-- a chain that was cut is no longer than it was
 pub length-purged_base : (slots : List (Option ℕ)) (chain : List Version) → length (purged_base slots chain) ≤ length chain
 length-purged_base slots [] = omega arith
 length-purged_base slots (v ∷ vs) = let rest = length-purge_below slots v.commit vs in omega arith
 
+-- a chain with a version has one once it was cut
 pub some-purged : (staged : Option ℕ) (slots : List (Option ℕ)) (chain : List Version) → 0 < length chain → 0 < length (purged staged slots chain)
 some-purged None slots [] some = some
 some-purged None slots (v ∷ vs) some = omega arith
@@ -162,6 +172,7 @@ pub before_unstaged : (n : ℕ) (chain : List Version) → IsBefore (Some n) cha
 before_unstaged n [] before = refl
 before_unstaged n (v ∷ vs) before = ap (λ b. cond b vs (v ∷ vs)) (other_number v.commit n before)
 
+-- a chain whose front is of an earlier commit has no version of the one to be staged in front
 pub before_has_none : (n : ℕ) (chain : List Version) → IsBefore (Some n) chain → has_staged n chain ≡ false
 before_has_none n [] before = refl
 before_has_none n (v ∷ vs) before = other_number v.commit n before
@@ -193,6 +204,7 @@ version_at-base (Some n) s (v ∷ vs) later =
       | false ↦ λ l. refl
     ] later
 
+-- at an earlier commit the same version is seen with an image put in front
 pub version_at-with_image : (n s : ℕ) (o : Option Image) (chain : List Version) → s < n → version_at (with_image n o chain) s ≡ version_at chain s
 version_at-with_image n s None chain before = refl
 version_at-with_image n s (Some image) chain before =
@@ -207,6 +219,7 @@ unstaged-with_image n (Some image) chain before = ap (λ b. cond b chain (record
 pub drop_at : {X : Type 0} (xs : List X) (i : ℕ) (x : X) → i < length xs → x ≡ get_or xs i x → drop i xs ≡ x ∷ drop (i + 1) xs
 drop_at xs i x within is = drop-cons xs i x within ∙ (λ j. sym is j ∷ drop (sym (add-one i) j) xs)
 
+-- the items up to one of a list are those before it, and it
 pub take_at : {X : Type 0} (xs : List X) (i : ℕ) (x : X) → i < length xs → x ≡ get_or xs i x → take (i + 1) xs ≡ take i xs ++ x ∷ []
 take_at xs i x within is = take_more xs i x within ∙ ap (λ y. take i xs ++ y ∷ []) (sym is)
 
@@ -217,6 +230,7 @@ at_skip xs i x n within is after =
     let hidden : nat_le x.commit n ≡ false = grind (arith, nat_tests) in
     ap (λ b. cond b (Some x) (version_at (drop (i + 1) xs) n)) (sym hidden) ∙ ap (λ ys. version_at ys n) (sym (drop_at xs i x within is))
 
+-- a version that is not after the commit is the one seen there, of those from it on
 pub at_found : (xs : List Version) (i : ℕ) (x : Version) (n : ℕ) → i < length xs → x ≡ get_or xs i x → x.commit ≤ n → version_at (drop i xs) n ≡ Some x
 at_found xs i x n within is le =
     let shows : nat_le x.commit n ≡ true = grind (arith, nat_tests) in
@@ -250,6 +264,7 @@ any_skip test [] (suc k) none fails = refl
 any_skip test (x ∷ xs) zero none fails = ap (λ b. b || list_any test xs) (sym fails)
 any_skip test (x ∷ xs) (suc k) none fails = any_skip test xs k none fails
 
+-- a test that passes for what is under a key, and fails without a snapshot, passes for one from that key on
 pub any_at : (test : Option ℕ → Bool) (xs : List (Option ℕ)) (k : ℕ) → test None ≡ false → test (slice_index_or xs k None) ≡ true
     → list_any test (drop k xs) ≡ true
 any_at test [] zero none passes = absurd (true≢false (sym passes ∙ none))
@@ -289,19 +304,23 @@ base-with_slot (Some n) slot (v ∷ vs) =
       | false ↦ λ e. ap (λ b. cond b vs (in_slot slot v ∷ vs)) e
     ] refl
 
+-- the version in front is before what is staged where its image is a slot too
 pub before-in_slot : (staged : Option ℕ) (slot : ℕ) (chain : List Version) → IsBefore staged chain → IsBefore staged (newest_in_slot slot chain)
 before-in_slot None slot chain before = tt
 before-in_slot (Some n) slot [] before = before
 before-in_slot (Some n) slot (v ∷ vs) before = before
 
+-- a snapshot sees all but the newest version where that one's image is a slot too
 pub seen-in_slot : (slots : List (Option ℕ)) (slot : ℕ) (chain : List Version) → IsSeen slots chain → IsSeen slots (newest_in_slot slot chain)
 seen-in_slot slots slot [] seen = seen
 seen-in_slot slots slot (v ∷ vs) seen = seen
 
+-- the chain with its newest version in a slot is as long as it was
 pub length-in_slot : (slot : ℕ) (chain : List Version) → length (newest_in_slot slot chain) ≡ length chain
 length-in_slot slot [] = refl
 length-in_slot slot (v ∷ vs) = refl
 
+-- a chain with a version has one where the newest published version has a slot
 pub some-with_slot : (staged : Option ℕ) (slot : ℕ) (chain : List Version) → 0 < length chain → 0 < length (with_slot staged slot chain)
 some-with_slot None slot [] some = some
 some-with_slot None slot (v ∷ vs) some = omega arith
@@ -309,6 +328,7 @@ some-with_slot (Some n) slot [] some = some
 some-with_slot (Some n) slot (v ∷ vs) some =
     elim (v.commit == n) as (λ b. 0 < length (cond b (v ∷ newest_in_slot slot vs) (in_slot slot v ∷ vs))) [ true ↦ omega arith | false ↦ omega arith ]
 
+-- a snapshot before what is staged in front is before it where the newest published version has a slot
 pub later-with_slot : (staged : Option ℕ) (s slot : ℕ) (chain : List Version) → IsLater staged s chain → IsLater staged s (with_slot staged slot chain)
 later-with_slot None s slot [] later = tt
 later-with_slot None s slot (v ∷ vs) later = later
@@ -316,6 +336,7 @@ later-with_slot (Some n) s slot [] later = tt
 later-with_slot (Some n) s slot (v ∷ vs) later =
     elim (v.commit == n) as (λ b. IsLater (Some n) s (cond b (v ∷ newest_in_slot slot vs) (in_slot slot v ∷ vs))) [ true ↦ later | false ↦ later ]
 
+-- a chain with nothing staged in front has nothing there where its newest version has a slot
 pub unstaged-with_slot : (staged : Option ℕ) (slot : ℕ) (chain : List Version) → base staged chain ≡ chain
     → base staged (with_slot staged slot chain) ≡ with_slot staged slot chain
 unstaged-with_slot None slot chain same = refl
@@ -332,6 +353,7 @@ pub later_staged : (n s : ℕ) (chain : List Version) → s < n → IsLater (Som
 later_staged n s [] less = tt
 later_staged n s (v ∷ vs) less = λ e. let same : v.commit ≡ n = grind (arith, nat_tests) in omega arith
 
+-- where nothing is staged every snapshot is before what is staged
 pub later_none : (s : ℕ) (chain : List Version) → IsLater None s chain
 later_none s [] = tt
 later_none s (v ∷ vs) = λ e. absurd (true≢false (sym e))

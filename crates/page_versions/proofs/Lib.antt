@@ -1,3 +1,4 @@
+-- Lemmas of versions: how chains are cut and staged, and what `Versions` keeps true of its fields.
 pub mod Chaining
 pub mod Needing
 pub mod Paging

@@ -282,6 +282,7 @@ newest_at (Some m) n (w ∷ ws) known v is =
           ap (λ o. is_version o v) (sym (ap (λ b. cond b (Some w) (version_at ws n)) shows) ∙ is) ∙ same_number v.commit
     ] known.0.0 known.0.1
 
+-- at a commit where a chain is known, the same version is seen in the chain with only what is needed
 pub needed-newest : (staged : Option ℕ) (slots : List (Option ℕ)) (chain : List Version) (n : ℕ) → All (IsKnownAt staged n) chain
     → version_at (needed staged slots chain) n ≡ version_at chain n
 needed-newest staged slots chain n known = find-filter (λ v. nat_le v.commit n) (is_needed staged slots chain) chain (λ v is.

@@ -31,6 +31,7 @@ or_no false = refl
 pub listed-append : (ps : List PageId) (p q : PageId) → is_listed (ps ++ p ∷ []) q ≡ (is_listed ps q || is_page q p)
 listed-append ps p q = list_any-append (is_page q) ps (p ∷ []) ∙ ap (λ b. is_listed ps q || b) (or_no (is_page q p))
 
+-- a page that is listed is listed with one more
 pub listed_first : (ps : List PageId) (p q : PageId) → is_listed ps q ≡ true → is_listed (ps ++ p ∷ []) q ≡ true
 listed_first ps p q is = listed-append ps p q ∙ ap (λ b. b || is_page q p) is
 
@@ -45,6 +46,7 @@ same_page q = ap is_eq (tied q)
     tied : (q : PageId) → page_cmp q q ≡ Equal
     tied q = tied_itself page_cmp-total q
 
+-- and the one more is listed
 pub listed_last : (ps : List PageId) (p : PageId) → is_listed (ps ++ p ∷ []) p ≡ true
 listed_last ps p = listed-append ps p p ∙ ap (λ b. is_listed ps p || b) (same_page p) ∙ or_yes (is_listed ps p)
 
@@ -65,6 +67,7 @@ chain_in-insert m id c q = ap (λ o. unwrap_or o []) (map.get-insert page_cmp-to
     at true = refl
     at false = refl
 
+-- a page that is taken out of a table has no versions, and every other has its chain
 pub chain_in-remove : (m : ChainMap) (id : PageId) (q : PageId) → chain_in (map.remove m id) q ≡ cond (is_page q id) [] (chain_in m q)
 chain_in-remove m id q = ap (λ o. unwrap_or o []) (map.get-remove page_cmp-total m id q) ∙ at (is_page q id)
   where
@@ -74,6 +77,8 @@ chain_in-remove m id q = ap (λ o. unwrap_or o []) (map.get-remove page_cmp-tota
 
 -- a page's chain is changed by a function
 module _ (f : List Version → List Version) where
+  -- where one page got what the function makes of its chain, and all others kept theirs,
+  -- each chain is the function's of its own at that page, and else as it was
   pub changed : (m n : ChainMap) (id : PageId) → ((q : PageId) → chain_in n q ≡ cond (is_page q id) (f (chain_in m id)) (chain_in m q)) → (q : PageId)
       → chain_in n q ≡ cond (is_page q id) (f (chain_in m q)) (chain_in m q)
   changed m n id is q =
@@ -82,6 +87,7 @@ module _ (f : List Version → List Version) where
         | false ↦ λ _. refl
       ] refl
 
+  -- and so where that is put in the table for a page that has a chain
   pub changed-insert : (m : ChainMap) (id : PageId) (c d : List Version) → map.get m id ≡ Some c → d ≡ f c → (q : PageId)
       → chain_in (map.insert m id d) q ≡ cond (is_page q id) (f (chain_in m q)) (chain_in m q)
   changed-insert m id c d there is =
@@ -101,6 +107,7 @@ module _ (f : List Version → List Version) where
   abbrev pub Done : (PageId → List Version) → List PageId → (PageId → List Version) → Type 0
   Done old ps now = (q : PageId) → now q ≡ cond (is_listed ps q) (f (old q)) (old q)
 
+  -- with the pages of a list changed, and one more, those of the longer list are, if to change twice is to change once
   pub done_more : (old now next : PageId → List Version) (ps : List PageId) (id : PageId) → ((q : PageId) → f (f (old q)) ≡ f (old q)) → Done old ps now
       → ((q : PageId) → next q ≡ cond (is_page q id) (f (now q)) (now q)) → Done old (ps ++ id ∷ []) next
   done_more old now next ps id once done step q =
@@ -122,6 +129,7 @@ filled-insert m id c filled some q =
     at true = some
     at false = filled q
 
+-- where all other chains have versions, all have once this page is taken out
 pub filled-remove : (m : ChainMap) (id : PageId) → ((q : PageId) → is_page q id ≡ false → IfSome (map.get m q) (λ chain. 0 < length chain))
     → NoneEmpty (map.remove m id)
 filled-remove m id filled q =

@@ -28,6 +28,7 @@ base-base (Some n) chain before = before_unstaged n (unstaged n chain) before
 
 module _ (m : ChainMap) (slots : List (Option ℕ)) (staged : Option ℕ) (touched older : List PageId) (used capacity : ℕ)
     (sound : IsSound m slots staged touched older used capacity) where
+  -- the commits of each chain fall
   pub falls : (q : PageId) → IsFalling (chain_in m q)
   falls q = chain_falls staged slots (chain_in m q) (sound.before q) (sound.seen q)
 
@@ -35,6 +36,7 @@ module _ (m : ChainMap) (slots : List (Option ℕ)) (staged : Option ℕ) (touch
   pub needed_of : (open' : List (Option ℕ)) (q : PageId) → needed staged open' (chain_in m q) ≡ purged staged open' (chain_in m q)
   needed_of open' q = needed-is staged open' (chain_in m q) (sound.before q) (falls q)
 
+  -- each chain has exactly the versions that are needed
   pub exact : (q : PageId) → needed staged slots (chain_in m q) ≡ chain_in m q
   exact q = needed_of slots q ∙ purged-seen staged slots (chain_in m q) (sound.seen q)
 
@@ -52,9 +54,12 @@ module _ (m : ChainMap) (slots : List (Option ℕ)) (staged : Option ℕ) (touch
           | false ↦ λ out. sym (purged-seen staged open' (chain_in m q) (short_seen open' (base staged (chain_in m q)) (few q out)))
         ] refl
 
+    -- where the noted pages are cut for the snapshots left, each chain has exactly what is needed of it
     pub end_chains : (q : PageId) → chain_in n q ≡ needed staged open' (chain_in m q)
     end_chains q = end_is q ∙ sym (needed_of open' q)
 
+    -- the fields stay sound, if those left were open, each page that still has several published versions is noted,
+    -- and no chain is empty
     pub end_sound : (noted : List PageId) (now room : ℕ) → NoneEmpty n → ((s : ℕ) → Contains open' (Some s) → Contains slots (Some s))
         → ((q : PageId) → is_listed older q ≡ true → 1 < length (base staged (chain_in n q)) → is_listed noted q ≡ true) → now ≤ room
         → IsSound n open' staged touched noted now room
@@ -87,9 +92,11 @@ module _ (m : ChainMap) (slots : List (Option ℕ)) (staged : Option ℕ) (touch
           | false ↦ λ out. sym (seen_purged_base slots (chain_in m q) (subst (IsSeen slots) (sound.front q out) (sound.seen q)))
         ] refl
 
+    -- where the listed pages are cut with what is staged as published, each chain has exactly what is needed
     pub publish_chains : (q : PageId) → chain_in n q ≡ needed None slots (chain_in m q)
     publish_chains q = publish_is q ∙ sym (needed-is None slots (chain_in m q) tt (falls q))
 
+    -- the fields stay sound with nothing staged, if each page that has several versions is noted and no chain is empty
     pub publish_sound : (noted : List PageId) (now room : ℕ) → NoneEmpty n
         → ((q : PageId) → is_listed touched q ≡ true → 1 < length (chain_in n q) → is_listed noted q ≡ true)
         → ((q : PageId) → is_listed older q ≡ true → is_listed noted q ≡ true) → now ≤ room → (rest : List PageId) → IsSound n slots None rest noted now room
@@ -121,12 +128,15 @@ module _ (m : ChainMap) (slots : List (Option ℕ)) (staged : Option ℕ) (touch
           | false ↦ λ out. sym (sound.front q out)
         ] refl
 
+    -- where what is staged is taken off the listed pages, each chain has exactly its published versions
     pub retract_chains : (q : PageId) → chain_in n q ≡ published staged (chain_in m q)
     retract_chains q = retract_is q ∙ sym (published-base staged (chain_in m q) (sound.before q) (falls q))
 
+    -- at a commit before what is staged each page has the version that it had
     pub retract_seen : (s : ℕ) (q : PageId) → IsLater staged s (chain_in m q) → version_at (chain_in n q) s ≡ version_at (chain_in m q) s
     retract_seen s q later = ap (λ c. version_at c s) (retract_is q) ∙ version_at-base staged s (chain_in m q) later
 
+    -- the fields stay sound with nothing staged, if no chain is empty
     pub retract_sound : (now room : ℕ) → NoneEmpty n → now ≤ room → (rest : List PageId) → IsSound n slots None rest older now room
     retract_sound now room filled fits rest = record {
       before = λ q. tt;
@@ -180,9 +190,11 @@ module _ (m : ChainMap) (slots : List (Option ℕ)) (staged : Option ℕ) (touch
 module _ (m n : ChainMap) (slots : List (Option ℕ)) (touched noted older : List PageId) (used capacity k : ℕ)
     (sound : IsSound m slots None touched older used capacity)
     (past : (q : PageId) → IsBefore (Some k) (chain_in m q)) (under : StagesUnder k m n touched noted) where
+  -- without what is staged in front, each chain is the one that was there
   pub stage_under : (q : PageId) → unstaged k (chain_in n q) ≡ chain_in m q
   stage_under q = under.under q ∙ before_unstaged k (chain_in m q) (past q)
 
+  -- the fields are sound with the commit staged, if all open snapshots are before it
   pub stage_sound : (later : (s : ℕ) → Contains slots (Some s) → s < k) (now room : ℕ) → now ≤ room → IsSound n slots (Some k) noted older now room
   stage_sound later now room fits = record {
     before = λ q. subst (IsBefore (Some k)) (sym (stage_under q)) (past q);
@@ -194,6 +206,7 @@ module _ (m n : ChainMap) (slots : List (Option ℕ)) (touched noted older : Lis
     room = fits;
   }
 
+  -- with what is staged taken off once there is nothing more to take off
   pub stage_once : (q : PageId) → unstaged k (unstaged k (chain_in n q)) ≡ unstaged k (chain_in n q)
   stage_once q = ap (unstaged k) (stage_under q) ∙ sym (under.under q)
 
@@ -240,6 +253,7 @@ pub any_more : (test : Option ℕ → Bool) → test None ≡ false → (xs ys :
     → ((k s : ℕ) → slice_index_or xs k None ≡ Some s → slice_index_or ys k None ≡ Some s) → list_any test xs ≡ true → list_any test ys ≡ true
 any_more test none xs ys keeps is = let found = any_true test none xs is in any_there test ys found.0 found.1 (keeps found.0 found.1 found.2) found.3
 
+-- a snapshot under a key is one of the snapshots
 pub contains_there : (xs : List (Option ℕ)) (k s : ℕ) → slice_index_or xs k None ≡ Some s → Contains xs (Some s)
 contains_there [] zero s at = cc
 contains_there [] (suc k) s at = cc
@@ -251,6 +265,7 @@ there_of [] k s less at = absurd (omega arith)
 there_of (x ∷ xs) zero s less at = at
 there_of (x ∷ xs) (suc k) s less at = there_of xs k s (omega arith) at
 
+-- each of the snapshots is under a key
 pub key_of : (xs : List (Option ℕ)) (s : ℕ) → Contains xs (Some s) → (k : ℕ) × (slice_index_or xs k None ≡ Some s)
 key_of xs s there = (there.0, there_of xs there.0 s there.1 there.2)
 
@@ -276,6 +291,7 @@ opened_keeps xs ys key vacant others k s at =
     others k (λ same. let none : slice_index_or xs k None ≡ None = ap (λ j. slice_index_or xs j None) same ∙ vacant in let both : Some s ≡ None = sym at
     ∙ none in cc) ∙ at
 
+-- a snapshot opened at a commit where all chains are known is before what is staged, if the others are
 pub opened_later : (staged : Option ℕ) (m : ChainMap) (xs ys : List (Option ℕ)) (key n : ℕ) → ((q : PageId) → All (IsKnownAt staged n) (chain_in m q))
     → ((s : ℕ) → Contains xs (Some s) → (q : PageId) → IsLater staged s (chain_in m q))
     → slice_index_or ys key None ≡ Some n → ((k : ℕ) → k ≢ key → slice_index_or ys k None ≡ slice_index_or xs k None) → (s : ℕ) → Contains ys (Some s)

@@ -59,6 +59,7 @@ unstaged-staged n image [] none = ap (λ b. cond b [] (record { commit = n; imag
 unstaged-staged n image (v ∷ vs) none =
     ap (λ b. cond b (v ∷ vs) (record { commit = n; image = image } ∷ v ∷ vs)) (same_number n) ∙ ap (λ b. cond b vs (v ∷ vs)) (sym none)
 
+-- a chain with a version of the commit in front is, without it, what the chain is without one of that commit
 pub unstaged-once : (n : ℕ) (image : Image) (chain : List Version) → unstaged n (staged_once n image chain) ≡ unstaged n chain
 unstaged-once n image chain =
     elim (has_staged n chain) as (λ b. has_staged n chain ≡ b → unstaged n (cond b chain (record { commit = n; image = image } ∷ chain)) ≡ unstaged n chain) [
@@ -66,6 +67,7 @@ unstaged-once n image chain =
       | false ↦ λ e. unstaged-staged n image chain e
     ] refl
 
+-- and it has a version
 pub some-once : (n : ℕ) (image : Image) (chain : List Version) → 0 < length (staged_once n image chain)
 some-once n image [] = omega arith
 some-once n image (v ∷ vs) =
@@ -144,6 +146,7 @@ absences n changes dropped q old gone before is = at (change_of changes q) gone 
     at None true = ap (λ t. cond t old (record { commit = n; image = Absent } ∷ old)) (before_has_none n old before)
     at None false = refl
 
+-- what follows from what holds of a value given holds of it too
 pub on_ok_weaker : {T E P Q : Type 0} (r : Result T E) → (P → Q) → OnOk r P → OnOk r Q
 on_ok_weaker (Ok x) after p = after p
 on_ok_weaker (Err e) after p = tt

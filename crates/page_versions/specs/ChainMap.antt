@@ -7,9 +7,11 @@ use Rattle.page_bytes.specs.Order.{page_cmp, page_code}
 use Rattle.page_versions.specs.declared.version.Version.{Version}
 use Rattle.page_versions.specs.contracts.version.Version as the_version
 
+-- chains by their pages
 abbrev pub ChainMap : Type 0
 ChainMap = map.FinMap page_cmp (List Version)
 
+-- how the chains are stored
 abbrev pub chain_map_code : Coded ChainMap
 chain_map_code = map.code page_code (coded_list the_version.the_row.coded)
 

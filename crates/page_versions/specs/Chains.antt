@@ -12,6 +12,7 @@ abbrev pub IsFallingBelow : ℕ → List Version → Type 0
 IsFallingBelow above [] = Unit {0}
 IsFallingBelow above (v ∷ vs) = (v.commit < above) × IsFallingBelow v.commit vs
 
+-- and so from the first one on
 abbrev pub IsFalling : List Version → Type 0
 IsFalling [] = Unit {0}
 IsFalling (v ∷ vs) = IsFallingBelow v.commit vs
@@ -26,6 +27,7 @@ abbrev pub published : Option ℕ → List Version → List Version
 published None chain = chain
 published (Some n) chain = filter (λ v. not (v.commit == n)) chain
 
+-- the version in front, if there is one
 abbrev pub newest : List Version → Option Version
 newest [] = None
 newest (v ∷ vs) = Some v

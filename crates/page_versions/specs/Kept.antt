@@ -7,16 +7,19 @@ use Rattle.page_versions.specs.declared.version.Version.{Version}
 use Rattle.page_versions.specs.ChainMap.{ChainMap, chain_map_code, chain_in}
 use Rattle.page_versions.specs.Chains.{version_at, is_staged, IsFalling, needed}
 
+-- a key is a place in `snapshots`, and one without an open snapshot has None
 pub record Kept : Type 0 where
   pub chains : ChainMap
   pub snapshots : List (Option ℕ)
   pub staged : Option ℕ
 
+-- how these are stored
 abbrev pub kept_code : Coded Kept
 kept_code =
     code_by (ChainMap × (List (Option ℕ) × Option ℕ)) (coded× chain_map_code (coded× (coded_list (coded_option coded_ℕ)) (coded_option coded_ℕ)))
     (λ k. (k.chains, (k.snapshots, k.staged))) (λ p. record { chains = p.0; snapshots = p.1.0; staged = p.1.1 }) (λ _. refl)
 
+-- a page's versions, the newest first
 abbrev pub chain_of : Kept → PageId → List Version
 chain_of k id = chain_in k.chains id
 

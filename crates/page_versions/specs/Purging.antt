@@ -46,9 +46,11 @@ purged None snapshots chain = purged_base snapshots chain
 purged (Some n) snapshots [] = []
 purged (Some n) snapshots (v ∷ vs) = if v.commit == n then v ∷ purged_base snapshots vs else purged_base snapshots (v ∷ vs)
 
+-- the version with a slot as its image
 abbrev pub in_slot : ℕ → Version → Version
 in_slot slot v = record { commit = v.commit; image = Slot slot }
 
+-- the chain with this slot as the image of the version in front
 abbrev pub newest_in_slot : ℕ → List Version → List Version
 newest_in_slot slot [] = []
 newest_in_slot slot (v ∷ vs) = in_slot slot v ∷ vs

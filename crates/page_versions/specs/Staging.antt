@@ -18,6 +18,7 @@ abbrev pub image_of : Option (List ℕ) → Image
 image_of None = Absent
 image_of (Some page) = Resident page
 
+-- whether a chain has a version
 abbrev pub has_versions : List Version → Bool
 has_versions [] = false
 has_versions (v ∷ vs) = true
@@ -32,5 +33,6 @@ abbrev pub with_image : ℕ → Option Image → List Version → List Version
 with_image n None chain = chain
 with_image n (Some image) chain = record { commit = n; image = image } ∷ chain
 
+-- a page's chain with what the commit makes of it in front, if it changes the page or drops its space
 abbrev pub staged_chain : ℕ → List PageChange → List Space → PageId → List Version → List Version
 staged_chain n changes dropped id chain = with_image n (staged_image (change_of changes id) (is_dropped dropped id.space && has_versions chain)) chain

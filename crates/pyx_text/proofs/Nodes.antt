@@ -53,4 +53,5 @@ pub with_characters-none : (value : List ℕ) → value ≢ [] → with_characte
 with_characters-none [] some = elim (some refl) [ ]
 with_characters-none (b ∷ bs) some = refl
 
+-- how nodes end, and what characters make of them, by what the last node is
 pub ruleset last_nodes = (ends_in_text-last, with_characters-Text, with_characters-Element, with_characters-Pi, with_characters-none)

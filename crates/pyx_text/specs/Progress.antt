@@ -7,6 +7,7 @@ use Rattle.pyx_text.specs.declared.fault.PyxFault.TheVariants.{Refused, NoMemory
 use Rattle.pyx_text.specs.declared.open_tag.OpenTag.{OpenTag}
 use Rattle.pyx_text.specs.declared.progress.Progress.{Progress}
 
+-- an open element as it is kept: its name, its attributes so far and the nodes before it
 abbrev pub open_of : OpenTag → OpenElement
 open_of tag = record { name = tag.name; attrs = tag.attrs.items; before = tag.before.items }
 
@@ -14,6 +15,7 @@ open_of tag = record { name = tag.name; attrs = tag.attrs.items; before = tag.be
 abbrev pub stack_of : List OpenTag → List OpenElement
 stack_of tags = map open_of (reverse tags)
 
+-- what a reader under way has read, as a reading
 abbrev pub reading_of : Progress → Reading
 reading_of p = record { stack = stack_of p.stack.items; here = p.here.items; in_tag = p.in_tag; nodes = p.nodes; bytes = p.bytes; lines = p.lines }
 
@@ -23,6 +25,7 @@ Takes (Ok x) old new form = stepped (refusal form old) form old ≡ Ok new
 Takes (Err (Refused e)) old new form = stepped (refusal form old) form old ≡ Err e
 Takes (Err NoMemory) old new form = new ≡ old
 
+-- what has been read, or the refusal where there was one
 abbrev pub read_so_far : Option RefusedLine → Progress → Result Reading RefusedLine
 read_so_far None p = Ok (reading_of p)
 read_so_far (Some refusal) p = Err refusal

@@ -7,6 +7,7 @@ use Rattle.xml_model.specs.Trees.{has_attribute}
 abbrev pub hash_more : ℕ → ℕ → ℕ
 hash_more hash byte = (hash * 16777619 + byte) % 4294967291
 
+-- the hash of a name: that of its bytes, one after another
 unfoldable pub hash_of : List ℕ → ℕ
 hash_of name = fold hash_more 0 name
 

@@ -1,3 +1,4 @@
+-- Lemmas of the log: what is spelled is read again, what is read is spelled so, and what an append leaves.
 pub mod Gates
 pub mod NameMaps
 pub mod Bodies

@@ -6,5 +6,6 @@ use Rattle.redo_log.specs.Record.{tail_of}
 abbrev pub body_in : List ℕ → List ℕ
 body_in tail = take (length tail - 9) (drop 8 tail)
 
+-- the bytes are the length of the body in them, that body and a closed gate
 abbrev pub IsTail : List ℕ → Type 0
 IsTail tail = tail ≡ tail_of (body_in tail)

@@ -1,3 +1,4 @@
+-- The log: a record's bytes, how it is read on a store, and how it is appended.
 pub mod Record
 pub mod Body
 pub mod Append

@@ -7,6 +7,7 @@ use Rattle.std.specs.FinMap as finite
 use Rattle.page_bytes.specs.declared.ids.DocEntry.{DocEntry}
 use Rattle.page_bytes.specs.contracts.ids.DocEntry as the_entry
 
+-- documents' entries by the bytes of their names
 abbrev pub Names : Type 0
 Names = finite.FinMap (slice_cmp nat_cmp) DocEntry
 

@@ -23,6 +23,7 @@ use Rattle.redo_log.specs.declared.store.Store.{Store}
 use Rattle.page_bytes.specs.Known.{PageIds, Spaces}
 use Rattle.redo_log.specs.Store.{entry_of, same_space, has_space, has_commit, after_name, after_names, with_images, no_image, after}
 
+-- what is read after a field reads on from there, and the first wrong field stays
 infixl 10 ◌>>=◌
 abbrev pub ◌>>=◌ : {A B : Type 0} → Result A ℕ → (A → Result B ℕ) → Result B ℕ
 (Ok x) >>= f = f x
@@ -41,9 +42,11 @@ IsBytes bytes = (i : ℕ) → slice_index bytes i < 256
 unfoldable pub number_in : List ℕ → ℕ
 number_in bytes = from_be_bytes w64 (take 8 bytes)
 
+-- a number, and the bytes after it; where eight aren't left, how many are
 abbrev pub number_at : List ℕ → Result (ℕ × List ℕ) ℕ
 number_at bytes = if nat_lt (length bytes) 8 then Err (length bytes) else Ok (number_in bytes, drop 8 bytes)
 
+-- a byte, and those after it; where none is left, 0
 abbrev pub byte_at : List ℕ → Result (ℕ × List ℕ) ℕ
 byte_at [] = Err 0
 byte_at (b ∷ rest) = Ok (b, rest)
@@ -66,6 +69,7 @@ rises Less dropped sets = true
 rises Equal dropped sets = dropped && sets
 rises Greater dropped sets = false
 
+-- whether a name may come after the last that is done, `sets` where it is set and not dropped
 abbrev pub is_next_name : Option LogName → Bool → List ℕ → Bool
 is_next_name None sets name = true
 is_next_name (Some last) sets name = rises (slice_cmp nat_cmp last.name name) (is_none last.entry) sets
@@ -75,6 +79,7 @@ abbrev pub is_commit_of : Option DocEntry → ℕ → ℕ → Bool
 is_commit_of None commit c = c == commit
 is_commit_of (Some e) commit c = c == e.space.commit
 
+-- a new document's space is no other's, and one that is there keeps its own
 abbrev pub is_space_of : Option DocEntry → Spaces → Space → Bool
 is_space_of None spaces space = not (has_space spaces space)
 is_space_of (Some e) spaces space = same_space e.space space
@@ -90,6 +95,7 @@ entry_at commit s name bytes = do
   known ← check (nat_lt form.0 2) (length o.1)
   Ok (record { space = record { commit = c.0; ordinal = o.0 }; clustered = form.0 == 1 }, form.1)
 
+-- the entry of a name that is set; a drop has none
 abbrev pub entry_if : Bool → ℕ → Store → List ℕ → List ℕ → Result (Option DocEntry × List ℕ) ℕ
 entry_if false commit s name bytes = Ok (None, bytes)
 entry_if true commit s name bytes = do
@@ -121,15 +127,18 @@ abbrev pub is_next_commit : Option PageChange → ℕ → Bool
 is_next_commit None commit = true
 is_next_commit (Some last) commit = nat_le last.id.space.commit commit
 
+-- whether the first of two is before the second
 abbrev pub is_below : Ordering → Bool
 is_below Less = true
 is_below Equal = false
 is_below Greater = false
 
+-- whether a space isn't before that of the last page
 abbrev pub is_next_space : Option PageChange → Space → Bool
 is_next_space None space = true
 is_next_space (Some last) space = not (is_below (space_cmp space last.id.space))
 
+-- whether a page is after the last one
 abbrev pub is_next_page : Option PageChange → PageId → Bool
 is_next_page None id = true
 is_next_page (Some last) id = is_below (page_cmp last.id id)
@@ -156,6 +165,7 @@ id_by_space last spaces bytes = do
   next ← check (is_next_page last (record { space = record { commit = c.0; ordinal = o.0 }; number = number.0 })) (length bytes)
   Ok (record { space = record { commit = c.0; ordinal = o.0 }; number = number.0 }, number.1)
 
+-- the bytes of a page that is there; one that is gone has none
 abbrev pub image_if : Bool → List ℕ → Result (Option (List ℕ) × List ℕ) ℕ
 image_if false bytes = Ok (None, bytes)
 image_if true bytes = do
@@ -172,6 +182,7 @@ page_at done s bytes = do
   image ← image_if (kind.0 == 1) kind.1
   Ok (record { id = id.0; page = image.0 }, image.1)
 
+-- So many more pages, after those that are done.
 unfoldable pub pages_at : ℕ → List PageChange → Store → List ℕ → Result (List PageChange × List ℕ) ℕ
 pages_at zero done s bytes = Ok (done, bytes)
 pages_at (suc n) done s bytes = do
@@ -184,15 +195,18 @@ abbrev pub has_home : PageIds → Option DocEntry → Bool
 has_home pages None = true
 has_home pages (Some e) = map.contains_key pages (head_of e.space)
 
+-- each name's document has its page 0; the first that hasn't is named by its name's length
 abbrev pub names_housed : PageIds → List LogName → ℕ → Result (Unit {0}) ℕ
 names_housed pages [] left = Ok tt
 names_housed pages (n ∷ ns) left = do
   housed ← check (has_home pages n.entry) (left - 1)
   names_housed pages ns (left - length (name_change n))
 
+-- whether a change is no page 0 that is gone
 abbrev pub is_no_head : PageChange → Bool
 is_no_head c = is_some c.page || nat_lt 0 c.id.number
 
+-- no page 0 is gone; if one is, the first is named by its page
 abbrev pub pages_housed : List PageChange → ℕ → Result (Unit {0}) ℕ
 pages_housed [] left = Ok tt
 pages_housed (c ∷ cs) left = do
@@ -210,6 +224,7 @@ body_at s bytes = do
   pages ← pages_at paged.0 [] (after_names names.0 s) paged.1
   Ok (record { commit = commit.0; names = names.0; pages = pages.0 }, pages.1)
 
+-- how many bytes the changes of names have
 abbrev pub names_length : List LogName → ℕ
 names_length [] = 0
 names_length (n ∷ ns) = length (name_change n) + names_length ns
@@ -237,6 +252,7 @@ abbrev pub IsClosed : List ℕ → Type 0
 IsClosed [] = ⊥
 IsClosed (gate ∷ rest) = gate ≡ 1 → ⊥
 
+-- each record has an open gate and reads, on what those before it leave, as its changes; `end` is at the last gate
 abbrev pub AreRecords : Store → List Change → List ℕ → List ℕ → Type 0
 AreRecords s [] bytes end = (bytes ≡ end) × IsClosed end
 AreRecords s (c ∷ cs) bytes end =
@@ -246,6 +262,7 @@ AreRecords s (c ∷ cs) bytes end =
 abbrev pub IsWrong : Store → List ℕ → ℕ → Type 0
 IsWrong s bytes left = ((bytes ≡ []) × (left ≡ 0)) ⊎ ((rest : List ℕ) × (bytes ≡ 1 ∷ rest) × (record_at s rest ≡ Err left))
 
+-- these records follow each other, and what is wrong comes after the last of them
 abbrev pub IsRefused : Store → List Change → List ℕ → ℕ → Type 0
 IsRefused s [] bytes left = IsWrong s bytes left
 IsRefused s (c ∷ cs) bytes left =

@@ -9,6 +9,7 @@ use Rattle.page_bytes.specs.declared.lists.PageChange.{PageChange}
 use Rattle.redo_log.specs.declared.change.LogName.{LogName}
 use Rattle.redo_log.specs.declared.change.Change.{Change}
 
+-- a number's eight bytes
 unfoldable pub number : ℕ → List ℕ
 number x = to_be_bytes w64 x
 
@@ -16,6 +17,7 @@ number x = to_be_bytes w64 x
 abbrev pub name_bytes : List ℕ → List ℕ
 name_bytes name = length name ∷ name
 
+-- the space's commit and ordinal
 abbrev pub space_bytes : Space → List ℕ
 space_bytes s = number s.commit ++ number s.ordinal
 
@@ -36,6 +38,7 @@ abbrev pub named_bytes : List ℕ → Option DocEntry → List ℕ
 named_bytes name None = 0 ∷ name_bytes name
 named_bytes name (Some e) = 1 ∷ name_bytes name ++ space_bytes e.space ++ form_byte e.clustered ∷ []
 
+-- the bytes of one change of a name
 abbrev pub name_change : LogName → List ℕ
 name_change n = named_bytes n.name n.entry
 
@@ -44,6 +47,7 @@ abbrev pub image_bytes : Option (List ℕ) → List ℕ
 image_bytes None = 0 ∷ []
 image_bytes (Some page) = 1 ∷ page
 
+-- the page's space and number, and its bytes if it isn't gone
 abbrev pub page_change : PageChange → List ℕ
 page_change c = id_bytes c.id ++ image_bytes c.page
 

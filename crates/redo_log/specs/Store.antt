@@ -19,6 +19,7 @@ use Rattle.redo_log.specs.declared.store.Store.{Store}
 abbrev pub entry_of : List ℕ → Names → Option DocEntry
 entry_of name names = map.get names name
 
+-- whether these are one space
 abbrev pub same_space : Space → Space → Bool
 same_space s t = s.commit == t.commit && s.ordinal == t.ordinal
 
@@ -35,10 +36,12 @@ abbrev pub names_after : List ℕ → Option DocEntry → Names → Names
 names_after name None names = map.remove names name
 names_after name (Some e) names = map.insert names name e
 
+-- the spaces without that of a document, if there was one
 abbrev pub without_space : Option DocEntry → Spaces → Spaces
 without_space None spaces = spaces
 without_space (Some e) spaces = map.remove spaces e.space
 
+-- what a drop of a name, or a set with its space, leaves of the spaces, where the catalogue had this under it
 abbrev pub spaces_after : Option DocEntry → Option DocEntry → Spaces → Spaces
 spaces_after was None spaces = without_space was spaces
 spaces_after was (Some e) spaces = map.insert spaces e.space tt
@@ -54,6 +57,7 @@ module _ {V : Type 0} where
   pages_after_name was None pages = without_document was pages
   pages_after_name was (Some e) pages = pages
 
+  -- what these changes of names leave of the pages, one after another
   abbrev pub pages_after_names : List LogName → Names → map.FinMap page_cmp V → map.FinMap page_cmp V
   pages_after_names [] names pages = pages
   pages_after_names (n ∷ ns) names pages = pages_after_names ns (names_after n.name n.entry names) (pages_after_name (entry_of n.name names) n.entry pages)
@@ -63,6 +67,7 @@ module _ {V : Type 0} where
   with_image seen None id pages = pages
   with_image seen (Some page) id pages = map.insert pages id (seen page)
 
+  -- the pages with all images of these changes
   abbrev pub with_images : (List ℕ → V) → List PageChange → map.FinMap page_cmp V → map.FinMap page_cmp V
   with_images seen [] pages = pages
   with_images seen (c ∷ cs) pages = with_images seen cs (with_image seen c.page c.id pages)
@@ -72,6 +77,7 @@ module _ {V : Type 0} where
   without_page None id pages = map.remove pages id
   without_page (Some page) id pages = pages
 
+  -- the pages without all that these changes take
   abbrev pub without_gone : List PageChange → map.FinMap page_cmp V → map.FinMap page_cmp V
   without_gone [] pages = pages
   without_gone (c ∷ cs) pages = without_gone cs (without_page c.page c.id pages)
@@ -92,6 +98,7 @@ whole_image page = page
 abbrev pub no_image : List ℕ → Unit {0}
 no_image page = tt
 
+-- what a change of a name leaves: of the catalogue, the spaces and the pages
 abbrev pub after_name : LogName → Store → Store
 after_name n s = record {
   commit = s.commit;
@@ -100,6 +107,7 @@ after_name n s = record {
   pages = pages_after_name (entry_of n.name s.names) n.entry s.pages;
 }
 
+-- what these changes of names leave, one after another
 abbrev pub after_names : List LogName → Store → Store
 after_names [] s = s
 after_names (n ∷ ns) s = after_names ns (after_name n s)
@@ -122,5 +130,6 @@ abbrev pub with_ids : List PageId → PageIds → PageIds
 with_ids [] pages = pages
 with_ids (id ∷ ids) pages = with_ids ids (map.insert pages id tt)
 
+-- the store at this commit, with these names set one after the other, and these pages there
 abbrev pub store_of : ℕ → List LogName → List PageId → Store
 store_of commit names ids = after_names names (record { commit = commit; names = map.empty; spaces = map.empty; pages = with_ids ids map.empty })

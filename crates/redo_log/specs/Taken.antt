@@ -30,12 +30,14 @@ IsEntryTaken commit s name (Some e) =
     (e.space.commit < 2 ^ 64) × (e.space.ordinal < 2 ^ 64) × IsTrue (is_commit_of (entry_of name s.names) commit e.space.commit)
     × IsTrue (is_space_of (entry_of name s.names) s.spaces e.space)
 
+-- a change of a name after those that are done: it is a name, not too long, comes next, and its entry is taken
 pub record IsNameTaken (commit : ℕ) (done : List LogName) (s : Store) (n : LogName) : Type 0 where
   pub name : IsTrue (is_name n.name)
   pub long : length n.name ≤ DOCUMENT_NAME_BYTES_MAX
   pub next : IsTrue (is_next_name (last_in done) (is_some n.entry) n.name)
   pub entry : IsEntryTaken commit s n.name n.entry
 
+-- each change of a name is taken after those before it, on the store that they leave
 abbrev pub AreNamesTaken : ℕ → List LogName → Store → List LogName → Type 0
 AreNamesTaken commit done s [] = Unit {0}
 AreNamesTaken commit done s (n ∷ ns) = IsNameTaken commit done s n × AreNamesTaken commit (done ++ n ∷ []) (after_name n s) ns
@@ -45,6 +47,7 @@ abbrev pub IsImageTaken : Store → PageId → Option (List ℕ) → Type 0
 IsImageTaken s id None = IsTrue (map.contains_key s.pages id)
 IsImageTaken s id (Some page) = length page ≡ PAGE_BYTES
 
+-- a page after those that are done: its numbers fit, its space is a document's, it comes next, its image is taken
 pub record IsPageTaken (done : List PageChange) (s : Store) (c : PageChange) : Type 0 where
   pub commit : c.id.space.commit < 2 ^ 64
   pub ordinal : c.id.space.ordinal < 2 ^ 64
@@ -54,6 +57,7 @@ pub record IsPageTaken (done : List PageChange) (s : Store) (c : PageChange) : T
   pub next : IsTrue (is_next_page (last_in done) c.id)
   pub image : IsImageTaken s c.id c.page
 
+-- each page is taken after those before it
 abbrev pub ArePagesTaken : List PageChange → Store → List PageChange → Type 0
 ArePagesTaken done s [] = Unit {0}
 ArePagesTaken done s (c ∷ cs) = IsPageTaken done s c × ArePagesTaken (done ++ c ∷ []) s cs

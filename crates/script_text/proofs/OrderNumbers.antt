@@ -78,6 +78,7 @@ past_named most n word small few e past =
     named_none most word (λ m some within written.
     let same : m ≡ n = decimal_injective m n (omega arith) few (written ∙ sym e) in absurd (omega arith))
 
+-- a word names the number that it is written as, and none where it is no number, 0 or past the last
 pub ruleset number_laws = (named_found, no_number_named, zero_named, past_named)
 
 both-next : (a b : List ℕ) (o : Option ℕ) (ns : Option (List ℕ)) → with_more a (both o (Some [])) ≡ Some b → with_more a (both o ns) ≡ with_more b ns

@@ -1,5 +1,5 @@
 -- Texts of journals, computed.
-use Rattle.std.proofs.Common.{◌≡◌, ℕ, true, false, List, [], ◌∷◌, None, refl, arith}
+use Rattle.std.proofs.Common.{◌≡◌, ℕ, true, false, List, [], ◌∷◌, ◌++◌, None, refl, arith}
 use Rattle.std.proofs.lemmas.Fmt.{decimal_digit}
 use Rattle.std.specs.Prelude.{codes}
 use Rattle.xq_ast.specs.declared.refusal.PyxRefusal.TheVariants as pyx
@@ -46,5 +46,6 @@ other_events : text (
     ∷ Settled 3 3 false
     ∷ Left 3
     ∷ [])
-    ≡ codes "3 granted 'a' S, 'it''s' X\n2 refused 'it''s' by 3\n2 error Pyx BadLine 2\n2 answer 0\n2 rolled back\n3 doubt 7\n2 settled 3 yes\n3 settled 3 no\n3 left\n"
+    ≡ codes "3 granted 'a' S, 'it''s' X\n2 refused 'it''s' by 3\n2 error Pyx BadLine 2\n2 answer 0\n"
+    ++ codes "2 rolled back\n3 doubt 7\n2 settled 3 yes\n3 settled 3 no\n3 left\n"
 other_events = rw (decimal_digit 0 (omega arith), decimal_digit 2 (omega arith), decimal_digit 3 (omega arith), decimal_digit 7 (omega arith)) refl

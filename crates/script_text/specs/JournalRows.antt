@@ -39,6 +39,7 @@ MissesRows words (row ∷ more) = ((rest : List ℕ) → words ≢ row_word row 
 abbrev pub answer_event : ℕ → Says → Event
 answer_event s what = Answered s (record { call = None; says = what })
 
+-- the lines that an answer has after its first line: those that it says
 abbrev pub says_behind : Says → List Line
 says_behind (says.Lines all) = all
 says_behind _ = []
@@ -48,6 +49,7 @@ abbrev pub lines_behind : Event → List Line
 lines_behind (Answered s reply) = says_behind reply.says
 lines_behind _ = []
 
+-- the names of the needs are UTF-8
 abbrev pub AreUtf8 : List Need → Type 0
 AreUtf8 [] = Unit {0}
 AreUtf8 (n ∷ more) = IsUtf8 n.name × AreUtf8 more

@@ -29,6 +29,7 @@ abbrev pub behind_name : List ℕ → Option (List ℕ × List ℕ) → Option (
 behind_name name None = None
 behind_name name (Some found) = Some (name ++ found.0, found.1)
 
+-- one of the bytes is a single quote
 abbrev pub has_quote : List ℕ → Bool
 has_quote [] = false
 has_quote (b ∷ more) = b == 39 || has_quote more
@@ -38,6 +39,7 @@ pub record IsCutName (bytes before behind : List ℕ) : Type 0 where
   pub whole : bytes ≡ before ++ 39 ∷ behind
   pub first : has_quote before ≡ false
 
+-- the first byte is there, and is a single quote
 abbrev pub begins_quoted : List ℕ → Bool
 begins_quoted [] = false
 begins_quoted (b ∷ more) = b == 39
@@ -52,14 +54,17 @@ abbrev pub ReadsQuoted : Option NameText → List ℕ → Type 0
 ReadsQuoted (Some found) bytes = IsUtf8 found.name × (quoted found.name ++ found.rest.now ≡ bytes) × (begins_quoted found.rest.now ≡ false)
 ReadsQuoted None bytes = (name rest : List ℕ) → begins_quoted rest ≡ false → quoted name ++ rest ≢ bytes
 
+-- a space and a mode, and what stands after; or the bytes begin with no such
 abbrev pub ReadsMode : Option ModeText → List ℕ → Type 0
 ReadsMode (Some found) bytes = codes " " ++ (mode_text found.mode ++ found.rest.now) ≡ bytes
 ReadsMode None bytes = (mode : LockMode) (rest : List ℕ) → codes " " ++ (mode_text mode ++ rest) ≢ bytes
 
+-- a need, and what stands after; or the bytes begin with none
 abbrev pub ReadsNeed : Option NeedText → List ℕ → Type 0
 ReadsNeed (Some found) bytes = IsUtf8 found.need.name × (need_text found.need ++ found.rest.now ≡ bytes)
 ReadsNeed None bytes = (need : Need) (rest : List ℕ) → need_text need ++ rest ≢ bytes
 
+-- the bytes are needs, one at least; or they are not
 abbrev pub ReadsNeeds : Option (List Need) → List ℕ → Type 0
 ReadsNeeds (Some needs) bytes = (0 < length needs) × AreUtf8 needs × (needs_text needs ≡ bytes)
 ReadsNeeds None bytes = (needs : List Need) → 0 < length needs → needs_text needs ≢ bytes

@@ -22,6 +22,7 @@ doubled (b ∷ bs) = if b == 39 then b ∷ b ∷ doubled bs else b ∷ doubled b
 abbrev pub quoted : List ℕ → List ℕ
 quoted name = 39 ∷ (doubled name ++ 39 ∷ [])
 
+-- `S` or `X`
 abbrev pub mode_text : LockMode → List ℕ
 mode_text S = codes "S"
 mode_text X = codes "X"
@@ -40,10 +41,12 @@ needs_text (n ∷ m ∷ more) = need_text n ++ (codes ", " ++ needs_text (m ∷ 
 abbrev pub line_of : ℕ → List ℕ → Line
 line_of session words = decimal session ++ (codes " " ++ words)
 
+-- `began update`, or `began read` and the number of the commit
 abbrev pub kind_text : BeginKind → List ℕ
 kind_text Updating = codes "began update"
 kind_text (Reading n) = codes "began read " ++ decimal n
 
+-- `yes` or `no`
 abbrev pub stands_text : Bool → List ℕ
 stands_text true = codes "yes"
 stands_text false = codes "no"
@@ -55,6 +58,7 @@ answer_lines s (says.Lines all) = line_of s (codes "answer " ++ decimal (length 
 answer_lines s (says.Error code) = line_of s (codes "error " ++ code_text code) ∷ []
 answer_lines s _ = []
 
+-- the lines of an event: one, and after an answer of lines these
 abbrev pub event_lines : Event → List Line
 event_lines (Began s kind) = line_of s (kind_text kind) ∷ []
 event_lines (Granted s needs) = line_of s (codes "granted " ++ needs_text needs) ∷ []
@@ -67,6 +71,7 @@ event_lines (Doubt s n mark) = line_of s (codes "doubt " ++ decimal n) ∷ []
 event_lines (Settled by s stands) = line_of by (codes "settled " ++ (decimal s ++ (codes " " ++ stands_text stands))) ∷ []
 event_lines (Left s) = line_of s (codes "left") ∷ []
 
+-- the lines of a journal's events, one event after another
 abbrev pub journal_lines : List Event → List Line
 journal_lines [] = []
 journal_lines (e ∷ more) = event_lines e ++ journal_lines more
@@ -93,10 +98,12 @@ told e = e
 abbrev pub IsOneLine : List ℕ → Type 0
 IsOneLine bytes = IsUtf8 bytes × IsPlain bytes
 
+-- each line is UTF-8 without a newline
 abbrev pub AreLines : List Line → Type 0
 AreLines [] = Unit {0}
 AreLines (line ∷ more) = IsOneLine line × AreLines more
 
+-- the name of each need is UTF-8 without a newline
 abbrev pub HaveNames : List Need → Type 0
 HaveNames [] = Unit {0}
 HaveNames (n ∷ more) = IsOneLine n.name × HaveNames more
@@ -108,10 +115,12 @@ IsAnswer (says.Lines all) = AreLines all × (length all < 2 ^ 64)
 IsAnswer (says.Error code) = InRange code
 IsAnswer _ = ⊥
 
+-- a commit's number, where the kind has one, has 64 bits
 abbrev pub IsKind : BeginKind → Type 0
 IsKind Updating = Unit {0}
 IsKind (Reading n) = n < 2 ^ 64
 
+-- a session's number has 32 bits
 abbrev pub IsSession : ℕ → Type 0
 IsSession s = s < 2 ^ 32
 

@@ -6,6 +6,7 @@ use Rattle.script_text.specs.declared.journals.pieces.Piece.TheVariants.{Words, 
 use Rattle.xq_ast.specs.declared.need.Need.{Need}
 use Rattle.script_text.specs.JournalText.{doubled, need_text}
 
+-- a part as it is written: words as they stand, a number in decimal digits, and words with each quote twice
 abbrev pub piece_text : Piece → List ℕ
 piece_text (Words words) = words.now
 piece_text (Number n) = decimal n

@@ -24,6 +24,7 @@ is_text line = utf8_valid_len line == length line
 abbrev pub is_end : Line → Bool
 is_end line = bytes_eq line (codes ".")
 
+-- one of the lines ends the lines of a LOAD
 abbrev pub has_end : List Line → Bool
 has_end [] = false
 has_end (line ∷ behind) = is_end line || has_end behind
@@ -37,13 +38,16 @@ ends_word (b ∷ bs) = b == 32 || (b == 9 || (b == 34 || b == 39))
 abbrev pub opens_load : Line → Bool
 opens_load line = starts_with nat_eq line (codes "LOAD") && ends_word (drop 4 line)
 
+-- a space or a tab
 abbrev pub is_blank_byte : ℕ → Bool
 is_blank_byte b = b == 32 || b == 9
 
+-- all bytes of the line are spaces and tabs
 abbrev pub is_blank : Line → Bool
 is_blank [] = true
 is_blank (b ∷ bs) = is_blank_byte b && is_blank bs
 
+-- the line is `SESSION`
 abbrev pub is_session : Line → Bool
 is_session line = bytes_eq line (codes "SESSION")
 
@@ -51,6 +55,7 @@ is_session line = bytes_eq line (codes "SESSION")
 abbrev pub is_order : Line → Bool
 is_order line = bytes_eq (before_space line) (codes "ORDER")
 
+-- the line begins with this byte
 abbrev pub begins_with : ℕ → Line → Bool
 begins_with b [] = false
 begins_with b (c ∷ cs) = c == b
@@ -64,6 +69,7 @@ kind_of line =
     (if is_session line then Session else
     (if is_order line then Order else Call))))
 
+-- 1 where it holds, and else 0
 abbrev pub one_if : Bool → ℕ
 one_if true = 1
 one_if false = 0
@@ -81,10 +87,12 @@ abbrev pub number_named : (most : ℕ) → List ℕ → Option ℕ
 number_named zero word = None
 number_named (suc n) word = if bytes_eq (decimal (suc n)) word then Some (suc n) else number_named n word
 
+-- a number and the numbers after it, where all of them are there
 abbrev pub both : Option ℕ → Option (List ℕ) → Option (List ℕ)
 both (Some n) (Some ns) = Some (n ∷ ns)
 both _ _ = None
 
+-- the numbers from 1 to `most` that the words are written as, if each word is one
 abbrev pub numbers : ℕ → List (List ℕ) → Option (List ℕ)
 numbers most [] = Some []
 numbers most (word ∷ words) = both (number_named most word) (numbers most words)
@@ -108,6 +116,7 @@ pub record Reading : Type 0 where
   pub count : ℕ
   pub lines : ℕ
 
+-- nothing has been read
 abbrev pub start : Reading
 start = record { ended = []; calls = []; last = None; begun = 0; order = []; in_load = false; count = 0; lines = 0 }
 
@@ -115,6 +124,7 @@ start = record { ended = []; calls = []; last = None; begun = 0; order = []; in_
 abbrev pub sessions_of : Reading → List (List CallText)
 sessions_of r = if r.begun == 0 then r.ended else r.ended ++ (r.calls ++ option_to_list r.last) ∷ []
 
+-- one session more has begun, without calls
 abbrev pub with_session : Reading → Reading
 with_session r = record r { ended = sessions_of r; calls = []; last = None; begun = r.begun + 1 }
 
@@ -122,17 +132,21 @@ with_session r = record r { ended = sessions_of r; calls = []; last = None; begu
 abbrev pub continued : Line → CallText → CallText
 continued line call = record call { text = call.text ++ 10 ∷ line }
 
+-- a line that continues the last call; it is refused where there is no call, or where the last one is a LOAD
 abbrev pub with_continuation : Line → Option CallText → Reading → Result Reading ScriptRefusal
 with_continuation line None r = Err BadScript
 with_continuation line (Some call) r = if opens_load call.text then Err BadScript else Ok (record r { last = Some (continued line call) })
 
+-- the order with these numbers at its end; it is refused where a word was no number
 abbrev pub with_numbers : Option (List ℕ) → Reading → Result Reading ScriptRefusal
 with_numbers None r = Err BadScript
 with_numbers (Some ns) r = Ok (record r { order = r.order ++ ns })
 
+-- the call of this line, without PYX
 abbrev pub call_of : Line → CallText
 call_of line = record { text = line; pyx = [] }
 
+-- one call more, of this line; the next lines are those of a LOAD where it opens one
 abbrev pub with_call : Line → Reading → Reading
 with_call line r = record r { calls = r.calls ++ option_to_list r.last; last = Some (call_of line); count = r.count + 1; in_load = opens_load line }
 
@@ -140,6 +154,7 @@ with_call line r = record r { calls = r.calls ++ option_to_list r.last; last = S
 abbrev pub stays_open : Line → List Line → Bool
 stays_open line behind = opens_load line && not (has_end behind)
 
+-- the last call with one PYX line more
 abbrev pub with_pyx : Line → Option CallText → Option CallText
 with_pyx line None = None
 with_pyx line (Some call) = Some (record call { pyx = call.pyx ++ line ∷ [] })
@@ -159,10 +174,12 @@ read_kind sessions Call line behind r =
     (if nat_le CALLS_MAX r.count then Err TooManyCalls else
     (if stays_open line behind then Err LoadOpen else Ok (with_call line r)))
 
+-- what has been read after a line: it is refused where it is not UTF-8, and else taken as one of a LOAD or by its kind
 abbrev pub read_line : ℕ → Line → List Line → Reading → Result Reading ScriptRefusal
 read_line sessions line behind r =
     if is_text line then (if r.in_load then Ok (loaded line r) else read_kind sessions (kind_of line) line behind r) else Err NotUtf8
 
+-- the refusal with the number of its line
 abbrev pub at_line : ℕ → Result Reading ScriptRefusal → Result Reading RefusedScript
 at_line n (Ok r) = Ok r
 at_line n (Err why) = Err (record { line = n; why = why })
@@ -171,6 +188,7 @@ at_line n (Err why) = Err (record { line = n; why = why })
 abbrev pub step : ℕ → Line → List Line → Reading → Result Reading RefusedScript
 step sessions line behind r = at_line (next_line r.lines) (read_line sessions line behind (record r { lines = next_line r.lines }))
 
+-- goes on with what was read, or stays at the refusal
 infixl 10 ◌>>=◌
 abbrev pub ◌>>=◌ : {A B : Type 0} → Result A RefusedScript → (A → Result B RefusedScript) → Result B RefusedScript
 (Ok x) >>= f = f x
@@ -181,6 +199,7 @@ abbrev pub after : ℕ → List Line → Reading → Result Reading RefusedScrip
 after sessions [] r = Ok r
 after sessions (line ∷ behind) r = step sessions line behind r >>= after sessions behind
 
+-- the script of what has been read: its sessions and its order
 abbrev pub script_of : Reading → Script
 script_of r = record { sessions = sessions_of r; order = r.order }
 

@@ -42,6 +42,7 @@ use Rattle.session_core.proofs.Stepping.{count_same, forests_same}
 -- ---- each event's own clauses
 
 module _ (B : Base) (past : List Event) where
+  -- an updating transaction may begin where its session is idle and its last event lets it follow
   pub step_began_update : (s : ℕ) → state s past ≡ Idle → Follows (Began s kinds.Updating) past → IsStep B (Began s kinds.Updating) past
   step_began_update s idle follows =
       record {
@@ -57,6 +58,7 @@ module _ (B : Base) (past : List Event) where
         next = tt;
       }
 
+  -- a read-only transaction at the newest commit may begin where its session is idle and its last event lets it follow
   pub step_began_read : (s n : ℕ) → state s past ≡ Idle → n ≡ B.numbers.commit + commit_count past → Follows (Began s (kinds.Reading n)) past
       → IsStep B (Began s (kinds.Reading n)) past
   step_began_read s n idle number follows =
@@ -73,6 +75,7 @@ module _ (B : Base) (past : List Event) where
         next = tt;
       }
 
+  -- a grant of free locks may come where its session's last event lets it follow
   pub step_granted : (s : ℕ) (asked : List Need) → IsGranted s asked past → Follows (Granted s asked) past → IsStep B (Granted s asked) past
   step_granted s asked granted follows =
       record {
@@ -88,6 +91,7 @@ module _ (B : Base) (past : List Event) where
         next = tt;
       }
 
+  -- a refusal of locks that another session holds may come where its session's last event lets it follow
   pub step_refused : (s : ℕ) (name : List ℕ) (holder : ℕ) (asked : List Need) → IsRefused s name holder asked past → Follows (Refused s name holder asked) past
       → IsStep B (Refused s name holder asked) past
   step_refused s name holder asked refused follows =
@@ -107,6 +111,8 @@ module _ (B : Base) (past : List Event) where
   not_spent : (a b : ℕ) → a < b → b ≤ a → ⊥
   not_spent a b below above = omega arith
 
+  -- a commit with the next number may come after an updating transaction that runs next,
+  -- where nothing is in doubt and a number is left
   pub step_committed : (s n : ℕ) → state s past ≡ Updating → in_doubt past ≡ None → HasCommitLeft B.numbers past → n ≡ next_number B.numbers past
       → RunsNext B s past → Follows (Committed s n) past → IsStep B (Committed s n) past
   step_committed s n updating settled left number runs follows = record {
@@ -121,6 +127,8 @@ module _ (B : Base) (past : List Event) where
     next = tt;
   }
 
+  -- a commit may come into doubt with the next number and the next mark, in an updating transaction,
+  -- where nothing is in doubt and a number is left
   pub step_doubted : (s n : ℕ) (mark : Mark) → state s past ≡ Updating → in_doubt past ≡ None → HasCommitLeft B.numbers past → n ≡ next_number B.numbers past
       → IsNextMark past mark → Follows (Doubt s n mark) past → IsStep B (Doubt s n mark) past
   step_doubted s n mark updating settled left number next_mark follows = record {
@@ -135,6 +143,7 @@ module _ (B : Base) (past : List Event) where
     next = tt;
   }
 
+  -- a commit in doubt may be settled, with yes or no, by a session that may, where its transaction runs next
   pub step_settled : (by s : ℕ) (stands : Bool) → state s past ≡ InDoubt → MaySettle by s (state by past) → RunsNext B s past
       → Follows (Settled by s stands) past → IsStep B (Settled by s stands) past
   step_settled by s true doubt may runs follows =
@@ -164,6 +173,7 @@ module _ (B : Base) (past : List Event) where
         next = tt;
       }
 
+  -- a read-only transaction may end where its session's last event lets it follow
   pub step_ended : (s : ℕ) → IsTrue (is_reading (state s past)) → Follows (Ended s) past → IsStep B (Ended s) past
   step_ended s reading follows =
       record {
@@ -179,6 +189,7 @@ module _ (B : Base) (past : List Event) where
         next = tt;
       }
 
+  -- an open transaction that runs next may be rolled back where its session's last event lets it follow
   pub step_rolled_back : (s : ℕ) → IsTrue (is_open (state s past)) → RunsNext B s past → Follows (RolledBack s) past → IsStep B (RolledBack s) past
   step_rolled_back s is runs follows =
       record {
@@ -194,6 +205,7 @@ module _ (B : Base) (past : List Event) where
         next = tt;
       }
 
+  -- a session with an open transaction that runs next may leave where its last event lets it follow
   pub step_left : (s : ℕ) → IsTrue (is_open (state s past)) → RunsNext B s past → Follows (Left s) past → IsStep B (Left s) past
   step_left s is runs follows =
       record {
@@ -209,6 +221,7 @@ module _ (B : Base) (past : List Event) where
         next = tt;
       }
 
+-- a read-only transaction is an open one
 pub open_of_reading : (x : State) → IsTrue (is_reading x) → IsTrue (is_open x)
 open_of_reading Idle is = is
 open_of_reading Updating is = refl
@@ -312,6 +325,7 @@ module _ (B : Base) (past : List Event) (t : ℕ) (r : Reply) (refusals : Refusa
   held-with_reply name None = refl
   held-with_reply name (Some u) = held-replied_by name u u.kind
 
+  -- an answer leaves the table, the locks, the forests and the commit in doubt as the events tell them
   pub ties_answered : (states : States) (locks : Locks) (forests : List Forest) (doubt : Option (ℕ × Forest)) → Ties B past states locks forests doubt
       → Ties B (Answered t r ∷ past) states locks forests doubt
   ties_answered states locks forests doubt ties = record {
@@ -323,6 +337,8 @@ module _ (B : Base) (past : List Event) (t : ℕ) (r : Reply) (refusals : Refusa
 
 -- ---- the core with one event more
 
+-- what is held is a core with one event more, if the longer journal is legal, all else is what it tells,
+-- there is room for the events that end transactions, and all forests are valid
 pub core_more : (B : Base) (journal journal' : List Event) (e : Event) (capacity : ℕ) (states : States) (opened number : ℕ) (locks : Locks)
     (forests : List Forest) (doubt : Option (ℕ × Forest))
     → journal' ≡ journal ++ e ∷ [] → SoFar B (journal ++ e ∷ []) → Ties B (e ∷ past_of journal) states locks forests doubt → opened ≡ fin.len states
@@ -341,15 +357,19 @@ core_more B journal journal' e capacity states opened number locks forests doubt
 
 -- ---- how many transactions are open
 
+-- a session that was not in the table makes it longer by one
 pub len-begun : (states : States) (t : ℕ) (x : State) → fin.get states t ≡ None → fin.len (fin.insert states t x) ≡ fin.len states + 1
 len-begun states t x none = fin.len-insert nat_cmp_total states t x ∙ ap (λ b. cond b (fin.len states) (fin.len states + 1)) (ap is_some none)
 
+-- a session that was in the table leaves its length as it is
 pub len-kept : (states : States) (t : ℕ) (x : State) → is_some (fin.get states t) ≡ true → fin.len (fin.insert states t x) ≡ fin.len states
 len-kept states t x some = fin.len-insert nat_cmp_total states t x ∙ ap (λ b. cond b (fin.len states) (fin.len states + 1)) some
 
+-- a session that was in the table makes it shorter by one where it is taken out
 pub len-gone : (states : States) (t : ℕ) → is_some (fin.get states t) ≡ true → fin.len (fin.remove states t) ≡ fin.len states - 1
 len-gone states t some = fin.len-remove nat_cmp_total states t ∙ ap (λ b. cond b (fin.len states - 1) (fin.len states)) some
 
+-- a table with a session in it has a length above 0
 pub some_open : (states : States) (t : ℕ) → is_some (fin.get states t) ≡ true → 0 < fin.len states
 some_open states t some = by_len (fin.len states) refl
   where
@@ -357,6 +377,7 @@ some_open states t some = by_len (fin.len states) refl
     by_len zero none = absurd (true≢false (sym some ∙ ap (λ m. is_some (fin.get m t)) (fin.empty_of_len states none) ∙ ap is_some (fin.get-empty nat_cmp t)))
     by_len (suc n) is = omega arith
 
+-- a session with an open transaction has an entry in the table
 pub in_table : (x : State) → IsTrue (is_open x) → is_some (entry_of x) ≡ true
 in_table Idle is = is
 in_table Updating is = refl
@@ -391,6 +412,7 @@ take-min xs k = by_place (within_or k (length xs))
     by_place (inl is) = ap (λ n. take n xs) is
     by_place (inr is) = ap (λ n. take n xs) is.0 ∙ take-length xs ∙ sym (take_all k xs is.1)
 
+-- of the forests of a journal, the one at k, or the last where there are fewer, is the one after k commits
 pub forest_found : (B : Base) (past : List Event) (forests : List Forest) (k : ℕ) (F : Forest) → forests ≡ forests_of B.forest (commits past)
     → slice_get forests (min k (length forests - 1)) ≡ Some F → F ≡ after B past k
 forest_found B past forests k F are found =
@@ -401,6 +423,7 @@ forest_found B past forests k F are found =
     last : length forests - 1 ≡ length (commits past)
     last = let count : length forests ≡ length (commits past) + 1 = ap length are ∙ length-forests_of B.forest (commits past) in omega arith
 
+-- a journal has a forest at least
 pub some_forest : (B : Base) (past : List Event) (forests : List Forest) → forests ≡ forests_of B.forest (commits past) → 0 < length forests
 some_forest B past forests are = let count : length forests ≡ length (commits past) + 1 = ap length are ∙ length-forests_of B.forest (commits past) in
     omega arith
@@ -415,6 +438,7 @@ pub forest_read : (B : Base) (past : List Event) (forests : List Forest) (s n k 
 forest_read B past forests s n k F are found place reads = forest_found B past forests k F are found ∙ ap (after B past) place
     ∙ ap (forest_in B past) (sym reads)
 
+-- a session that is no reader sees the forest that stands at the newest commit number
 pub forest_newest : (B : Base) (past : List Event) (forests : List Forest) (x : State) (number : ℕ) (F : Forest) → forests ≡ forests_of B.forest (commits past)
     → slice_get forests (min (number - B.numbers.commit) (length forests - 1)) ≡ Some F → number ≡ B.numbers.commit + commit_count past
     → ((n : ℕ) → x ≡ Reading n → ⊥) → F ≡ forest_in B past x

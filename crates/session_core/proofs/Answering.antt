@@ -162,6 +162,7 @@ tells_told (says.Error code) is = by_code code is
     by_code code is = absurd (true≢false (sym is))
 tells_told answer is = absurd (true≢false (sym is))
 
+-- what a statement answers is something that the documents may tell
 pub stmt_told : (F : Forest) (call : Call) → is_told (says_of (stmt F call).says) ≡ true
 stmt_told F call = tells_told (says_of (stmt F call).says) (stmt_tells F call)
 
@@ -372,6 +373,7 @@ text_in_order InDoubt code is sound = sound refl
 abbrev ran_if : Call → Says → Bool → Bool → List Ran
 ran_if call answer b c = if b then (if c then record { call = call; says = answer } ∷ [] else []) else []
 
+-- a statement whose answer says that it ran is the one call that ran
 pub one_ran : (call : Call) (answer : Says) → is_statement call ≡ true → says_run answer ≡ true
     → ran_by (Some call) answer ≡ record { call = call; says = answer } ∷ []
 one_ran call answer statement runs = ap (λ b. ran_if call answer b (says_run answer)) statement ∙ ap (ran_if call answer true) runs
@@ -416,10 +418,12 @@ nothing_told B s past call answer none = subst (IsSaidOf (forest_for B s past (s
 -- ---- right answers made
 
 module _ (B : Base) (s : ℕ) (past : List Event) where
+  -- an answer by the order of refusals to what did not run is right
   pub right_unrun : (call : Option Call) (answer : Says) → AnswersInOrder B.numbers s past call answer → ran_by call answer ≡ []
       → IsRightAnswer B s past call answer
   right_unrun call answer order none = record { in_order = order; by_documents = nothing_told B s past call answer none }
 
+  -- want of memory is a right answer to any call
   pub right_lacking : (call : Option Call) → IsRightAnswer B s past call (says.Error codes.NoMemory)
   right_lacking call = right_unrun call (says.Error codes.NoMemory) lacks_memory (none_ran call (says.Error codes.NoMemory) refl)
 
@@ -556,6 +560,7 @@ module _ (B : Base) (past : List Event) (s : ℕ) where
   page_order : (call : Call) → makes_pages call ≡ true → IsBehindSettling Updating (Some call) (says.Error (codes.Spent spent.Page last_number))
   page_order (Create name) is = refl
   page_order (Load name pyx_lines) is = refl
+  page_order (Update what) is = refl
   page_order call is = absurd (true≢false (sym is))
 
   finding_no_page : AtEach LocksAt past → (call : Call) (answer : Says) → FindsNoPage s call answer past → Keeps (Some call) answer

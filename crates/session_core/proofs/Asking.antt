@@ -59,6 +59,7 @@ module _ (past : List Event) (locks : Locks) (are : LocksAre locks past) (s : �
   free : (n : Need) → table.IsFree locks s n → IsFree s n past
   free n is t other = sym (blocked_is t n other) ∙ is t
 
+  -- what is free in the table of locks is free in the journal
   pub all_free : (asked : List Need) → All (table.IsFree locks s) asked → AllFree s asked past
   all_free [] all = tt
   all_free (n ∷ more) all = (free n (all 0 n (omega arith)), all_free more (λ k d within. all (suc k) d (omega arith)))
@@ -76,6 +77,7 @@ module _ (past : List Event) (locks : Locks) (are : LocksAre locks past) (s : �
       by_test true blocked = absurd (too_low (is.least t (blocked_is t n other ∙ blocked)))
       by_test false not_blocked = refl
 
+  -- a call's locks that the table refuses are refused in the journal, for the same name and the same holder
   pub refused : (asked : List Need) (name : List ℕ) (holder : ℕ) → state s past ≡ Updating → (call : Call) → needs_of call ≡ asked
       → IsRefusal locks s asked (Held name holder) → IsRefused s name holder asked past
   refused asked name by updating call needs_are is =

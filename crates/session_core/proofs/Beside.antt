@@ -42,6 +42,7 @@ whose (Left s) = s
 
 -- ---- the transaction of a session beside an event of another's
 
+-- an event of another's transaction leaves a session's open transaction as it is
 pub open-beside : (s : ℕ) (e : Event) (past : List Event) → (whose e ≡ s → ⊥) → open_of s (e ∷ past) ≡ open_of s past
 open-beside s (Began t kind) past other = elsewhere t s (open_of s past) (Some (begun kind)) other
 open-beside s (Granted t more) past other = elsewhere t s (open_of s past) (with_locks more (open_of s past)) other
@@ -54,9 +55,11 @@ open-beside s (Doubt t n mark) past other = elsewhere t s (open_of s past) (with
 open-beside s (Settled by t stands) past other = elsewhere t s (open_of s past) None other
 open-beside s (Left t) past other = elsewhere t s (open_of s past) None other
 
+-- an event of another's transaction leaves a session's state as it is
 pub state-beside : (s : ℕ) (e : Event) (past : List Event) → (whose e ≡ s → ⊥) → state s (e ∷ past) ≡ state s past
 state-beside s e past other = ap state_with (open-beside s e past other)
 
+-- an event of another's transaction leaves a session's locks as they are
 pub locks-beside : (s : ℕ) (e : Event) (past : List Event) → (whose e ≡ s → ⊥) → locks_of s (e ∷ past) ≡ locks_of s past
 locks-beside s e past other = ap locks_in (open-beside s e past other)
 
@@ -69,9 +72,11 @@ last-beside s e past other = elsewhere (session_of e) s (last_of s past) (Some e
 held_itself : (locks : List Need) → AreHeld locks locks
 held_itself locks = held_if locks locks ((λ name is. is), (λ name is. is))
 
+-- forests that agree at each name of the locks agree at the locks one by one
 pub agree_at : (locks : List Need) (F G : Forest) → Agree locks F G → AgreeAt locks F G
 agree_at locks F G agree = agree_needs locks locks F G (held_itself locks) agree
 
+-- forests that agree at the locks one by one agree at each name of the locks
 pub agree_of : (locks : List Need) (F G : Forest) → AgreeAt locks F G → Agree locks F G
 agree_of [] F G agree name there = absurd (true≢false (sym there))
 agree_of (n ∷ more) F G agree name there = by_place (agree_of more F G agree.1 name) (bytes_eq n.name name) refl there

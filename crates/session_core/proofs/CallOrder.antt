@@ -22,6 +22,7 @@ closes_settled true (Left s) past is = absurd is
 closes_settled false (Left s) past is = absurd is
 closes_settled own e past is = refl
 
+-- what the session's last event lets follow comes in the order of the events of a call
 pub in_order : (e : Event) (past : List Event) → Follows e past → CallOrderAt e past
 in_order e past follows = by_last (last_of (session_of e) past) follows.0 follows.1
   where

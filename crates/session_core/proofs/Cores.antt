@@ -49,6 +49,7 @@ module _ (B : Base) (journal : List Event) (capacity : ℕ) (states : States) (o
   pub open_counted : (t : ℕ) → IsTrue (is_open (state t past)) → 1 ≤ opened
   open_counted t is = let some = some_open states t (entry t is) in let same = core.opened_is in omega arith
 
+  -- where a transaction is open there is room for one event more
   pub open_room : (t : ℕ) → IsTrue (is_open (state t past)) → length journal < capacity
   open_room t is = let some = open_counted t is in let room = core.room in omega arith
 
@@ -68,6 +69,7 @@ module _ (B : Base) (journal : List Event) (capacity : ℕ) (states : States) (o
   updating_open : (t : ℕ) → state t past ≡ Updating → IsTrue (is_open (state t past))
   updating_open t is = ap is_open is
 
+  -- a core stays one where an idle session begins an updating transaction: its event, its state and the count follow
   pub core_began_update : (t : ℕ) → state t past ≡ Idle → Follows (Began t kinds.Updating) past → (journal' : List Event) (capacity' : ℕ) (states' : States)
       → journal' ≡ journal ++ Began t kinds.Updating ∷ [] → states' ≡ fin.insert states t Updating → length journal' + (opened + 1) ≤ capacity'
       → IsCore B (holding journal' capacity' states' (opened + 1) number locks forests doubt)
@@ -79,6 +81,7 @@ module _ (B : Base) (journal : List Event) (capacity : ℕ) (states : States) (o
       (begun_count t Updating states' idle set) room
       (same_count (Began t kinds.Updating) (count_same (Began t kinds.Updating) past refl)) core.valid core.doubt_valid
 
+  -- a core stays one where an idle session begins to read at the newest commit
   pub core_began_read : (t : ℕ) → state t past ≡ Idle → Follows (Began t (kinds.Reading (newest_number B.numbers past))) past
       → (journal' : List Event) (capacity' : ℕ) (states' : States)
       → journal' ≡ journal ++ Began t (kinds.Reading number) ∷ [] → states' ≡ fin.insert states t (Reading number) → length journal' + (opened + 1) ≤ capacity'
@@ -98,6 +101,7 @@ module _ (B : Base) (journal : List Event) (capacity : ℕ) (states : States) (o
   both_gone e t states' locks' out released fs d ties =
       subst (λ m. Ties B (e ∷ past) m locks' fs d) (sym out) (subst (λ l. Ties B (e ∷ past) (fin.remove states t) l fs d) (sym released) ties)
 
+  -- a core stays one where a read-only transaction ends: its state and its locks go
   pub core_ended : (t : ℕ) → IsTrue (is_reading (state t past)) → Follows (Ended t) past
       → (journal' : List Event) (capacity' : ℕ) (states' : States) (locks' : Locks)
       → journal' ≡ journal ++ Ended t ∷ [] → capacity' ≡ capacity → states' ≡ fin.remove states t → locks' ≡ fin.remove locks t
@@ -109,6 +113,7 @@ module _ (B : Base) (journal : List Event) (capacity : ℕ) (states : States) (o
       (gone_count t states' (entry t is) out) (gone_room (Ended t) journal' capacity' more same (open_counted t is))
       (same_count (Ended t) (count_same (Ended t) past refl)) core.valid core.doubt_valid
 
+  -- a core stays one where an open transaction is rolled back: its state and its locks go
   pub core_rolled_back : (t : ℕ) → IsTrue (is_open (state t past)) → Follows (RolledBack t) past
       → (journal' : List Event) (capacity' : ℕ) (states' : States) (locks' : Locks)
       → journal' ≡ journal ++ RolledBack t ∷ [] → capacity' ≡ capacity → states' ≡ fin.remove states t → locks' ≡ fin.remove locks t
@@ -120,6 +125,7 @@ module _ (B : Base) (journal : List Event) (capacity : ℕ) (states : States) (o
       (gone_count t states' (entry t is) out) (gone_room (RolledBack t) journal' capacity' more same (open_counted t is))
       (same_count (RolledBack t) (count_same (RolledBack t) past refl)) core.valid core.doubt_valid
 
+  -- a core stays one where a session with an open transaction leaves: its state and its locks go
   pub core_left : (t : ℕ) → IsTrue (is_open (state t past)) → Follows (Left t) past
       → (journal' : List Event) (capacity' : ℕ) (states' : States) (locks' : Locks)
       → journal' ≡ journal ++ Left t ∷ [] → capacity' ≡ capacity → states' ≡ fin.remove states t → locks' ≡ fin.remove locks t
@@ -131,6 +137,7 @@ module _ (B : Base) (journal : List Event) (capacity : ℕ) (states : States) (o
       (gone_count t states' (entry t is) out) (gone_room (Left t) journal' capacity' more same (open_counted t is))
       (same_count (Left t) (count_same (Left t) past refl)) core.valid core.doubt_valid
 
+  -- a core stays one where free locks are granted: they come to those of the session
   pub core_granted : (t : ℕ) (asked : List Need) → IsGranted t asked past → Follows (Granted t asked) past
       → (journal' : List Event) (capacity' : ℕ) (locks' : Locks)
       → journal' ≡ journal ++ Granted t asked ∷ [] → locks' ≡ granted locks t asked → length journal' + opened ≤ capacity'
@@ -142,6 +149,7 @@ module _ (B : Base) (journal : List Event) (capacity : ℕ) (states : States) (o
       (ties_granted B past states locks forests doubt core.ties t asked is.updating))
       core.opened_is room (same_count (Granted t asked) (count_same (Granted t asked) past refl)) core.valid core.doubt_valid
 
+  -- a core stays one where locks are refused: the event comes, and all else is as it was
   pub core_refused : (t : ℕ) (name : List ℕ) (holder : ℕ) (asked : List Need) → IsRefused t name holder asked past → Follows (Refused t name holder asked) past
       → (journal' : List Event) (capacity' : ℕ) (locks' : Locks)
       → journal' ≡ journal ++ Refused t name holder asked ∷ [] → locks' ≡ locks → length journal' + opened ≤ capacity'
@@ -153,6 +161,7 @@ module _ (B : Base) (journal : List Event) (capacity : ℕ) (states : States) (o
       (ties_refused B past states locks forests doubt core.ties t name holder asked is.updating))
       core.opened_is room (same_count (Refused t name holder asked) (count_same (Refused t name holder asked) past refl)) core.valid core.doubt_valid
 
+  -- a core stays one with an answer that keeps the journal legal
   pub core_answered : (t : ℕ) (r : Reply) → SoFar B (journal ++ Answered t r ∷ []) → (journal' : List Event) (capacity' : ℕ)
       → journal' ≡ journal ++ Answered t r ∷ [] → length journal' + opened ≤ capacity'
       → IsCore B (holding journal' capacity' states opened number locks forests doubt)
@@ -172,6 +181,8 @@ module _ (B : Base) (journal : List Event) (capacity : ℕ) (states : States) (o
   more_number : (e : Event) → commit_count (e ∷ past) ≡ commit_count past + 1 → number + 1 ≡ B.numbers.commit + commit_count (e ∷ past)
   more_number e more = let is = core.number_is in omega arith
 
+  -- a core stays one where an updating transaction commits: its forest comes and the number rises,
+  -- if nothing is in doubt, a number is left and the forest is valid and the one after the transaction
   pub core_committed : (t : ℕ) (F : Forest) → IsForest F → state t past ≡ Updating → in_doubt past ≡ None → HasCommitLeft B.numbers past
       → F ≡ forest_behind B t past → Follows (Committed t (next_number B.numbers past)) past
       → (journal' : List Event) (capacity' : ℕ) (states' : States) (locks' : Locks) (forests' : List Forest)
@@ -191,6 +202,8 @@ module _ (B : Base) (journal : List Event) (capacity : ℕ) (states : States) (o
       (more_number e (count_one B past states locks forests doubt core.ties e t o.transaction refl o.is o.kind_is))
       (subst AllForests (sym kept) (all_more forests F core.valid valid)) core.doubt_valid
 
+  -- a core stays one where the commit of an updating transaction comes into doubt: its forest is kept apart,
+  -- if nothing was in doubt, a number is left and the forest is valid and the one after the transaction
   pub core_doubted : (t : ℕ) (F : Forest) (mark : Mark) → IsForest F → state t past ≡ Updating → in_doubt past ≡ None → HasCommitLeft B.numbers past
       → F ≡ forest_behind B t past → IsNextMark past mark → Follows (Doubt t (next_number B.numbers past) mark) past
       → (journal' : List Event) (capacity' : ℕ) (states' : States)
@@ -210,15 +223,19 @@ module _ (B : Base) (journal : List Event) (capacity : ℕ) (states : States) (o
   pub doubt_state : (s : ℕ) (F : Forest) → IsDoubt B past s F → state s past ≡ InDoubt
   doubt_state s F is = ap state_with is.open_is ∙ ap (λ b. state_with (Some (record is.transaction { in_doubt = b }))) is.marked
 
+  -- the session whose commit is in doubt stands in the table
   pub doubt_entry : (s : ℕ) (F : Forest) → IsDoubt B past s F → is_some (fin.get states s) ≡ true
   doubt_entry s F is = ap is_some (core.ties.states_are s ∙ ap entry_of (doubt_state s F is))
 
+  -- the transaction whose commit is in doubt is counted as an open one
   pub doubt_counted : (s : ℕ) (F : Forest) → IsDoubt B past s F → 1 ≤ opened
   doubt_counted s F is = let some = some_open states s (doubt_entry s F is) in let same = core.opened_is in omega arith
 
+  -- where a commit is in doubt there is room for the event that settles it
   pub doubt_room : (s : ℕ) (F : Forest) → IsDoubt B past s F → length journal < capacity
   doubt_room s F is = let some = doubt_counted s F is in let room = core.room in omega arith
 
+  -- a core stays one where the commit in doubt is settled with yes: its forest comes and the number rises
   pub core_settled_yes : (by s : ℕ) (F : Forest) → IsForest F → IsDoubt B past s F → MaySettle by s (state by past) → Follows (Settled by s true) past
       → (journal' : List Event) (capacity' : ℕ) (states' : States) (locks' : Locks) (forests' : List Forest)
       → journal' ≡ journal ++ Settled by s true ∷ [] → capacity' ≡ capacity → states' ≡ fin.remove states s → locks' ≡ fin.remove locks s
@@ -234,6 +251,7 @@ module _ (B : Base) (journal : List Event) (capacity : ℕ) (states : States) (o
       (more_number e (count_one B past states locks forests doubt core.ties e s is.transaction refl is.open_is is.kind_is))
       (subst AllForests (sym kept) (all_more forests F core.valid valid)) tt
 
+  -- a core stays one where the commit in doubt is settled with no: the forests and the number are as they were
   pub core_settled_no : (by s : ℕ) (F : Forest) → IsForest F → IsDoubt B past s F → MaySettle by s (state by past) → Follows (Settled by s false) past
       → (journal' : List Event) (capacity' : ℕ) (states' : States) (locks' : Locks)
       → journal' ≡ journal ++ Settled by s false ∷ [] → capacity' ≡ capacity → states' ≡ fin.remove states s → locks' ≡ fin.remove locks s
@@ -259,6 +277,7 @@ module _ (B : Base) (journal : List Event) (capacity : ℕ) (states : States) (o
       (subst (λ fs. IsCore B (holding journal' capacity' states' (opened - 1) number locks' fs None)) (sym kept)
       (core_settled_no by s F valid is may follows journal' capacity' states' locks' more same out released))
 
+  -- a core stays one where the commit in doubt is settled, with yes or no
   pub core_settled : (by s : ℕ) (stands : Bool) (F : Forest) → IsForest F → IsDoubt B past s F → MaySettle by s (state by past)
       → Follows (Settled by s stands) past
       → (journal' : List Event) (capacity' : ℕ) (states' : States) (number' : ℕ) (locks' : Locks) (forests' : List Forest) (doubt' : Option (ℕ × Forest))

@@ -31,9 +31,11 @@ use Rattle.session_core.proofs.Holding.{has_name, has_name-append, has_exclusive
 
 -- ---- needs that some locks cover
 
+-- the locks have the name of the need, and with X if the need is X
 abbrev pub IsHeld : Need → List Need → Type 0
 IsHeld n locks = (has_name n.name locks ≡ true) × (is_exclusive n.mode ≡ true → has_exclusive n.name locks ≡ true)
 
+-- the locks have each of the needs
 abbrev pub AreHeld : List Need → List Need → Type 0
 AreHeld [] locks = Unit {0}
 AreHeld (n ∷ more) locks = IsHeld n locks × AreHeld more locks
@@ -56,6 +58,7 @@ second_true false b e = e
 both_true : (a b : Bool) → a ≡ true → b ≡ true → (a && b) ≡ true
 both_true a b x y = ap (λ c. c && b) x ∙ y
 
+-- locks that cover some needs have each of them
 pub held_if : (asked locks : List Need) → Covers locks asked → AreHeld asked locks
 held_if [] locks covers = tt
 held_if (n ∷ more) locks covers = (
@@ -86,6 +89,7 @@ held_by_more (n ∷ more) old locks covers held =
 abbrev pub IsCovered : List Need → Ran → Type 0
 IsCovered locks r = (r.call ≡ ShowDocuments → ⊥) × AreHeld (needs r.call) locks
 
+-- no call is SHOW DOCUMENTS, and the locks cover the needs of each
 abbrev pub AllCovered : List Need → List Ran → Type 0
 AllCovered locks [] = Unit {0}
 AllCovered locks (r ∷ more) = IsCovered locks r × AllCovered locks more
@@ -102,6 +106,7 @@ append_assoc : {A : Type 0} (xs ys zs : List A) → (xs ++ ys) ++ zs ≡ xs ++ (
 append_assoc [] ys zs = refl
 append_assoc (x ∷ xs) ys zs = ap (λ l. x ∷ l) (append_assoc xs ys zs)
 
+-- the calls that ran of two lists of replies are those of the first and then those of the second
 pub ran_all-append : (rs ts : List Reply) → ran_all (rs ++ ts) ≡ ran_all rs ++ ran_all ts
 ran_all-append [] ts = refl
 ran_all-append (r ∷ rs) ts = ap (λ l. ran r ++ l) (ran_all-append rs ts) ∙ sym (append_assoc (ran r) (ran_all rs) (ran_all ts))
@@ -110,19 +115,23 @@ append_none : {A : Type 0} (xs : List A) → xs ++ [] ≡ xs
 append_none [] = refl
 append_none (x ∷ xs) = ap (λ l. x ∷ l) (append_none xs)
 
+-- with one reply more, its call, if it ran, comes at the end of the calls that ran
 pub ran_all-one : (rs : List Reply) (r : Reply) → ran_all (rs ++ r ∷ []) ≡ ran_all rs ++ ran r
 ran_all-one rs r = ran_all-append rs (r ∷ []) ∙ ap (λ l. ran_all rs ++ l) (append_none (ran r))
 
 -- ---- an open updating transaction
 
+-- the locks of an updating transaction cover all calls that ran in it; of a read-only one nothing is said
 abbrev pub CoveredBy : Transaction → BeginKind → Type 0
 CoveredBy t kinds.Updating = AllCovered t.locks (ran_all t.replies)
 CoveredBy t (kinds.Reading n) = Unit {0}
 
+-- the locks of an open transaction, if it is an updating one, cover all calls that ran in it
 abbrev pub CoveredIn : Option Transaction → Type 0
 CoveredIn None = Unit {0}
 CoveredIn (Some t) = CoveredBy t t.kind
 
+-- the locks of an updating transaction cover the needs; of a read-only one nothing is said
 abbrev pub LastHeldBy : List Need → Transaction → BeginKind → Type 0
 LastHeldBy asked t kinds.Updating = AreHeld asked t.locks
 LastHeldBy asked t (kinds.Reading n) = Unit {0}
@@ -218,6 +227,7 @@ apart_code (codes.Pyx why line) e = absurd (true≢false (sym e))
 apart_code (codes.Spent kind number) e = absurd (true≢false (sym e))
 apart_code (codes.Damaged commit ordinal page) e = absurd (true≢false (sym e))
 
+-- want of memory and a failing device say that the call did not run
 pub apart_not_run : (answer : Says) → is_apart answer ≡ true → says_run answer ≡ false
 apart_not_run (says.Error code) e = ap not (apart_code code e)
 apart_not_run says.Done e = absurd (true≢false (sym e))
@@ -238,6 +248,7 @@ shown_not_run answer (inr refused) = ap says_run refused
 abbrev ran_if : Call → Says → Bool → Bool → List Ran
 ran_if call answer b c = if b then (if c then record { call = call; says = answer } ∷ [] else []) else []
 
+-- a call whose answer says that it did not run is none that ran
 pub none_ran : (call : Option Call) (answer : Says) → says_run answer ≡ false → ran_by call answer ≡ []
 none_ran None answer e = refl
 none_ran (Some call) answer e = elim (is_statement call) as (λ b. ran_if call answer b (says_run answer) ≡ []) [

@@ -27,6 +27,7 @@ use Rattle.session_core.proofs.Holding.{locks_of, all_apart}
 use Rattle.session_core.proofs.Covering.{covered, ran_all-one}
 use Rattle.session_core.proofs.Turning.{beside_commit, AreApartLocks}
 
+-- one event more at the end of a journal is the newest of its events
 pub past-more : (journal : List Event) (e : Event) → past_of (journal ++ e ∷ []) ≡ e ∷ past_of journal
 past-more journal e = reverse-append journal (e ∷ [])
 
@@ -39,6 +40,7 @@ serial-append F (t ∷ ts) us = serial-append (run_calls F (ran_all t.replies)) 
 newest_is : (B : Base) (past : List Event) → newest B past ≡ serial B.forest (commits past)
 newest_is B past = ap (serial B.forest) (take-length (commits past))
 
+-- the newest forest after an event is the one before, with what the event commits run on it
 pub newest-more : (B : Base) (e : Event) (past : List Event) → newest B (e ∷ past) ≡ serial (newest B past) (committed_by e past)
 newest-more B e past = newest_is B (e ∷ past) ∙ serial-append B.forest (commits past) (committed_by e past)
     ∙ ap (λ F. serial F (committed_by e past)) (sym (newest_is B past))

@@ -22,10 +22,12 @@ use Rattle.session_core.specs.History.{AtEach}
 
 -- ---- a name in a list of needs
 
+-- the name stands in the list, with any mode
 abbrev pub has_name : List ℕ → List Need → Bool
 has_name name [] = false
 has_name name (n ∷ more) = bytes_eq n.name name || has_name name more
 
+-- X where the name stands there with X, S where it stands there at all, and else no mode
 abbrev pub mode_by : Bool → Bool → Option LockMode
 mode_by true there = Some X
 mode_by false true = Some S
@@ -41,6 +43,7 @@ first_mode S false exclusive there rest e = e
 first_mode X true exclusive there rest e = refl
 first_mode X false exclusive there rest e = e
 
+-- the strongest mode of a name in a list is told by whether it stands there, and whether it does with X
 pub strongest_is : (name : List ℕ) (locks : List Need) → strongest name locks ≡ mode_by (has_exclusive name locks) (has_name name locks)
 strongest_is name [] = refl
 strongest_is name (n ∷ more) =
@@ -50,11 +53,13 @@ or_assoc : (a b c : Bool) → ((a || b) || c) ≡ (a || (b || c))
 or_assoc true b c = refl
 or_assoc false b c = refl
 
+-- a name stands in two lists together where it stands in one of them
 pub has_name-append : (name : List ℕ) (xs ys : List Need) → has_name name (xs ++ ys) ≡ (has_name name xs || has_name name ys)
 has_name-append name [] ys = refl
 has_name-append name (n ∷ xs) ys = ap (λ b. bytes_eq n.name name || b) (has_name-append name xs ys)
     ∙ sym (or_assoc (bytes_eq n.name name) (has_name name xs) (has_name name ys))
 
+-- a name stands with X in two lists together where it does in one of them
 pub has_exclusive-append : (name : List ℕ) (xs ys : List Need) → has_exclusive name (xs ++ ys) ≡ (has_exclusive name xs || has_exclusive name ys)
 has_exclusive-append name [] ys = refl
 has_exclusive-append name (n ∷ xs) ys = ap (λ b. (is_exclusive n.mode && bytes_eq n.name name) || b) (has_exclusive-append name xs ys)
@@ -66,14 +71,17 @@ or_cases false b e = inr e
 
 -- ---- the locks of an open updating transaction
 
+-- the locks of a transaction of this kind: a read-only one has none
 abbrev pub locks_by : Transaction → BeginKind → List Need
 locks_by t kinds.Updating = t.locks
 locks_by t (kinds.Reading n) = []
 
+-- the locks of an open updating transaction, and none where there is no such
 abbrev pub locks_in : Option Transaction → List Need
 locks_in None = []
 locks_in (Some t) = locks_by t t.kind
 
+-- the locks that a session holds after the events
 abbrev pub locks_of : ℕ → List Event → List Need
 locks_of s past = locks_in (open_of s past)
 
@@ -81,6 +89,7 @@ held_by : (name : List ℕ) (t : Transaction) (kind : BeginKind) → held_in nam
 held_by name t kinds.Updating = refl
 held_by name t (kinds.Reading n) = refl
 
+-- the mode held on a name is told by whether it stands among the locks, and whether it does with X
 pub held_is : (name : List ℕ) (o : Option Transaction) → held_with name o ≡ mode_by (has_exclusive name (locks_in o)) (has_name name (locks_in o))
 held_is name None = refl
 held_is name (Some t) = held_by name t t.kind ∙ strongest_is name (locks_by t t.kind)
@@ -90,6 +99,7 @@ locked_with : (more : List Need) (t : Transaction) (kind : BeginKind)
 locked_with more t kinds.Updating = inl refl
 locked_with more t (kinds.Reading n) = inr refl
 
+-- with more locks granted, a session's locks are those before and these, or none where it has no updating transaction
 pub locks-with_locks : (more : List Need) (o : Option Transaction) → (locks_in (with_locks more o) ≡ locks_in o ++ more) ⊎ (locks_in (with_locks more o) ≡ [])
 locks-with_locks more None = inr refl
 locks-with_locks more (Some t) = locked_with more t t.kind
@@ -118,10 +128,12 @@ by_if : (b : Bool) (old new : Option Transaction) → StaysOrGoes old new → St
 by_if true old new fact = fact
 by_if false old new fact = inl refl
 
+-- the event grants no locks
 abbrev pub IsNoGrant : Event → Type 0
 IsNoGrant (Granted s asked) = ⊥
 IsNoGrant _ = Unit {0}
 
+-- an event that grants no locks leaves those of a session, or takes them all
 pub stays_or_goes : (s : ℕ) (e : Event) (old : Option Transaction) → IsNoGrant e → StaysOrGoes old (open_behind s e old)
 stays_or_goes s (Began t kind) old is = by_if (t == s) old _ (inr (locks-begun kind))
 stays_or_goes s (Granted t asked) old is = absurd is
@@ -178,10 +190,12 @@ exclusive_not_there : (mode : LockMode) (exclusive there : Bool) → is_exclusiv
 exclusive_not_there S exclusive there is e = absurd (true≢false (sym is))
 exclusive_not_there X exclusive there is e = not_there exclusive there e
 
+-- of two tests that hold together each holds
 pub and_parts : (a b : Bool) → (a && b) ≡ true → (a ≡ true) × (b ≡ true)
 and_parts true b e = (refl, e)
 and_parts false b e = absurd (true≢false (sym e))
 
+-- names with the same bytes are one name
 pub same_name : (a b : List ℕ) → bytes_eq a b ≡ true → a ≡ b
 same_name a b e = (bytes_eq-Decides a b).0 e
 

@@ -30,9 +30,11 @@ use Rattle.session_core.proofs.SettledNo as with_no
 
 -- ---- calls, each with the event that it makes
 
+-- calls of a core, each with the event that it makes
 abbrev pub Steps : Type 0
 Steps = List (CoreCall × Event)
 
+-- the calls of the steps, without their events
 abbrev pub calls_of : Steps → List CoreCall
 calls_of [] = []
 calls_of (step ∷ more) = step.0 ∷ calls_of more
@@ -62,6 +64,7 @@ only_granted s asked k free behind (refused name holder not is) = absurd (not_re
 
 -- ---- what the histories share
 
+-- a store without documents and a journal without events, at commit number 0
 abbrev pub nothing : Kept
 nothing = kept_of 0 1 no_documents []
 
@@ -86,6 +89,7 @@ posts s call answer = (calls.Post s (record { call = Some call; says = answer })
 
 -- ---- a commit in doubt
 
+-- the documents once `d` has been created
 abbrev pub created : Forest
 created = forests.insert no_documents d (record { kids = [] })
 
@@ -112,6 +116,7 @@ yes_go =
     ⊳ ((record { updating = refl; settled = refl; left = omega arith; forest_is = sym create_leaves }, (tt, tt)), λ k is. is)
     ⊳ tt
 
+-- the calls of the history that is settled with yes can be made, one after another
 pub yes_can : CanMake (calls_of yes_steps) nothing
 yes_can = can_make yes_steps nothing yes_go
 
@@ -133,14 +138,17 @@ no_go =
     ⊳ (with_no.so_far, λ k is. is)
     ⊳ tt
 
+-- the calls of the history that is settled with no can be made, one after another
 pub no_can : CanMake (calls_of no_steps) nothing
 no_can = can_make no_steps nothing no_go
 
 -- ---- a reader beside a loader
 
+-- the documents once `d` has been loaded
 abbrev pub loaded : Forest
 loaded = forests.insert no_documents d document
 
+-- a session loads and commits, and another reads before and after that commit
 abbrev pub beside_steps : Steps
 beside_steps =
     begins ∷ asks ∷ posts 1 (Load d element) says.Done
@@ -167,5 +175,6 @@ beside_go =
     ⊳ ((refl, (tt, tt)), λ k is. is)
     ⊳ tt
 
+-- the calls of the history of a reader beside a loader can be made, one after another
 pub beside_can : CanMake (calls_of beside_steps) nothing
 beside_can = can_make beside_steps nothing beside_go

@@ -10,6 +10,7 @@ pub made_more : (calls : List CoreCall) (call : CoreCall) (old between new : Kep
 made_more [] call old between new none makes = (new, (subst (λ k. Makes call k new) none makes, refl))
 made_more (first ∷ more) call old between new made makes = (made.0, (made.1.0, made_more more call made.0 between new made.1.1 makes))
 
+-- a list of calls of length 0 is empty
 pub none_of : (calls : List CoreCall) → length calls ≡ 0 → calls ≡ []
 none_of [] none = refl
 none_of (call ∷ more) none = absurd (omega (arith, none))

@@ -22,9 +22,11 @@ use Rattle.session_core.proofs.Worked.{B, answer, first_failure, free_begun, fre
 use Rattle.session_core.proofs.WorkedStatements.{load_says, export_before, export_behind}
 use Rattle.session_core.proofs.WorkedCalls.{d, element, begin, begin_read, commit, load, export, begin_is, begin_read_is, commit_is, load_is, export_is, exclusive}
 
+-- the first session begins, loads `d` and commits; the second twice begins to read, exports `d` and commits
 abbrev pub P : Scripts
 P = (begin ∷ load ∷ commit ∷ []) ∷ (begin_read ∷ export ∷ commit ∷ begin_read ∷ export ∷ commit ∷ []) ∷ []
 
+-- the second session's first export finds no document, and its second one finds what was loaded
 abbrev pub journal : List Event
 journal =
     Began 1 kinds.Updating
@@ -106,6 +108,7 @@ closes = record {
   at_end = all_end P (past_of journal) idle nothing_closed (refl, refl) (refl, refl);
 }
 
+-- the journal is a legal history of the scripts
 pub is_legal : Legal journal B P
 is_legal = record {
   closes = closes;
@@ -139,6 +142,7 @@ none_read s first second = rw (first, second) refl
 none_read_again : OthersIdle (past_of read_again)
 none_read_again s first second = rw (first, second) refl
 
+-- the journal is legal so far where the document has been loaded
 pub so_far_loaded : SoFar B loaded
 so_far_loaded = record {
   in_order = in_order.1.1.1.1.1.1.1;
@@ -151,6 +155,7 @@ so_far_loaded = record {
   marks = marks.1.1.1.1.1.1.1;
 }
 
+-- the journal is legal so far where the reader was answered first
 pub so_far_read : SoFar B read
 so_far_read = record {
   in_order = in_order.1.1.1.1;
@@ -163,6 +168,7 @@ so_far_read = record {
   marks = marks.1.1.1.1;
 }
 
+-- the journal is legal so far where the reader was answered again
 pub so_far_read_again : SoFar B read_again
 so_far_read_again = record {
   in_order = in_order.1;

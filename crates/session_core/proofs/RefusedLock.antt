@@ -27,6 +27,7 @@ use Rattle.session_core.proofs.WorkedStatements.{export_before}
 abbrev P : Scripts
 P = (begin ∷ export ∷ commit ∷ []) ∷ (begin ∷ create ∷ []) ∷ []
 
+-- the second session's lock is refused for the first one's, it leaves, and the first one commits
 abbrev pub journal : List Event
 journal =
     Began 1 kinds.Updating
@@ -126,6 +127,7 @@ closes = record {
   at_end = ends;
 }
 
+-- the journal is a legal history of the scripts
 pub is_legal : Legal journal B P
 is_legal = record {
   closes = closes;

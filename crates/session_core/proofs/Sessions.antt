@@ -13,6 +13,7 @@ infixr 5 ◌⊳◌
 abbrev pub ◌⊳◌ : {A B : Type 0} → A → B → A × B
 x ⊳ y = (x, y)
 
+-- a fact of session 1, of session 2 and of each other session is one of every session
 pub by_session : (Fact : ℕ → Type 0) → Fact 1 → Fact 2 → ((s : ℕ) → (1 == s) ≡ false → (2 == s) ≡ false → Fact s) → (s : ℕ) → Fact s
 by_session Fact one two others s =
     elim (1 == s) as (λ b. (1 == s) ≡ b → Fact s) [
@@ -31,5 +32,6 @@ free_from s n past apart t other =
       | false ↦ λ differ. apart t differ
     ] refl
 
+-- where no other session has an open transaction, any need is free
 pub free_where_none : (s : ℕ) (n : Need) (past : List Event) → ((t : ℕ) → (s == t) ≡ false → open_of t past ≡ None) → IsFree s n past
 free_where_none s n past none = free_from s n past (λ t apart. ap (λ o. conflicts (held_with n.name o) n.mode) (none t apart))

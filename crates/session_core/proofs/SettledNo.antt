@@ -25,6 +25,7 @@ use Rattle.session_core.proofs.WorkedStatements.{create_says}
 abbrev P : Scripts
 P = (begin ∷ create ∷ commit ∷ commit ∷ []) ∷ []
 
+-- a commit comes into doubt, its session settles it with no, and its next COMMIT finds no transaction
 abbrev pub journal : List Event
 journal =
     Began 1 kinds.Updating
@@ -104,6 +105,7 @@ closes = record {
   at_end = ends;
 }
 
+-- the journal is a legal history of the scripts
 pub is_legal : Legal journal B P
 is_legal = record {
   closes = closes;
@@ -117,6 +119,7 @@ is_legal = record {
   marks = marks;
 }
 
+-- the journal is legal so far
 pub so_far : SoFar B journal
 so_far = record {
   in_order = in_order;

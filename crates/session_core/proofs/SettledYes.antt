@@ -24,6 +24,7 @@ use Rattle.session_core.proofs.WorkedStatements.{create_says}
 abbrev P : Scripts
 P = (begin ∷ create ∷ commit ∷ []) ∷ (begin ∷ commit ∷ []) ∷ []
 
+-- a commit comes into doubt, another session that commits settles it with yes, and then commits
 abbrev pub journal : List Event
 journal =
     Began 1 kinds.Updating
@@ -101,6 +102,7 @@ closes = record {
   at_end = ends;
 }
 
+-- the journal is a legal history of the scripts
 pub is_legal : Legal journal B P
 is_legal = record {
   closes = closes;
@@ -121,6 +123,7 @@ answered = Began 1 kinds.Updating ∷ Granted 1 exclusive ∷ Answered 1 (answer
 none_answered : OthersIdle (past_of answered)
 none_answered s first second = rw (first) refl
 
+-- the journal is legal so far where its first answer has been given
 pub so_far : SoFar B answered
 so_far = record {
   in_order = in_order.1.1.1.1;

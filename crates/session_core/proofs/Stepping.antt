@@ -27,6 +27,7 @@ use Rattle.session_core.proofs.Tying.{elsewhere, here, states_set, states_gone, 
 newest_same : (B : Base) (e : Event) (past : List Event) → committed_by e past ≡ [] → newest B (e ∷ past) ≡ newest B past
 newest_same B e past none = newest-more B e past ∙ ap (serial (newest B past)) none
 
+-- an event that commits nothing leaves the number of commits as it is
 pub count_same : (e : Event) (past : List Event) → committed_by e past ≡ [] → commit_count (e ∷ past) ≡ commit_count past
 count_same e past none = ap length (commits_same e past none)
 
@@ -56,6 +57,7 @@ updating_sound t past is doubt = let e : Updating ≡ InDoubt = sym is ∙ doubt
 open_sound : (t : ℕ) (past : List Event) → IsTrue (is_open (state t past)) → state t past ≡ InDoubt → ⊥
 open_sound t past is doubt = true≢false (sym is ∙ ap is_open doubt)
 
+-- an event that commits nothing leaves the forests of a journal as they are
 pub forests_same : (B : Base) (e : Event) (past : List Event) (forests : List Forest) → forests ≡ forests_of B.forest (commits past) → committed_by e past ≡ []
     → forests ≡ forests_of B.forest (commits (e ∷ past))
 forests_same B e past forests is none = is ∙ ap (forests_of B.forest) (sym (commits_same e past none))
@@ -72,6 +74,7 @@ module _ (B : Base) (past : List Event) (states : States) (locks : Locks) (fores
   held-begun kinds.Updating name = refl
   held-begun (kinds.Reading n) name = refl
 
+  -- where an idle session begins a transaction, the table has its state, and all else is as it was
   pub ties_began : (t : ℕ) (kind : BeginKind) → state t past ≡ Idle → Ties B (Began t kind ∷ past) (fin.insert states t (state_in kind)) locks forests doubt
   ties_began t kind idle = record {
     states_are = states_set past states t (state_in kind) (λ o. Some (begun kind)) ties.states_are (state-begun kind);
@@ -82,6 +85,7 @@ module _ (B : Base) (past : List Event) (states : States) (locks : Locks) (fores
         (λ s other. elsewhere t s (open_of s past) (Some (begun kind)) other) refl refl;
   }
 
+  -- where locks are granted to an updating transaction, they come to its session's, and all else is as it was
   pub ties_granted : (t : ℕ) (asked : List Need) → state t past ≡ Updating → Ties B (Granted t asked ∷ past) states (granted locks t asked) forests doubt
   ties_granted t asked updating = record {
     states_are = states_same past states t (with_locks asked) ties.states_are (state-with_locks asked);
@@ -91,6 +95,7 @@ module _ (B : Base) (past : List Event) (states : States) (locks : Locks) (fores
         (λ s other. elsewhere t s (open_of s past) (with_locks asked (open_of s past)) other) refl refl;
   }
 
+  -- where locks are refused to an updating transaction, all that is held is as it was
   pub ties_refused : (t : ℕ) (name : List ℕ) (holder : ℕ) (asked : List Need) → state t past ≡ Updating
       → Ties B (Refused t name holder asked ∷ past) states locks forests doubt
   ties_refused t name holder asked updating = record {
@@ -111,12 +116,15 @@ module _ (B : Base) (past : List Event) (states : States) (locks : Locks) (fores
     doubt_is = doubt_stays B e past t doubt ties.doubt_is (open_sound t past is) (λ s other. ends s ∙ elsewhere t s (open_of s past) None other) none same;
   }
 
+  -- where an open transaction ends, its session goes out of the table and of the locks
   pub ties_ended : (t : ℕ) → IsTrue (is_open (state t past)) → Ties B (Ended t ∷ past) (fin.remove states t) (fin.remove locks t) forests doubt
   ties_ended t is = ties_gone (Ended t) t (λ s. refl) refl refl is
 
+  -- where an open transaction is rolled back, its session goes out of the table and of the locks
   pub ties_rolled_back : (t : ℕ) → IsTrue (is_open (state t past)) → Ties B (RolledBack t ∷ past) (fin.remove states t) (fin.remove locks t) forests doubt
   ties_rolled_back t is = ties_gone (RolledBack t) t (λ s. refl) refl refl is
 
+  -- where a session with an open transaction leaves, it goes out of the table and of the locks
   pub ties_left : (t : ℕ) → IsTrue (is_open (state t past)) → Ties B (Left t ∷ past) (fin.remove states t) (fin.remove locks t) forests doubt
   ties_left t is = ties_gone (Left t) t (λ s. refl) refl refl is
 
@@ -129,6 +137,7 @@ module _ (B : Base) (past : List Event) (states : States) (locks : Locks) (fores
       → commits (e ∷ past) ≡ commits past ++ u ∷ []
   commits_one e t u by is kind_is = ap (λ l. commits past ++ l) (by ∙ updating_is (open_of t past) u is kind_is)
 
+  -- an event that commits an open updating transaction adds one commit
   pub count_one : (e : Event) (t : ℕ) (u : Transaction) → committed_by e past ≡ updating (open_of t past) → open_of t past ≡ Some u → u.kind ≡ kinds.Updating
       → commit_count (e ∷ past) ≡ commit_count past + 1
   count_one e t u by is kind_is = ap length (commits_one e t u by is kind_is) ∙ length-append (commits past) (u ∷ [])
@@ -142,6 +151,8 @@ module _ (B : Base) (past : List Event) (states : States) (locks : Locks) (fores
       ∙ ap (λ (G : Forest). forests_of B.forest (commits past) ++ G ∷ []) (is_behind ∙ ap (λ G. run_calls G (ran_all u.replies)) (newest_is B past))
       ∙ sym (forests_of-more B.forest (commits past) u) ∙ ap (forests_of B.forest) (sym (commits_one e t u by is kind_is))
 
+  -- where an updating transaction commits, its session goes out of the table and of the locks,
+  -- and the forest after it comes to the others, if nothing is in doubt
   pub ties_committed : (t n : ℕ) (F : Forest) → state t past ≡ Updating → in_doubt past ≡ None → doubt ≡ None → F ≡ forest_behind B t past
       → Ties B (Committed t n ∷ past) (fin.remove states t) (fin.remove locks t) (forests ++ F ∷ []) None
   ties_committed t n F updating settled none is =
@@ -163,6 +174,8 @@ module _ (B : Base) (past : List Event) (states : States) (locks : Locks) (fores
   held-doubted name None = refl
   held-doubted name (Some u) = held-doubted_by name u u.kind
 
+  -- where the commit of an updating transaction comes into doubt, the table says so,
+  -- and the forest after it is kept as the one in doubt, if a number is left
   pub ties_doubted : (t n : ℕ) (mark : Mark) (F : Forest) → state t past ≡ Updating → B.numbers.commit + commit_count past < last_number
       → F ≡ forest_behind B t past
       → Ties B (Doubt t n mark ∷ past) (fin.insert states t InDoubt) locks forests (Some (t, F))
@@ -183,6 +196,7 @@ module _ (B : Base) (past : List Event) (states : States) (locks : Locks) (fores
         };
       }
 
+  -- where a commit is settled with yes, its session goes, its forest comes to the others, and nothing is in doubt
   pub ties_settled_yes : (by s : ℕ) (F : Forest) → IsDoubt B past s F
       → Ties B (Settled by s true ∷ past) (fin.remove states s) (fin.remove locks s) (forests ++ F ∷ []) None
   ties_settled_yes by s F is = record {
@@ -192,6 +206,7 @@ module _ (B : Base) (past : List Event) (states : States) (locks : Locks) (fores
     doubt_is = refl;
   }
 
+  -- where a commit is settled with no, its session goes, the forests are as they were, and nothing is in doubt
   pub ties_settled_no : (by s : ℕ) (F : Forest) → IsDoubt B past s F
       → Ties B (Settled by s false ∷ past) (fin.remove states s) (fin.remove locks s) forests None
   ties_settled_no by s F is = record {

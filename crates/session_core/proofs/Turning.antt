@@ -51,6 +51,7 @@ stays_elsewhere (r ∷ rs) locks F all name none = stays_elsewhere rs locks (stm
 abbrev pub Agree : List Need → Forest → Forest → Type 0
 Agree locks F G = (name : List ℕ) → has_name name locks ≡ true → forests.get F name ≡ forests.get G name
 
+-- forests that agree at the names of some locks agree at the needs that these locks have
 pub agree_needs : (asked locks : List Need) (F G : Forest) → AreHeld asked locks → Agree locks F G → AgreeAt asked F G
 agree_needs [] locks F G held agree = tt
 agree_needs (n ∷ more) locks F G held agree = (agree n.name held.0.0, agree_needs more locks F G held.1 agree)

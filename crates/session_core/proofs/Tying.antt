@@ -30,6 +30,7 @@ use Rattle.session_core.proofs.Holding.{same_name}
 
 -- ---- sessions as keys
 
+-- two sessions are the same by their test just where they are by their order
 pub tied : (t s : ℕ) → (t == s) ≡ eq_by_cmp nat_cmp s t
 tied t s = sym (unsigned_tied t s) ∙ (eq_by_cmp_equiv nat_cmp_total).symm t s
 
@@ -37,14 +38,17 @@ tied t s = sym (unsigned_tied t s) ∙ (eq_by_cmp_equiv nat_cmp_total).symm t s
 pub elsewhere : {A : Type 0} (t s : ℕ) (old new : A) → (t ≡ s → ⊥) → (if t == s then new else old) ≡ old
 elsewhere t s old new other = ap (λ b. if b then new else old) (ne_eqb t s other)
 
+-- what an event of a session leaves of its own transaction
 pub here : {A : Type 0} (s : ℕ) (old new : A) → (if s == s then new else old) ≡ new
 here s old new = ap (λ b. if b then new else old) (eq-eqb s s refl)
 
 -- ---- states
 
+-- the table has for each session the entry of its state
 abbrev pub StatesAre : States → List Event → Type 0
 StatesAre states past = (s : ℕ) → fin.get states s ≡ entry_of (state s past)
 
+-- a state is told by its entry in the table
 pub state_at-entry : (x : State) → state_at (entry_of x) ≡ x
 state_at-entry Idle = refl
 state_at-entry Updating = refl
@@ -61,11 +65,13 @@ changed past states t x f are is s = ap (λ b. cond b x (fin.get states s)) (sym
     by_test true same = subst (λ z. x ≡ entry_of (state_with (f (open_of z past)))) (eqb-true t s same) (sym is)
     by_test false other = are s
 
+-- with one state set, the table has each session's entry, if it is the state of that session's new transaction
 pub states_set : (past : List Event) (states : States) (t : ℕ) (x : State) (f : Option Transaction → Option Transaction) → StatesAre states past
     → entry_of (state_with (f (open_of t past))) ≡ Some x → (s : ℕ)
     → fin.get (fin.insert states t x) s ≡ entry_of (state_with (if t == s then f (open_of s past) else open_of s past))
 states_set past states t x f are is s = fin.get-insert nat_cmp_total states t x s ∙ changed past states t (Some x) f are is s
 
+-- with one session taken out, the table has each session's entry, where that session's transaction is gone
 pub states_gone : (past : List Event) (states : States) (t : ℕ) → StatesAre states past → (s : ℕ)
     → fin.get (fin.remove states t) s ≡ entry_of (state_with (if t == s then None else open_of s past))
 states_gone past states t are s = fin.get-remove nat_cmp_total states t s ∙ changed past states t None (λ o. None) are refl s
@@ -80,6 +86,7 @@ states_same past states t f are same s = are s ∙ ap entry_of (by_test (t == s)
     by_test true = sym (same (open_of s past))
     by_test false = refl
 
+-- more locks leave the state of a session as it is
 pub state-with_locks : (more : List Need) (o : Option Transaction) → state_with (with_locks more o) ≡ state_with o
 state-with_locks more None = refl
 state-with_locks more (Some t) = refl
@@ -89,6 +96,7 @@ state-with_locks more (Some t) = refl
 abbrev state_by : Bool → BeginKind → State
 state_by doubt kind = if doubt then InDoubt else state_in kind
 
+-- an idle session has no open transaction
 pub idle_none : (o : Option Transaction) → state_with o ≡ Idle → o ≡ None
 idle_none None is = refl
 idle_none (Some t) is = absurd (by_parts t.in_doubt t.kind is)
@@ -110,15 +118,18 @@ opened_parts true kind e = cc
 opened_parts false kinds.Updating e = (refl, refl)
 opened_parts false (kinds.Reading n) e = cc
 
+-- a session in the state of updating has an open updating transaction that is not in doubt
 pub opened : (o : Option Transaction) → state_with o ≡ Updating → IsOpened o
 opened None is = cc
 opened (Some t) is = record { transaction = t; is = refl; kind_is = (opened_parts t.in_doubt t.kind is).0; sound = (opened_parts t.in_doubt t.kind is).1 }
 
+-- an open updating transaction is the one updating transaction
 pub updating_is : (o : Option Transaction) (t : Transaction) → o ≡ Some t → t.kind ≡ kinds.Updating → updating o ≡ t ∷ []
 updating_is o t is kind_is = ap updating is ∙ ap (where_updating t) kind_is
 
 -- ---- locks
 
+-- the table of locks has for each session and name the mode that the events tell
 abbrev pub LocksAre : Locks → List Event → Type 0
 LocksAre locks past = (s : ℕ) (name : List ℕ) → mode_held locks s name ≡ held s name past
 
@@ -136,6 +147,7 @@ nothing_held : (name : List ℕ) (o : Option Names) → o ≡ None → fin.get (
 nothing_held name None is = fin.get-empty (slice_cmp nat_cmp) name
 nothing_held name (Some names) is = cc
 
+-- with one session's locks taken out, the table has each session's modes, where that session's transaction is gone
 pub locks_gone : (past : List Event) (locks : Locks) (t : ℕ) → LocksAre locks past → (s : ℕ) (name : List ℕ)
     → mode_held (fin.remove locks t) s name ≡ held_with name (if t == s then None else open_of s past)
 locks_gone past locks t are s name =
@@ -224,6 +236,7 @@ with_needs-held name (n ∷ more) names =
         ∙ more_held (fin.get names name) n.mode (strongest name more)
     by_test false other = refl
 
+-- with the needs granted to one updating session, the table has each session's modes, where its transaction has them
 pub locks_granted : (past : List Event) (locks : Locks) (t : ℕ) (asked : List Need) → LocksAre locks past → state t past ≡ Updating → (s : ℕ) (name : List ℕ)
     → mode_held (granted locks t asked) s name ≡ held_with name (if t == s then with_locks asked (open_of s past) else open_of s past)
 locks_granted past locks t asked are updating s name =
@@ -248,23 +261,28 @@ locks_granted past locks t asked are updating s name =
 
 -- ---- forests
 
+-- an event that commits nothing leaves the committed transactions as they are
 pub commits_same : (e : Event) (past : List Event) → committed_by e past ≡ [] → commits (e ∷ past) ≡ commits past
 commits_same e past none = ap (λ l. commits past ++ l) none ∙ append-nil (commits past)
 
+-- with one transaction more, the forest after it comes to the forests
 pub forests_of-more : (F : Forest) (ts : List Transaction) (t : Transaction)
     → forests_of F (ts ++ t ∷ []) ≡ forests_of F ts ++ run_calls (serial F ts) (ran_all t.replies) ∷ []
 forests_of-more F [] t = refl
 forests_of-more F (u ∷ ts) t = ap (λ l. F ∷ l) (forests_of-more (run_calls F (ran_all u.replies)) ts t)
 
+-- there is one forest more than transactions
 pub length-forests_of : (F : Forest) (ts : List Transaction) → length (forests_of F ts) ≡ length ts + 1
 length-forests_of F [] = refl
 length-forests_of F (t ∷ ts) = let rest = length-forests_of (run_calls F (ran_all t.replies)) ts in omega (arith, rest)
 
+-- the forest at k is the one after the first k transactions
 pub forests_of-at : (F : Forest) (ts : List Transaction) (k : ℕ) (G : Forest) → slice_get (forests_of F ts) k ≡ Some G → G ≡ serial F (take k ts)
 forests_of-at F [] zero G is = cc
 forests_of-at F [] (suc k) G is = cc
 forests_of-at F (t ∷ ts) zero G is = cc
 forests_of-at F (t ∷ ts) (suc k) G is = forests_of-at (run_calls F (ran_all t.replies)) ts k G is
 
+-- the newest forest is the one after all committed transactions
 pub newest_is : (B : Base) (past : List Event) → newest B past ≡ serial B.forest (commits past)
 newest_is B past = ap (serial B.forest) (take-length (commits past))

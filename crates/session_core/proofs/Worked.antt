@@ -20,6 +20,7 @@ use Rattle.session_core.proofs.Sessions.{by_session, free_where_none}
 abbrev pub B : Base
 B = record { numbers = record { commit = 0; generation = 1 }; forest = no_documents }
 
+-- a reply to this call
 abbrev pub answer : Call → Says → Reply
 answer call what = record { call = Some call; says = what }
 
@@ -29,26 +30,32 @@ first_failure = record { before = 0; after = 1 }
 
 -- ---- session 1 has begun, and was granted locks
 
+-- session 1 has begun an updating transaction
 abbrev pub begun : List Event
 begun = Began 1 kinds.Updating ∷ []
 
+-- session 1 was granted these locks
 abbrev pub granted : List Need → List Event
 granted asked = Granted 1 asked ∷ begun
 
+-- no other session has an open transaction where session 1 has begun
 pub none_begun : (t : ℕ) → (1 == t) ≡ false → open_of t begun ≡ None
 none_begun t apart = rw (apart) refl
 
 none_granted : (asked : List Need) (t : ℕ) → (1 == t) ≡ false → open_of t (granted asked) ≡ None
 none_granted asked t apart = rw (apart) refl
 
+-- any need of session 1 is free where it alone has begun
 pub free_begun : (n : Need) → IsFree 1 n begun
 free_begun n = free_where_none 1 n begun none_begun
 
+-- any need of session 1 is free where it alone has begun and has its locks
 pub free_granted : (asked : List Need) (n : Need) → IsFree 1 n (granted asked)
 free_granted asked n = free_where_none 1 n (granted asked) (none_granted asked)
 
 -- ---- every session but two
 
+-- no session but 1 and 2 has an open transaction
 abbrev pub OthersIdle : List Event → Type 0
 OthersIdle past = (s : ℕ) → (1 == s) ≡ false → (2 == s) ≡ false → open_of s past ≡ None
 

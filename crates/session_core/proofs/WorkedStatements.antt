@@ -24,12 +24,15 @@ document = record { kids = Element (codes "a") [] [] ∷ [] }
 absent : forests.get no_documents d ≡ None
 absent = forests.get-empty (slice_cmp nat_cmp) d
 
+-- to load a document that is not there is done
 pub load_says : says.Done ≡ says_of (stmt no_documents (Load d element)).says
 load_says = sym (ap (λ o. says_of (added_where_free o d (read element) no_documents).says) absent)
 
+-- to export a document that is not there is an error
 pub export_before : says.Error codes_of.FODC0002 ≡ says_of (stmt no_documents (Export d)).says
 export_before = sym (ap (λ o. says_of (exported o)) absent)
 
+-- to load a document leaves it alone in the forest
 pub load_leaves : (stmt no_documents (Load d element)).forest ≡ forests.insert no_documents d document
 load_leaves = ap (λ o. (added_where_free o d (read element) no_documents).forest) absent
 
@@ -39,11 +42,14 @@ present = ap (λ F. forests.get F d) load_leaves ∙ get-put no_documents d docu
 written : pyx document ≡ element
 written = rw (fold-Element (List Line) pyx_step (codes "a") [] []) refl
 
+-- to export the document that was loaded gives its lines
 pub export_behind : says.Lines element ≡ says_of (exported (forests.get (stmt no_documents (Load d element)).forest d))
 export_behind = sym (ap (λ o. says_of (exported o)) present ∙ ap (λ all. says_of (answer_of all)) written)
 
+-- to create a document that is not there is done
 pub create_says : says.Done ≡ says_of (stmt no_documents (Create d)).says
 create_says = sym (ap (λ o. says_of (added_where_free o d (Ok (record { kids = [] })) no_documents).says) absent)
 
+-- to create a document leaves it alone in the forest, without nodes
 pub create_leaves : (stmt no_documents (Create d)).forest ≡ forests.insert no_documents d (record { kids = [] })
 create_leaves = ap (λ o. (added_where_free o d (Ok (record { kids = [] })) no_documents).forest) absent

@@ -47,6 +47,7 @@ is_told (says.Lines all) = true
 is_told (says.Error code) = not (is_text_refusal code || (is_state_refusal code || is_of_store code))
 is_told _ = false
 
+-- the answer tells of a damaged page
 abbrev pub is_damaged : Says → Bool
 is_damaged (says.Error (codes.Damaged commit ordinal page)) = true
 is_damaged _ = false
@@ -104,6 +105,7 @@ pub record RunsReading (s : ℕ) (call : Call) (answer : Says) (past : List Even
   pub passes : refused_in (Reading number) (work_of call) ≡ None
   pub told : IsTrue (is_told answer)
 
+-- the call comes directly after the grant of the locks that it needs; a text that is no call needs none
 abbrev pub HasItsLocks : ℕ → Option Call → List Event → Type 0
 HasItsLocks s None past = Unit {0}
 HasItsLocks s (Some call) past = AreGranted s (needs call) past
@@ -132,6 +134,7 @@ pub record FindsDamage (s : ℕ) (call : Call) (answer : Says) (past : List Even
   pub locked : state s past ≡ Updating → AreGranted s (needs call) past
   pub damaged : is_damaged answer ≡ true
 
+-- the answer is one that the text, the state, the locks or the device give: for each of these one case
 pub data AnswersInOrder (N : Numbers) (s : ℕ) (past : List Event) : Option Call → Says → Type 0 where
   lacks_memory : {call : Option Call} → AnswersInOrder N s past call (says.Error codes.NoMemory)
   refuses_text : {answer : Says} → RefusesText s answer past → AnswersInOrder N s past None answer
@@ -159,11 +162,13 @@ abbrev pub IsSaidOf : Forest → List Ran → Type 0
 IsSaidOf F [] = Unit {0}
 IsSaidOf F (r ∷ more) = (r.says ≡ says_of (stmt F r.call).says) × IsSaidOf F more
 
+-- the call, where it ran, is answered as on the documents on which its session runs its next statement
 abbrev pub IsToldBy : Base → ℕ → List Event → Option Call → Says → Type 0
 IsToldBy B s past call answer = IsSaidOf (forest_for B s past (state s past)) (ran_by call answer)
 
 -- ---- a right answer
 
+-- the answer is one of the order of refusals and, where the documents tell it, the one that they tell
 pub record IsRightAnswer (B : Base) (s : ℕ) (past : List Event) (call : Option Call) (answer : Says) : Type 0 where
   pub in_order : AnswersInOrder B.numbers s past call answer
   pub by_documents : IsToldBy B s past call answer

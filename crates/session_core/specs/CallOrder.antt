@@ -6,6 +6,7 @@ use Rattle.session_core.specs.declared.event.Event.{Event}
 use Rattle.session_core.specs.declared.event.Event.TheVariants.{Granted, Settled}
 use Rattle.session_core.specs.History.{session_of, is_closing, last_of}
 
+-- the event grants locks
 abbrev pub is_grant : Event → Bool
 is_grant (Granted s asked) = true
 is_grant _ = false
@@ -16,5 +17,6 @@ comes_behind (Some (Granted s asked)) e = is_closing e
 comes_behind (Some (Settled by s stands)) e = is_closing e || is_grant e
 comes_behind _ e = true
 
+-- the event may come directly after its session's last one
 abbrev pub CallOrderAt : Event → List Event → Type 0
 CallOrderAt e past = IsTrue (comes_behind (last_of (session_of e) past) e)

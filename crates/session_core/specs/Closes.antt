@@ -28,6 +28,7 @@ use Rattle.session_core.specs.Settling.{writes_store}
 abbrev pub Scripts : Type 0
 Scripts = List (List CallText)
 
+-- the calls of a script, or none where there is no script
 abbrev pub or_none : Option (List CallText) → List CallText
 or_none None = []
 or_none (Some calls) = calls
@@ -37,6 +38,7 @@ abbrev pub calls_of : Scripts → ℕ → List CallText
 calls_of P zero = []
 calls_of P (suc s) = or_none (slice_get P s)
 
+-- how many calls of the session the event closes: one or none
 abbrev pub more_closed : ℕ → Event → ℕ
 more_closed s e = if is_closing e && (session_of e == s) then 1 else 0
 
@@ -49,6 +51,7 @@ closed_of s (e ∷ past) = more_closed s e + closed_of s past
 abbrev pub next_call : Scripts → ℕ → List Event → Option CallText
 next_call P s past = slice_get (calls_of P s) (closed_of s past)
 
+-- the event says that the session has left
 abbrev pub is_left_by : ℕ → Event → Bool
 is_left_by s (Left t) = t == s
 is_left_by s _ = false
@@ -63,6 +66,7 @@ abbrev pub KeepsReading : Result Call Code → Reply → Type 0
 KeepsReading (Ok call) reply = (reply.call ≡ Some call) ⊎ ((reply.call ≡ None) × (reply.says ≡ says.Error codes.NoMemory))
 KeepsReading (Err code) reply = reply.call ≡ None
 
+-- the event may close this call; a grant, a settling and the session's leaving close none
 abbrev pub ClosesCall : Call → Event → Type 0
 ClosesCall call (Began s kinds.Updating) = call ≡ Begin
 ClosesCall call (Began s (kinds.Reading n)) = call ≡ BeginRead
@@ -81,6 +85,7 @@ abbrev pub ClosesText : Code → Event → Type 0
 ClosesText code (Answered s reply) = KeepsReading (Err code) reply
 ClosesText code _ = ⊥
 
+-- the event may close what a text is: a call, or no call with its refusal
 abbrev pub Closes : Result Call Code → Event → Type 0
 Closes (Ok call) e = ClosesCall call e
 Closes (Err code) e = ClosesText code e
@@ -104,6 +109,7 @@ pub record SettlesFor (state' : State) (text : CallText) : Type 0 where
   pub parsed : Parsed text (Ok call)
   pub writes : IsTrue (writes_store state' (Some call))
 
+-- there is a text, and this holds of it
 abbrev pub IsSomeText : Option CallText → (CallText → Type 0) → Type 0
 IsSomeText None Fact = ⊥
 IsSomeText (Some text) Fact = Fact text
@@ -115,6 +121,7 @@ IsForCall P (Settled by s stands) past = IsSomeText (next_call P by past) (λ te
 IsForCall P (Left s) past = (closed_of s past ≡ length (calls_of P s)) × IsTrue (is_open (state s past))
 IsForCall P e past = IsSomeText (next_call P (session_of e) past) (λ text. ClosesBy text e)
 
+-- the event is for the next call of its session, and that session has not left before
 abbrev pub ClosesAt : Scripts → Event → List Event → Type 0
 ClosesAt P e past = IsForCall P e past × (has_left (session_of e) past ≡ false)
 
@@ -122,6 +129,7 @@ ClosesAt P e past = IsForCall P e past × (has_left (session_of e) past ≡ fals
 abbrev pub ClosesAtEnd : Scripts → List Event → Type 0
 ClosesAtEnd P past = (s : ℕ) → (closed_of s past ≡ length (calls_of P s)) × (is_open (state s past) ≡ false)
 
+-- the answer says that the device failed
 abbrev pub IsFailure : Says → Type 0
 IsFailure (says.Error (codes.Failed mark)) = Unit {0}
 IsFailure _ = ⊥
@@ -131,11 +139,13 @@ abbrev pub IsTextAnswer : Result Call Code → State → Says → Type 0
 IsTextAnswer (Ok call) state' answer = Unit {0}
 IsTextAnswer (Err code) state' answer = (answer ≡ says.Error code) ⊎ ((answer ≡ says.Error codes.NoMemory) ⊎ ((state' ≡ InDoubt) × IsFailure answer))
 
+-- the answer is right for the text, by what the text is; a text that is a call is not judged here
 pub record IsAnswerTo (text : CallText) (state' : State) (answer : Says) : Type 0 where
   pub what : Result Call Code
   pub parsed : Parsed text what
   pub answers : IsTextAnswer what state' answer
 
+-- an answer to a text that is no call is that text's refusal; other events are not judged here
 abbrev pub TextRefusalsAt : Scripts → Event → List Event → Type 0
 TextRefusalsAt P (Answered s reply) past = IfSome (next_call P s past) (λ text. IsAnswerTo text (state s past) reply.says)
 TextRefusalsAt P _ past = Unit {0}

@@ -31,6 +31,7 @@ began_read s k = Began s (kinds.Reading (newest_number k.base.numbers (past k)))
 abbrev pub committed : ℕ → Kept → Event
 committed s k = Committed s (next_number k.base.numbers (past k))
 
+-- a commit that comes into doubt takes the next number too
 abbrev pub doubted : ℕ → Mark → Kept → Event
 doubted s mark k = Doubt s (next_number k.base.numbers (past k)) mark
 

@@ -21,6 +21,7 @@ pub record Kept : Type 0 where
   pub base : Base
   pub journal : List Event
 
+-- how a journal over its base is written as one value: by its two numbers, its documents and its events
 abbrev pub kept_code : Coded Kept
 kept_code = code_by (((ℕ × ℕ) × Forest) × List Event)
     (coded× (coded× (coded× coded_ℕ coded_ℕ) forest_code) (coded_list the_event.the_row.coded))
@@ -28,6 +29,7 @@ kept_code = code_by (((ℕ × ℕ) × Forest) × List Event)
     (λ p. record { base = record { numbers = record { commit = p.0.0.0; generation = p.0.0.1 }; forest = p.0.1 }; journal = p.1 })
     (λ _. refl)
 
+-- a journal over its base, by its parts
 abbrev pub kept_of : ℕ → ℕ → Forest → List Event → Kept
 kept_of commit generation forest journal =
     record { base = record { numbers = record { commit = commit; generation = generation }; forest = forest }; journal = journal }

@@ -24,6 +24,7 @@ use Rattle.session_core.specs.Refusals.{refused_in, work_of}
 abbrev pub IsFree : ℕ → Need → List Event → Type 0
 IsFree s n past = (t : ℕ) → (t ≡ s → ⊥) → blocks t n past ≡ false
 
+-- no other session holds a lock that conflicts with one of the needs
 abbrev pub AllFree : ℕ → List Need → List Event → Type 0
 AllFree s [] past = Unit {0}
 AllFree s (n ∷ more) past = IsFree s n past × AllFree s more past
@@ -58,6 +59,7 @@ abbrev pub AreGranted : ℕ → List Need → List Event → Type 0
 AreGranted s [] past = Unit {0}
 AreGranted s (n ∷ more) past = last_of s past ≡ Some (Granted s (n ∷ more))
 
+-- each call that ran comes directly after the grant of the locks that it needs
 abbrev pub RanGranted : ℕ → List Ran → List Event → Type 0
 RanGranted s [] past = Unit {0}
 RanGranted s (r ∷ more) past = AreGranted s (needs r.call) past × RanGranted s more past
@@ -68,6 +70,8 @@ abbrev pub MeetsNoConflict : ℕ → Option Call → Says → List Event → Typ
 MeetsNoConflict s None answer past = Unit {0}
 MeetsNoConflict s (Some call) answer past = refused_in Updating (work_of call) ≡ None → (answer ≡ says.Error codes.NoMemory → ⊥) → AllFree s (needs call) past
 
+-- a reply in an updating transaction is after the grant of the call's locks and meets no conflict;
+-- a reply in any other state needs no locks
 abbrev pub IsAnsweredWithLocks : State → ℕ → Reply → List Event → Type 0
 IsAnsweredWithLocks Updating s reply past = RanGranted s (ran reply) past × MeetsNoConflict s reply.call reply.says past
 IsAnsweredWithLocks Idle s reply past = Unit {0}
@@ -92,13 +96,16 @@ abbrev pub AreNeedsOf : List Need → Option Call → Says → Type 0
 AreNeedsOf granted (Some call) answer = needs call ≡ granted
 AreNeedsOf granted None answer = answer ≡ says.Error codes.NoMemory
 
+-- the event is an answer to the call whose needs were granted
 abbrev pub ClosesGrant : List Need → Event → Type 0
 ClosesGrant granted (Answered s reply) = AreNeedsOf granted reply.call reply.says
 ClosesGrant granted _ = ⊥
 
+-- where the session's last event granted locks, this one answers the call that needs them
 abbrev pub IsBehindGrant : Option Event → Event → Type 0
 IsBehindGrant (Some (Granted s granted)) e = ClosesGrant granted e
 IsBehindGrant _ e = Unit {0}
 
+-- the clause `locks` of one event: its own locks are right, and it answers the call that a grant before it was for
 abbrev pub LocksAt : Event → List Event → Type 0
 LocksAt e past = LocksOf e past × IsBehindGrant (last_of (session_of e) past) e

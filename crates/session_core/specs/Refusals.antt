@@ -27,6 +27,7 @@ pub data Work : Type 0 where
   shows : Work
   changes : Work
 
+-- what each call does
 abbrev pub work_of : Call → Work
 work_of Begin = begins
 work_of BeginRead = begins
@@ -41,17 +42,20 @@ work_of (Export name) = reads
 work_of (Update what) = changes
 work_of (Query expr) = reads
 
+-- outside of a transaction one may begin, or make a checkpoint; all else is refused
 abbrev pub in_idle : Work → Option Code
 in_idle begins = None
 in_idle checkpoints = None
 in_idle _ = Some codes.NoTransaction
 
+-- an updating transaction refuses to begin, to make a checkpoint and to show the names
 abbrev pub in_updating : Work → Option Code
 in_updating begins = Some codes.InTransaction
 in_updating checkpoints = Some codes.InTransaction
 in_updating shows = Some codes.Updating
 in_updating _ = None
 
+-- a read-only transaction refuses to begin, to make a checkpoint and to change documents
 abbrev pub in_reading : Work → Option Code
 in_reading begins = Some codes.InTransaction
 in_reading checkpoints = Some codes.InTransaction
@@ -94,6 +98,7 @@ is_state_refusal codes.ReadOnly = true
 is_state_refusal codes.Updating = true
 is_state_refusal _ = false
 
+-- the answer is a refusal of a text that is no call
 abbrev pub refuses_text : Says → Bool
 refuses_text (says.Error code) = is_text_refusal code
 refuses_text _ = false
@@ -121,10 +126,12 @@ passes_with reads answer = answers_statement answer
 passes_with shows answer = answers_statement answer
 passes_with changes answer = answers_statement answer
 
+-- the answer is the state's refusal where there is one, and else one that the call may have
 abbrev pub IsByTable : Option Code → Work → Says → Type 0
 IsByTable (Some code) work answer = answer ≡ says.Error code
 IsByTable None work answer = IsTrue (passes_with work answer)
 
+-- the answer is by the table of the state for a call, and a refusal of texts for a text that is none
 abbrev pub IsInOrder : State → Option Call → Says → Type 0
 IsInOrder state' None answer = IsTrue (refuses_text answer)
 IsInOrder state' (Some call) answer = IsByTable (refused_in state' (work_of call)) (work_of call) answer
@@ -136,6 +143,7 @@ IsBehindSettling Idle call answer = IsInOrder Idle call answer
 IsBehindSettling Updating call answer = IsInOrder Updating call answer
 IsBehindSettling (Reading n) call answer = IsInOrder (Reading n) call answer
 
+-- the clause `refusals` of one event: the state of its session lets it come, and an answer is by the table
 abbrev pub RefusalsAt : Event → List Event → Type 0
 RefusalsAt (Began s kind) past = state s past ≡ Idle
 RefusalsAt (Answered s reply) past = IsTrue (is_apart reply.says) ⊎ IsBehindSettling (state s past) reply.call reply.says

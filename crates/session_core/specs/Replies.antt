@@ -10,6 +10,7 @@ use Rattle.session_core.specs.declared.event.Event.TheVariants.{Began, Granted, 
 use Rattle.session_core.specs.Transactions.{Numbers, Base, Transaction, Ran, open_of, updating, newest_number, next_number, ran, ran_all, after, newest, AnsweredInTurn, AnsweredAt}
 use Rattle.session_core.specs.States.{state}
 
+-- each of the transactions was answered as if its calls ran in turn on this forest
 abbrev pub AllInTurn : Forest → List Transaction → Type 0
 AllInTurn F [] = Unit {0}
 AllInTurn F (t ∷ more) = AnsweredInTurn F (ran_all t.replies) × AllInTurn F more
@@ -41,6 +42,7 @@ SerialAt B (Ended s) past = Unit {0}
 SerialAt B (RolledBack s) past = Unit {0}
 SerialAt B (Left s) past = Unit {0}
 
+-- the calls of a read-only transaction were answered from the forest at its commit; no others are judged here
 abbrev pub AnsweredFrom : Base → State → List Ran → List Event → Type 0
 AnsweredFrom B (Reading n) calls past = AnsweredAt (after B past (n - B.numbers.commit)) calls
 AnsweredFrom B Idle calls past = Unit {0}

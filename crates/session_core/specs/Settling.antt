@@ -39,11 +39,13 @@ HasNoCommitLeft N past = last_number ≤ newest_number N past
 abbrev pub HasCommitLeft : Numbers → List Event → Type 0
 HasCommitLeft N past = newest_number N past < last_number
 
+-- one for a COMMIT or a CHECKPOINT, and else none
 abbrev pub counts_generation : Option Call → ℕ
 counts_generation (Some Commit) = 1
 counts_generation (Some Checkpoint) = 1
 counts_generation _ = 0
 
+-- one where the event closes a COMMIT or a CHECKPOINT, and else none
 abbrev pub generations_by : Event → ℕ
 generations_by (Committed s n) = 1
 generations_by (Doubt s n mark) = 1
@@ -62,6 +64,7 @@ writes_store Updating (Some Commit) = true
 writes_store Idle (Some Checkpoint) = true
 writes_store _ _ = false
 
+-- the call is a COMMIT in an updating transaction
 abbrev pub commits_in : State → Option Call → Bool
 commits_in Updating (Some Commit) = true
 commits_in _ _ = false
@@ -81,6 +84,7 @@ makes_pages (Drop name) = false
 makes_pages (Export name) = false
 makes_pages (Query expr) = false
 
+-- the call makes pages, and its session is in an updating transaction
 abbrev pub makes_pages_in : State → Option Call → Bool
 makes_pages_in Updating (Some call) = makes_pages call
 makes_pages_in _ _ = false
@@ -114,6 +118,7 @@ head_behind_answer Updating (Some Commit) (says.Error (codes.Failed mark)) befor
 head_behind_answer Updating (Some Commit) (says.Error (codes.Spent kind number)) before = false
 head_behind_answer _ _ _ before = before
 
+-- whether the head of a log may be in doubt after the event, from whether it might be before
 abbrev pub head_behind : Event → List Event → Bool → Bool
 head_behind (Answered s reply) past before = head_behind_answer (state s past) reply.call reply.says before
 head_behind (Committed s n) past before = false
@@ -121,6 +126,7 @@ head_behind (Doubt s n mark) past before = false
 head_behind (Settled by s stands) past before = false
 head_behind _ past before = before
 
+-- the head of a log may be in doubt after the events
 abbrev pub may_doubt_head : List Event → Bool
 may_doubt_head [] = false
 may_doubt_head (e ∷ past) = head_behind e past (may_doubt_head past)
@@ -129,6 +135,8 @@ may_doubt_head (e ∷ past) = head_behind e past (may_doubt_head past)
 abbrev pub FailsBySettling : Numbers → State → Option Call → List Event → Type 0
 FailsBySettling N state' call past = IsTrue (commits_in state' call) → HasNoCommitLeft N past → IsTrue (may_doubt_head past)
 
+-- what an answer asks for: a spent number is at its last value, a COMMIT without a number left fails by settling,
+-- a checkpoint is done or in doubt where no commit is in doubt before it, and no answer tells of damage
 abbrev pub SettlingOfAnswer : Numbers → State → Option Call → Says → List Event → Type 0
 SettlingOfAnswer N state' call (says.Error (codes.Spent kind number)) past = (number ≡ last_of_kind kind) × IsSpent N kind state' call past
 SettlingOfAnswer N state' call (says.Error (codes.Failed mark)) past = FailsBySettling N state' call past
@@ -176,13 +184,17 @@ ClosesAny (Settled by s stands) = ⊥
 ClosesAny (Left s) = ⊥
 ClosesAny _ = Unit {0}
 
+-- what may come after a settling: any event that closes a call where the session has settled its own commit,
+-- and one that closes a COMMIT or a CHECKPOINT where it has settled another's
 abbrev pub ClosesBehind : Bool → Event → List Event → Type 0
 ClosesBehind true e past = ClosesAny e
 ClosesBehind false e past = ClosesForStore e past
 
+-- where the session's last event settled a commit, this one closes the call that it was settled for
 abbrev pub IsBehindSettled : Option Event → Event → List Event → Type 0
 IsBehindSettled (Some (Settled by s stands)) e past = ClosesBehind (by == s) e past
 IsBehindSettled _ e past = Unit {0}
 
+-- the clause `settling` of one event: it treats a commit in doubt rightly, and closes what was settled for
 abbrev pub SettlingAt : Numbers → Event → List Event → Type 0
 SettlingAt N e past = SettlingOf N e past × IsBehindSettled (last_of (session_of e) past) e past

@@ -12,10 +12,12 @@ use Rattle.session_core.specs.declared.event.Event.{Event}
 use Rattle.session_core.specs.declared.event.Event.TheVariants as events
 use Rattle.session_core.specs.Transactions.{Transaction, open_of}
 
+-- the state of a session in a transaction of this kind
 abbrev pub state_in : BeginKind → State
 state_in kinds.Updating = Updating
 state_in (kinds.Reading n) = Reading n
 
+-- the state of a session with this open transaction, or with none
 abbrev pub state_with : Option Transaction → State
 state_with None = Idle
 state_with (Some t) = if t.in_doubt then InDoubt else state_in t.kind
@@ -31,6 +33,7 @@ is_open Updating = true
 is_open (Reading n) = true
 is_open InDoubt = false
 
+-- a read-only transaction is open
 abbrev pub is_reading : State → Bool
 is_reading Idle = false
 is_reading Updating = false
@@ -42,10 +45,12 @@ abbrev pub strongest : List ℕ → List Need → Option LockMode
 strongest name [] = None
 strongest name (n ∷ more) = if bytes_eq n.name name then Some (stronger n.mode (strongest name more)) else strongest name more
 
+-- the mode that a transaction of this kind holds on the name: a read-only one holds no locks
 abbrev pub held_in : List ℕ → Transaction → BeginKind → Option LockMode
 held_in name t kinds.Updating = strongest name t.locks
 held_in name t (kinds.Reading n) = None
 
+-- the mode that an open transaction holds on the name; without a transaction none is held
 abbrev pub held_with : List ℕ → Option Transaction → Option LockMode
 held_with name None = None
 held_with name (Some t) = held_in name t t.kind
@@ -58,6 +63,7 @@ held s name past = held_with name (open_of s past)
 abbrev pub blocks : ℕ → Need → List Event → Bool
 blocks s n past = conflicts (held s n.name past) n.mode
 
+-- whose commit is in doubt after the event, from whose was before
 abbrev pub doubt_behind : Event → Option ℕ → Option ℕ
 doubt_behind (events.Doubt s n mark) whose = Some s
 doubt_behind (events.Settled by s stands) whose = None

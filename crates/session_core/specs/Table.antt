@@ -11,6 +11,7 @@ use Rattle.session_core.specs.contracts.event.State as the_state
 abbrev pub States : Type 0
 States = fin.FinMap nat_cmp State
 
+-- how a table of states is written as one value: by its sessions and their states
 abbrev pub states_code : Coded States
 states_code = fin.code coded_ℕ the_state.the_row.coded
 

@@ -28,6 +28,7 @@ pub record IsDoubt (B : Base) (past : List Event) (whose : ℕ) (forest : Forest
   pub forest_is : forest ≡ run_calls (newest B past) (ran_all transaction.replies)
   pub left : B.numbers.commit + commit_count past < last_number
 
+-- the commit in doubt is what the events tell: none, or this session's with this forest after it
 abbrev pub DoubtIs : Base → List Event → Option (ℕ × Forest) → Type 0
 DoubtIs B past None = in_doubt past ≡ None
 DoubtIs B past (Some d) = IsDoubt B past d.0 d.1
@@ -44,6 +45,7 @@ abbrev pub AllForests : List Forest → Type 0
 AllForests [] = Unit {0}
 AllForests (F ∷ more) = IsForest F × AllForests more
 
+-- the documents of the commit in doubt are valid, where there is one
 abbrev pub DoubtIsForest : Option (ℕ × Forest) → Type 0
 DoubtIsForest None = Unit {0}
 DoubtIsForest (Some d) = IsForest d.1
@@ -60,6 +62,7 @@ pub record Holdings : Type 0 where
   pub forests : List Forest
   pub doubt : Option (ℕ × Forest)
 
+-- what a core holds, by its parts
 abbrev pub holding : List Event → ℕ → States → ℕ → ℕ → Locks → List Forest → Option (ℕ × Forest) → Holdings
 holding journal capacity states opened number locks forests doubt =
     record { journal = journal; capacity = capacity; states = states; opened = opened; number = number; locks = locks; forests = forests; doubt = doubt }

@@ -33,17 +33,21 @@ pub record Transaction : Type 0 where
   pub replies : List Reply
   pub in_doubt : Bool
 
+-- a transaction that has just begun: without locks and replies, and not in doubt
 abbrev pub begun : BeginKind → Transaction
 begun kind = record { kind = kind; locks = []; replies = []; in_doubt = false }
 
+-- the transaction with more locks, where there is one
 abbrev pub with_locks : List Need → Option Transaction → Option Transaction
 with_locks more None = None
 with_locks more (Some t) = Some (record t { locks = t.locks ++ more })
 
+-- the transaction with one reply more, where there is one
 abbrev pub with_reply : Reply → Option Transaction → Option Transaction
 with_reply reply None = None
 with_reply reply (Some t) = Some (record t { replies = t.replies ++ reply ∷ [] })
 
+-- the transaction with its commit in doubt, where there is one
 abbrev pub with_doubt : Option Transaction → Option Transaction
 with_doubt None = None
 with_doubt (Some t) = Some (record t { in_doubt = true })
@@ -72,6 +76,7 @@ abbrev pub where_updating : Transaction → BeginKind → List Transaction
 where_updating t kinds.Updating = t ∷ []
 where_updating t (kinds.Reading n) = []
 
+-- the open transaction, where there is one and it is an updating one
 abbrev pub updating : Option Transaction → List Transaction
 updating None = []
 updating (Some t) = where_updating t t.kind
@@ -119,6 +124,7 @@ is_without_run (codes.Damaged commit ordinal page) = true
 is_without_run codes.NoMemory = true
 is_without_run _ = false
 
+-- the answer says that its call ran
 abbrev pub says_run : Says → Bool
 says_run (says.Error code) = not (is_without_run code)
 says_run _ = true
@@ -128,6 +134,7 @@ pub record Ran : Type 0 where
   pub call : Call
   pub says : Says
 
+-- the call with its answer, where it is a statement and ran
 abbrev pub ran_by : Option Call → Says → List Ran
 ran_by None answer = []
 ran_by (Some call) answer = if is_statement call then (if says_run answer then record { call = call; says = answer } ∷ [] else []) else []
@@ -136,6 +143,7 @@ ran_by (Some call) answer = if is_statement call then (if says_run answer then r
 abbrev pub ran : Reply → List Ran
 ran reply = ran_by reply.call reply.says
 
+-- the calls that ran, of all the replies in order
 abbrev pub ran_all : List Reply → List Ran
 ran_all [] = []
 ran_all (reply ∷ more) = ran reply ++ ran_all more

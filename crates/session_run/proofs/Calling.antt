@@ -23,7 +23,7 @@ use Rattle.session_core.specs.States.{state, state_with, state_in, is_open, is_r
 use Rattle.session_core.specs.Refusals.{refused_in, work_of, begins, ends, checkpoints}
 use Rattle.session_core.specs.Locks.{AreGranted}
 use Rattle.session_core.specs.Kept.{Kept, with_event, past, Follows, forest_behind, forest_in}
-use Rattle.session_core.specs.Settling.{HasNoCommitLeft}
+use Rattle.session_core.specs.Settling.{last_number, HasNoCommitLeft}
 use Rattle.session_core.proofs.Covering.{AreHeld, none_ran}
 use Rattle.session_core.proofs.Holding.{locks_by, locks_in}
 use Rattle.session_core.proofs.Turning.{agree_needs}
@@ -120,7 +120,7 @@ pub refused_unrun : (x : State) (call : Call) (code : Code) → refused_in x (wo
 refused_unrun x call code is = none_ran (Some call) (says.Error code) (ap not (state_unrun code (refused_code x (work_of call) code is)))
 
 -- the newest number is the last one
-pub none_left : (B : Base) (before : List Event) (n : ℕ) → n ≡ newest_number B.numbers before → n ≡ 18446744073709551615 → HasNoCommitLeft B.numbers before
+pub none_left : (B : Base) (before : List Event) (n : ℕ) → n ≡ newest_number B.numbers before → n ≡ last_number → HasNoCommitLeft B.numbers before
 none_left B before n is full = omega arith
 
 -- ---- a reader

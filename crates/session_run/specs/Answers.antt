@@ -5,5 +5,6 @@ use Rattle.session_core.specs.declared.event.Says.{Says}
 use Rattle.session_core.specs.declared.event.Event.{Event}
 use Rattle.session_core.specs.declared.event.Event.TheVariants.{Answered}
 
+-- the session's call was given this answer
 abbrev pub answered : ℕ → Option Call → Says → Event
 answered s call answer = Answered s (record { call = call; says = answer })

@@ -14,6 +14,7 @@ use Rattle.session_run.specs.Calls.{TakesNoDevice, AreOfCall}
 use Rattle.xml_model.specs.Changes.{ChangeMap}
 use Rattle.session_run.specs.Tied.{IsTied}
 
+-- the journal with these events at its end, over the same base
 abbrev pub with_events : List Event → Kept → Kept
 with_events events k = record { base = k.base; journal = k.journal ++ events }
 
@@ -51,6 +52,7 @@ pub record AddsClosing (s : ℕ) (call : Call) (old new : Kept) : Type 0 where
   pub right : TakesNoDevice old.base event (past old)
   pub grown : new ≡ with_event event old
 
+-- the journal after the grant of the call's locks
 abbrev pub behind_grant : ℕ → Call → Kept → Kept
 behind_grant s call old = with_event (Granted s (needs call)) old
 

@@ -20,6 +20,7 @@ AreChangesOf B before changes (t ∷ more) = (G : Forest) → AgreeAt t.locks (n
 abbrev pub IsTied : Base → ℕ → ChangeMap → List Event → Type 0
 IsTied B s changes before = AreChangesOf B before changes (updating (open_of s before))
 
+-- the event is no grant and no settling, after which a call is still to be closed; and so is no event at all
 abbrev pub EndsCall : Option Event → Type 0
 EndsCall (Some (Granted s asked)) = ⊥
 EndsCall (Some (Settled by s stands)) = ⊥

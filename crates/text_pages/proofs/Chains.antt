@@ -7,6 +7,7 @@ use Rattle.text_pages.specs.Meaning.{IsForm, IsPiece, next_at, bytes_of, IsChain
 use Rattle.text_pages.specs.Keeping.{IsSame}
 use Rattle.page_bytes.proofs.Askings.{first_true, second_true}
 
+-- pages by their numbers
 abbrev pub Pages : Type 0
 Pages = ℕ → Option (List ℕ)
 
@@ -40,6 +41,7 @@ same_ref r x is =
     let slot = eqb-true r.slot x.slot (second_true (r.page == x.page) (r.slot == x.slot) is) in
     λ i. record { page = page i; slot = slot i }
 
+-- a reference has its own page and its own slot
 pub same_as_itself : (r : TextRef) → (r.page == r.page && r.slot == r.slot) ≡ true
 same_as_itself r = (λ i. eq-eqb r.page r.page refl i && eq-eqb r.slot r.slot refl i)
 
@@ -51,9 +53,11 @@ listed_cases x xs r {P = P} is first later = at (r.page == x.page && r.slot == x
     at true same is = first (same_ref r x same)
     at false same is = later is
 
+-- the first reference of a list is in it
 pub listed_first : (x : TextRef) (xs : List TextRef) → is_listed (x ∷ xs) x ≡ true
 listed_first x xs = ap (λ b. b || is_listed xs x) (same_as_itself x)
 
+-- what is in the rest of a list is in the list
 pub listed_later : (x : TextRef) (xs : List TextRef) (r : TextRef) → is_listed xs r ≡ true → is_listed (x ∷ xs) r ≡ true
 listed_later x xs r is = at (r.page == x.page && r.slot == x.slot)
   where
@@ -77,6 +81,7 @@ module _ (pages : Pages) where
         let here = same r (listed_first r rs) in
         (chain.0, here.0, subst (λ next. IsChain new next rs) (sym here.1) (chain_stays rs (next_at pages r) chain.2 (λ q is. same q (listed_later r rs q is))))
 
+    -- pieces that are all as they were have the same joined bytes
     pub joined_stays : (rs : List TextRef) → ((q : TextRef) → is_listed rs q ≡ true → IsSame pages new q) → joined_bytes new rs ≡ joined_bytes pages rs
     joined_stays [] same = refl
     joined_stays (r ∷ rs) same =

@@ -134,6 +134,7 @@ module _ (c : Call) (spares : SparesTexts c) where
           ap (piece_text q.slot) same,
         )
 
+    -- the pages of the set mean the same texts after the call as before it
     pub texts_spared : AreTexts (only set (behind c)) texts
     texts_spared = texts_stay (only set (before c)) (only set (behind c)) texts m form_stays
         (λ at q there listed. piece_same q (chain_pieces (only set (before c)) (m.chain at) at q (m.leads at there) listed))

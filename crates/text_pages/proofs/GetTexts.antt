@@ -41,6 +41,7 @@ module _ (set : ℕ → Bool) (k : Known) (all : PageId → Option (List ℕ)) (
       passes : (e a n : ℕ) → e ≤ a → 11 ≤ n → a + n ≤ 4096 → (nat_le e a && nat_le 11 n && nat_le (a + n) 4096) ≡ true
       passes e a n behind long within = grind (arith, nat_tests)
 
+  -- the page of a piece is given with its bytes, or a page is needed
   pub piece_page-is : (from : ℕ) (at : TextRef) → IsPiece (among set k all space) at
       → Gives k all space (piece_page k space from at) (bytes (among set k all space) at.page) (Unit {0})
   piece_page-is from at is =
@@ -90,6 +91,7 @@ module _ (set : ℕ → Bool) (k : Known) (all : PageId → Option (List ℕ)) (
     pub leads : IsChain (among set k all space) j.at (drop n rs)
     pub joins : j.text ++ joined_bytes (among set k all space) (drop n rs) ≡ joined_bytes (among set k all space) rs
 
+  -- so many pieces have been read, or reading stops for a need or want of memory
   abbrev pub ReadAs : ℕ → Result Joined PageEnd → Type 0
   ReadAs n r = MatchResult r (HasRead n) (λ end. IsStop k all space end)
 
@@ -131,6 +133,7 @@ module _ (set : ℕ → Bool) (k : Known) (all : PageId → Option (List ℕ)) (
           }))
           (λ need. subst (λ r. ReadAs (suc n) (and_then r (λ page. Ok (with_piece j page)))) (sym need.1.0) (inr need.1.1))
 
+  -- the first n pieces of the chain can be read, or reading stops for a need or want of memory
   pub read_as : (n : ℕ) → ReadAs n (joined k space first n)
   read_as zero = record { leads = chain; joins = refl }
   read_as (suc n) = more (joined k space first n) (read_as n)
@@ -192,6 +195,8 @@ alone_means set k all space texts at text m there r is = from (at.page == 0) ref
     from false past there = given (m.chain at) (m.once at (is_some_of (map.get texts at) text there)) (m.leads at (is_some_of (map.get texts at) text there))
         (m.joins at text there).0 r is
 
+-- what is read at the reference of a text that the pages mean is that text;
+-- it isn't given only for a need, want of memory, or where it is no UTF-8
 pub get_means : (k : Known) (all : PageId → Option (List ℕ)) (space : Space) (texts : TextMap) (at : TextRef) (text : List ℕ)
     → MeansTexts (seen k all space) texts → text_in texts at ≡ Some text
     → (r : Result (List ℕ) PageEnd) → IsStrAt k space at r → MatchResult r (λ s. s ≡ text) (λ end. IsNotGiven k all space at text end)

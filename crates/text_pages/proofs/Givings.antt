@@ -24,12 +24,14 @@ slotted page kind sound = passes (slice_index page 0) (slots_end page) (lowest p
     passes : (k e l : ℕ) → k ≡ 5 → e ≤ l → l ≤ 4096 → (k == 5 && nat_le e l && nat_le l 4096) ≡ true
     passes k e l five slots low = grind (arith, nat_tests)
 
+-- a page that has a piece in a slot passes that test
 pub has_piece_true : (page : List ℕ) (slot : ℕ) → HasPiece page slot → has_piece slot page ≡ true
 has_piece_true page slot has = passes slot (slot_count page) (piece_at slot page) has.0 has.1
   where
     passes : (s c a : ℕ) → s < c → 0 < a → (nat_lt s c && not (a == 0)) ≡ true
     passes s c a inside some = grind (arith, nat_tests)
 
+-- each piece of a sound page passes the test of one that may be taken out
 pub may_go_true : (page : List ℕ) (slot : ℕ) → IsSound page → HasPiece page slot → may_go slot page ≡ true
 may_go_true page slot sound has =
     let within = sound.inside slot has in let slots = sound.slots in
@@ -76,6 +78,7 @@ module _ (set : ℕ → Bool) (k : Known) (all : PageId → Option (List ℕ)) (
         (gives_then k all space (text_page k space 0 n) (λ page. Ok (offered n (place_for size page) page)) page _ (text_page-is 0 n is)
         (λ there. inl (refl, there)))
 
+    -- the room of a text page is given, or the page is needed
     pub room-is : (n : ℕ) → IsTextPage (among set k all space) n
         → Gives k all space (room_in k space n) (Some (room (bytes (among set k all space) n))) (Unit {0})
     room-is n is =

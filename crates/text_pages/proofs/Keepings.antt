@@ -87,12 +87,14 @@ module _ (all : PageId → Option (List ℕ)) (space : Space) where
             with_step put step (pieces_put_in n put.1 space put.0 text) (more step.then_set put step.page_small step.slot_small step.puts.form)
         carried (Err end) is more = tt
 
+    -- a text that was put from pages in form changed no piece that was there, on the pages of some set
     pub text_kept : (set : ℕ → Bool) (w new : Work) (at : TextRef) → IsForm (among set w.now all space) → put_in w space text ≡ Ok (at, new)
         → (last : ℕ → Bool) × KeepsIn set last w new []
     text_kept set w new at form is = subst (PutKeeps set w) is (pieces_kept (piece_count text) set w nowhere (omega arith) (lit< tt) (lit< tt) form)
 
   -- a text is taken away
   module _ (set : ℕ → Bool) (w : Work) (at : TextRef) (gone : List TextRef) where
+    -- so far the pages are in form, what is left is a chain of pieces that are to go, and all others are as they were
     pub record LeavesRest (t : Taken) : Type 0 where
       pub rest : List TextRef
       pub form : IsForm (among set t.work.now all space)
@@ -145,6 +147,7 @@ module _ (all : PageId → Option (List ℕ)) (space : Space) where
           more (Ok t) h = one_more t h
           more (Err end) is = tt
 
+      -- after any number of pieces taken away from a chain this holds
       pub left_at : (n : ℕ) (t : Taken) → taken_in w space at n ≡ Ok t → LeavesRest t
       left_at n t is = subst (λ r. MatchResult r LeavesRest (λ end. Unit {0})) is (left_rest n)
 
@@ -154,6 +157,7 @@ pub put_keeps : (w new : Work) (all : PageId → Option (List ℕ)) (space : Spa
     → put_in w space bytes ≡ Ok (at, new) → KeepsPieces (among set w.now all space) (seen new.now all space) []
 put_keeps w new all space set bytes at form is = let kept = text_kept all space bytes set w new at form is in widened all space set kept.0 w new [] kept.1
 
+-- where a text was removed, all pieces beside its chain are as they were
 pub remove_keeps : (w new : Work) (all : PageId → Option (List ℕ)) (space : Space) (set : ℕ → Bool) (at : TextRef) (chain : List TextRef)
     → IsForm (among set w.now all space)
     → IsChain (among set w.now all space) at chain → IsOnceEach chain → IsRemoved w space at (Ok tt) new
@@ -163,6 +167,7 @@ remove_keeps w new all space set at chain form leads once is =
     subst (λ (v : Work). KeepsPieces (among set w.now all space) (seen v.now all space) chain) (sym is.1.1.2)
     (widened all space set set w is.1.0.work chain left.keeps)
 
+-- where a text was replaced, all pieces beside its chain are as they were
 pub replace_keeps : (w new : Work) (all : PageId → Option (List ℕ)) (space : Space) (set : ℕ → Bool) (at : TextRef) (chain : List TextRef) (bytes : List ℕ)
     (ref : TextRef) → IsForm (among set w.now all space)
     → IsChain (among set w.now all space) at chain → IsOnceEach chain → IsReplaced w space at bytes (Ok ref) new

@@ -1,3 +1,4 @@
+-- Lemmas of texts: one page, chains of pieces over pages, and what each call does to the meaning.
 pub mod NewPages
 pub mod SlotWalks
 pub mod Weights

@@ -11,6 +11,7 @@ use Rattle.text_pages.specs.Meaning.{IsTextPage, IsForm, IsPiece, IsChain, joine
 use Rattle.text_pages.proofs.Chains.{Pages, Loose, same_ref, same_as_itself, listed_first}
 use Rattle.text_pages.proofs.PageSteps.{head_is_none}
 
+-- references have a total order, by page and then by slot
 pub ref_cmp-total : IsTotalOrder ref_cmp
 ref_cmp-total = then_total (on_total (λ (r : TextRef). r.page) nat_cmp_total) (on_total (λ (r : TextRef). r.slot) nat_cmp_total)
 
@@ -23,12 +24,15 @@ both_tied Greater p = refl
 abbrev pub is_same : TextRef → TextRef → Bool
 is_same q r = q.page == r.page && q.slot == r.slot
 
+-- two references are tied in this order where they are one
 pub tied_is_same : (q r : TextRef) → eq_by_cmp ref_cmp q r ≡ is_same q r
 tied_is_same q r = both_tied (nat_cmp q.page r.page) (nat_cmp q.slot r.slot) ∙ (λ i. unsigned_tied q.page r.page i && unsigned_tied q.slot r.slot i)
 
+-- the reference of a text that was put has this text, and every other what it had
 pub get-with : (texts : TextMap) (at q : TextRef) (text : List ℕ) → map.get (map.insert texts at text) q ≡ cond (is_same q at) (Some text) (map.get texts q)
 get-with texts at q text = map.get-insert ref_cmp-total texts at text q ∙ ap (λ b. cond b (Some text) (map.get texts q)) (tied_is_same q at)
 
+-- the reference of a text that was taken out has none, and every other what it had
 pub get-without : (texts : TextMap) (at q : TextRef) → map.get (map.remove texts at) q ≡ cond (is_same q at) None (map.get texts q)
 get-without texts at q = map.get-remove ref_cmp-total texts at q ∙ ap (λ b. cond b None (map.get texts q)) (tied_is_same q at)
 
@@ -40,10 +44,12 @@ left_is texts at q text is = here (is_same q at) refl (sym (get-without texts at
     here true same is = cc
     here false differ is = (is, λ one. true≢false (sym (ap (λ r. is_same r at) one ∙ same_as_itself at) ∙ differ))
 
+-- what is there is some value
 pub some_is : {X : Type 0} (o : Option X) → IsSome o → (x : X) × (o ≡ Some x)
 some_is None is = absurd (true≢false (sym is))
 some_is (Some x) is = (x, refl)
 
+-- a value that is there is there
 pub is_some_of : {X : Type 0} (o : Option X) (x : X) → o ≡ Some x → IsSome o
 is_some_of o x is = ap is_some is
 
@@ -94,6 +100,7 @@ first_piece pages texts at text l past = from l.pieces l.leads
     from [] chain = absurd (past chain)
     from (r ∷ rs) chain = (subst (IsPiece pages) (sym chain.0) chain.1, subst (λ x. is_listed (r ∷ rs) x ≡ true) (sym chain.0) (listed_first r rs))
 
+-- the reference of a text that has a byte is not on page 0
 pub some_page : (pages : Pages) (texts : TextMap) (at : TextRef) (b : ℕ) (bs : List ℕ) → Loose pages texts at (b ∷ bs) → at.page ≢ 0
 some_page pages texts at b bs l = from l.pieces l.leads l.joins
   where
@@ -113,6 +120,7 @@ module _ (pages : Pages) (texts : TextMap) (at : TextRef) (b : ℕ) (bs : List �
   abbrev more : TextMap
   more = map.insert texts at text
 
+  -- no text of the map has this reference
   pub is_new : map.get texts at ≡ None
   is_new = from (map.get texts at) refl
     where
@@ -176,8 +184,10 @@ module _ (pages : Pages) (texts : TextMap) (at : TextRef) (b : ℕ) (bs : List �
           → is_listed (if c then l.pieces else l.means.chain q) r ≡ true
       new_or_old q c same listed = subst (λ c. is_listed (if c then l.pieces else l.means.chain q) r ≡ true) same listed
 
+  -- these pages alone mean the texts with this one more
   pub means_more : AreTexts pages (map.insert texts at (b ∷ bs))
   means_more = record { form = l.means.form; chain = chains; leads = leads_more; joins = joins_more; once = once_more; apart = apart_more }
 
+  -- the text is put: its reference is past page 0 and new, and these pages alone mean the texts with it
   pub text_put : PutAlone pages texts (b ∷ bs) at
   text_put = let past = some_page pages texts at b bs l in ((omega (arith, past), is_new), means_more)

@@ -124,6 +124,7 @@ module _ (all : PageId → Option (List ℕ)) (space : Space) where
           ];
         }
 
+    -- a piece that was taken away has kept to the texts' own and made no page
     pub taken_own : (from : ℕ) (next : TextRef) (new : Work) → piece_taken_in w space from at ≡ Ok (next, new) → KeepsToOwn texts_own 0 w new all space
     taken_own from next new is = taken_case w space at (Owned 0 w) from next new cases is
 
@@ -182,6 +183,8 @@ module _ (all : PageId → Option (List ℕ)) (space : Space) where
         subst (λ (p : TextRef × Work). Puts w p.1) (one_value (record { page = n; slot = place.slot }, with_piece_on w space n place next text) (put, new) gave)
         (on_page n place o (long o.positive))
 
+    -- a piece that was put has kept to the texts' own and made one page at most, and all pages seen are still seen,
+    -- if the page that the head tries first is a whole page
     pub put_own : IsFirstLong w.now space → piece_put_in w space next text ≡ Ok (put, new) → KeepsToOwn texts_own 1 w new all space × Stays all space w new
     put_own long_first is =
         let size = 10 + length text in

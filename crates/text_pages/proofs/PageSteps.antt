@@ -103,6 +103,7 @@ module _ (pages new : Pages) (n : ℕ) (form : IsForm pages) (others : (q : ℕ)
           ap (piece_text q.slot) after ∙ into.same_text page place next text o.long p q.slot has within.0 within.1 ∙ sym (ap (piece_text q.slot) before),
         )
 
+    -- the new pages are the old ones with this piece put, each other piece as it was, in form
     pub puts_piece : Puts pages new (record { page = n; slot = place.slot }) next text
     unfolding next_at bytes_of
     puts_piece = record {
@@ -136,6 +137,7 @@ module _ (pages new : Pages) (n : ℕ) (form : IsForm pages) (others : (q : ℕ)
           ap (piece_text q.slot) after ∙ out.same_text page slot sound has q.slot there slots ∙ sym (ap (piece_text q.slot) before),
         )
 
+    -- the new pages are the old ones without this piece, each other piece as it was, in form
     pub takes_piece : Takes pages new (record { page = n; slot = slot })
     takes_piece = record {
       kept = λ q is differ. same_or_not q.page n (λ same. left_piece q is same differ) (other_piece q is);
@@ -161,6 +163,7 @@ module _ (pages new : Pages) (n : ℕ) (form : IsForm pages) (others : (q : ℕ)
             (λ free. let none = eqb-true (piece_at count (bytes pages n)) 0 free in let positive' = subst (λ t. 0 < piece_at t (bytes pages n)) last positive in
             absurd (omega (arith, none, positive')))
 
+    -- a page that went with its only piece took no other: each is as it was, and the pages are in form
     pub takes_page : Takes pages new (record { page = n; slot = slot })
     takes_page = record {
       kept = λ q is differ. same_or_not q.page n

@@ -23,6 +23,7 @@ pub record IsPlace (page : List ℕ) (place : Place) (k : ℕ) : Type 0 where
   pub free : HasPiece page place.slot → ⊥
   pub above : (s : ℕ) → HasPiece page s → place.at + k ≤ piece_at s page
 
+-- of two different slots one is before the other
 pub slot_order : (s t : ℕ) → s ≢ t → (s < t) ⊎ (t < s)
 slot_order s t differ = at (nat_lt s t) refl
   where
@@ -68,15 +69,18 @@ module _ (page : List ℕ) (place : Place) (next : TextRef) (text : List ℕ) (l
   long_counted : length counted ≡ 4096
   long_counted = let same = long_slotted in length-with_field 2 slotted 2 place.count (omega (arith, same)) ∙ long_slotted
 
+  -- the page still has 4,096 bytes
   pub long_new : length (with_piece place next text page) ≡ 4096
   long_new = let same = long_counted in length-with_field 2 counted 4 place.at (omega (arith, same)) ∙ long_counted
 
+  -- the page has as many slots as the place says
   pub new_count : slot_count (with_piece place next text page) ≡ place.count
   new_count =
       let same = long_counted in let count = p.count in let long = long_slotted in
       field_apart 2 2 2 counted 4 place.at (inl (omega arith)) (omega (arith, same))
       ∙ field-written 2 2 place.count slotted (omega (arith, count)) (omega (arith, long))
 
+  -- the new piece is the lowest
   pub new_lowest : lowest (with_piece place next text page) ≡ place.at
   new_lowest = let same = long_counted in let inside = p.inside in field-written 2 4 place.at counted (omega (arith, inside)) (omega (arith, same))
 
@@ -110,6 +114,7 @@ module _ (page : List ℕ) (place : Place) (next : TextRef) (text : List ℕ) (l
       → bytes_at q n (with_piece place next text page) ≡ bytes_at q n page
   beside_all q n head slot piece = headed q n head ∙ beside_slot q n slot ∙ beside_content q n piece
 
+  -- the page still has its kind
   pub new_kind : slice_index (with_piece place next text page) 0 ≡ slice_index page 0
   new_kind =
       let inside = p.behind in
@@ -125,10 +130,12 @@ module _ (page : List ℕ) (place : Place) (next : TextRef) (text : List ℕ) (l
       field-bytes_at 2 (slot_at s + off) page (with_piece place next text page) (beside_all (slot_at s + off) 2 (inr (omega arith))
       (split (slot_order s place.slot differ) (λ l. inl (omega (arith, l, part))) (λ r. inr (omega (arith, r)))) (inl (omega (arith, behind, inside, part))))
 
+  -- every other piece begins where it did
   pub same_at : (s : ℕ) → s < place.count → s ≢ place.slot → piece_at s (with_piece place next text page) ≡ piece_at s page
   same_at s inside differ = ap (λ n. field 2 n (with_piece place next text page)) (omega arith) ∙ same_slot s 0 inside differ (omega arith)
       ∙ ap (λ n. field 2 n page) (omega arith)
 
+  -- every other piece is as long as it was
   pub same_length : (s : ℕ) → s < place.count → s ≢ place.slot → piece_length s (with_piece place next text page) ≡ piece_length s page
   same_length s inside differ = same_slot s 2 inside differ (omega arith)
 
@@ -142,6 +149,7 @@ module _ (page : List ℕ) (place : Place) (next : TextRef) (text : List ℕ) (l
       (inl (omega arith)) (omega (arith, long, slot, half))
       ∙ field-written 2 (slot_at place.slot) place.at content (omega (arith, inside)) (omega (arith, long, slot))
 
+  -- the new piece has its ten bytes of reference and the text's
   pub new_length : piece_length place.slot (with_piece place next text page) ≡ 10 + length text
   new_length =
       let long = long_content in let slot = below in let inside = p.inside in
@@ -156,6 +164,7 @@ module _ (page : List ℕ) (place : Place) (next : TextRef) (text : List ℕ) (l
       let low = p.behind in let slot = p.slot in
       headed q n (inr (omega (arith, low, behind))) ∙ beside_slot q n (inr (omega (arith, low, behind, slot)))
 
+  -- the new piece leads to the reference that was given, if its page has eight bytes and its slot two
   pub new_next : next.page < 256 ^ 8 → next.slot < 256 ^ 2 → next_piece place.slot (with_piece place next text page) ≡ next
   new_next page_small slot_small =
       let new = with_piece place next text page in
@@ -172,6 +181,7 @@ module _ (page : List ℕ) (place : Place) (next : TextRef) (text : List ℕ) (l
       ∙ field-written 2 (place.at + 8) next.slot first slot_small (omega (arith, one, inside)) in
       ap (λ at. record { page = field 8 at new; slot = field 2 (at + 8) new }) new_at ∙ (λ i. record { page = page_is i; slot = slot_is i })
 
+  -- the new piece has the text that was given
   pub new_text : piece_text place.slot (with_piece place next text page) ≡ text
   new_text =
       let new = with_piece place next text page in
@@ -188,6 +198,7 @@ module _ (page : List ℕ) (place : Place) (next : TextRef) (text : List ℕ) (l
     was_inside : s < place.count
     was_inside = p.kept s has.0
 
+    -- the page still has it
     pub still_has : HasPiece (with_piece place next text page) s
     still_has = let count = new_count in let same = same_at s was_inside differs in let some = has.1 in let inside = was_inside in
         (omega (arith, count, inside), omega (arith, same, some))
@@ -198,6 +209,7 @@ module _ (page : List ℕ) (place : Place) (next : TextRef) (text : List ℕ) (l
         let above = p.above s has in let low = p.behind in let slot = p.slot in
         beside_all (piece_at s page + off) n (inr (omega (arith, above, low))) (inr (omega (arith, above, low, slot))) (inr (omega (arith, above)))
 
+    -- it leads to the piece that it led to
     pub same_next : next_piece s (with_piece place next text page) ≡ next_piece s page
     same_next =
         let new = with_piece place next text page in let at = piece_at s page in
@@ -207,6 +219,7 @@ module _ (page : List ℕ) (place : Place) (next : TextRef) (text : List ℕ) (l
         ap (λ at. record { page = field 8 at new; slot = field 2 (at + 8) new }) (same_at s was_inside differs)
         ∙ (λ i. record { page = page_is i; slot = slot_is i })
 
+    -- it has the text that it had
     pub same_text : piece_text s (with_piece place next text page) ≡ piece_text s page
     same_text =
         let new = with_piece place next text page in

@@ -92,9 +92,11 @@ module _ (hole : Hole) (inside : IsHole hole) where
 
 -- a slot's piece is taken out of a sound page
 module _ (page : List ℕ) (slot : ℕ) (sound : IsSound page) (has : HasPiece page slot) where
+  -- the hole that the piece leaves
   abbrev pub hole : Hole
   hole = hole_of slot page
 
+  -- the hole's slot is one of the page's, at most 1,022, and its bytes are inside, not before the lowest piece
   pub is_hole : IsHole (hole_of slot page)
   is_hole = let slots = sound.slots in let low = sound.low in let within = sound.inside slot has in (omega (arith, slots, low), has.0, within.0, within.2)
 
@@ -107,6 +109,7 @@ module _ (page : List ℕ) (slot : ℕ) (sound : IsSound page) (has : HasPiece p
   abbrev freed : List ℕ
   freed = with_slot slot 0 0 slots_moved
 
+  -- the page with the hole closed
   abbrev pub new : List ℕ
   new = closed (hole_of slot page) page
 
@@ -119,9 +122,11 @@ module _ (page : List ℕ) (slot : ℕ) (sound : IsSound page) (has : HasPiece p
   long_freed : length freed ≡ 4096
   long_freed = length-slots_closed hole is_hole page sound.long
 
+  -- the page still has 4,096 bytes
   pub long_new : length new ≡ 4096
   long_new = let long = long_freed in length-with_field 2 freed 4 (lowest page + piece_length slot page) (omega (arith, long)) ∙ long_freed
 
+  -- the lowest piece begins as much later as the piece was long
   pub new_lowest : lowest new ≡ lowest page + piece_length slot page
   new_lowest = lowest-closed hole is_hole page sound.long
 
@@ -164,9 +169,11 @@ module _ (page : List ℕ) (slot : ℕ) (sound : IsSound page) (has : HasPiece p
       ∙ beside_all_moved hole is_hole (slot_count page) q n moved is_hole.0 long_moved (inl (omega (arith, before)))
       ∙ beside_pieces q n (inl (omega (arith, before, slots)))
 
+  -- the page still has its kind
   pub new_kind : slice_index new 0 ≡ slice_index page 0
   new_kind = sym (slice_index-bytes_at new 0) ∙ ap (λ l. slice_index l 0) (before_slots 0 1 (omega arith)) ∙ slice_index-bytes_at page 0
 
+  -- the page has as many slots as before
   pub new_count : slot_count new ≡ slot_count page
   new_count = field-bytes_at 2 2 page new (before_slots 2 2 (omega arith))
 
@@ -186,6 +193,7 @@ module _ (page : List ℕ) (slot : ℕ) (sound : IsSound page) (has : HasPiece p
   other_apart : (s off : ℕ) → s ≢ slot → off + 2 ≤ 4 → Apart (slot_at s + off) 2 (slot_at slot) 4
   other_apart s off differ part = split (slot_order s slot differ) (λ l. inl (omega (arith, l, part))) (λ r. inr (omega (arith, r)))
 
+  -- every other slot says where its piece is after the move
   pub slot_moved : (s : ℕ) → s < slot_count page → s ≢ slot → piece_at s new ≡ moved_to hole (piece_at s page)
   slot_moved s inside differ =
       let apart : Apart (slot_at s) 2 (slot_at slot) 4 = split (slot_order s slot differ) (λ l. inl (omega (arith, l))) (λ r. inr (omega (arith, r))) in
@@ -194,6 +202,7 @@ module _ (page : List ℕ) (slot : ℕ) (sound : IsSound page) (has : HasPiece p
       ∙ slot_moves hole is_hole (slot_count page) s moved is_hole.0 long_moved inside
       ∙ ap (moved_to hole) (moved_slot_is s inside)
 
+  -- every other piece is as long as it was
   pub length_stays : (s : ℕ) → s < slot_count page → s ≢ slot → piece_length s new ≡ piece_length s page
   length_stays s inside differ =
       let slots = sound.slots in
@@ -209,10 +218,12 @@ module _ (page : List ℕ) (slot : ℕ) (sound : IsSound page) (has : HasPiece p
       pub at : piece_at s new ≡ piece_at s page + piece_length slot page
       pub before : piece_at s page + piece_length s page ≤ piece_at slot page
 
+    -- it is above the hole, and begins where it did
     pub record IsStill : Type 0 where
       pub at : piece_at s new ≡ piece_at s page
       pub behind : piece_at slot page + piece_length slot page ≤ piece_at s page
 
+    -- each other piece is one or the other
     pub either_place : IsMoved ⊎ IsStill
     either_place = at (nat_lt (piece_at s page) (piece_at slot page)) refl
       where
@@ -268,6 +279,7 @@ module _ (page : List ℕ) (slot : ℕ) (sound : IsSound page) (has : HasPiece p
     field_moves : (n off : ℕ) → off + n ≤ piece_length s page → field n (piece_at s new + off) new ≡ field n (piece_at s page + off) page
     field_moves n off part = field-moved n (piece_at s page + off) (piece_at s new + off) page new (part_is off n part)
 
+    -- it leads to the piece that it led to
     pub same_next : next_piece s new ≡ next_piece s page
     same_next =
         let large = (sound.inside s there).1 in
@@ -276,11 +288,13 @@ module _ (page : List ℕ) (slot : ℕ) (sound : IsSound page) (has : HasPiece p
         let slot_is : field 2 (piece_at s new + 8) new ≡ field 2 (piece_at s page + 8) page = field_moves 2 8 (omega (arith, large)) in
         λ i. record { page = page_is i; slot = slot_is i }
 
+    -- it has the text that it had
     pub same_text : piece_text s new ≡ piece_text s page
     same_text =
         let large = (sound.inside s there).1 in
         ap (λ n. bytes_at (piece_at s new + 10) (n - 10) new) (length_stays s there.0 differ) ∙ part_is 10 (piece_length s page - 10) (omega (arith, large))
 
+    -- the page still has it
     pub still_has : HasPiece new s
     still_has = let count = new_count in let inside = there.0 in let some = there.1 in (
       omega (arith, count, inside),

@@ -74,6 +74,7 @@ module _ (page : List ℕ) where
       at false fits is = cc
 
   module _ (sound : IsSound page) (k : ℕ) where
+    -- a place found for k bytes on a sound page is below all its pieces, past its slots, and in a free slot
     pub place_is : (place : Place) → place_for k page ≡ Some place → IsPlace page place k
     place_is place is = at (nat_le (slot_at (slots_then page) + k) (lowest page)) refl is
       where
@@ -100,21 +101,26 @@ module _ (page : List ℕ) where
 abbrev pub blank : List ℕ
 blank = with_bytes zeros 0 (TEXT_KIND ∷ [])
 
+-- this page is a text page
 pub blank_kind : slice_index blank 0 ≡ TEXT_KIND
 blank_kind = sym (slice_index-bytes_at blank 0) ∙ ap (λ l. slice_index l 0) (bytes_at-written zeros 0 (TEXT_KIND ∷ []) (omega arith))
 
+-- this page has 4,096 bytes
 pub blank_long : length blank ≡ 4096
 blank_long = length-with_bytes zeros 0 (TEXT_KIND ∷ []) (lit≤ tt)
 
+-- this page has no slot
 pub blank_count : slot_count blank ≡ 0
 unfolding field
 blank_count = refl
 
+-- the pieces of this page, of which there are none, lie right
 pub blank_open : IsOpen blank
 blank_open =
     let none : (s : ℕ) → HasPiece blank s → ⊥ = λ s has. let inside = has.0 in let count = blank_count in absurd (omega (arith, inside, count)) in
     record { long = blank_long; inside = λ s has. absurd (none s has); apart = λ s t has has' differ. absurd (none s has) }
 
+-- on this page a text of at most 4,074 bytes has its place: slot 0, at the page's end
 pub blank_place : (text : List ℕ) → length text ≤ 4074 → IsPlace blank (only_place text) (10 + length text)
 blank_place text short =
     let none : (s : ℕ) → s < slot_count blank → ⊥ = λ s inside. let count = blank_count in absurd (omega (arith, inside, count)) in

@@ -158,6 +158,7 @@ module _ (set : ℕ → Bool) (w : Work) (all : PageId → Option (List ℕ)) (s
     fourth_other : (q : ℕ) → q ≢ n → q ≢ 0 → bytes (among wider fourth.now all space) q ≡ bytes (among set w.now all space) q
     fourth_other q differ beside = among-beside wider third all space 0 q _ beside ∙ third_other q differ beside
 
+    -- with the new page nothing that was known is forgotten
     pub grown : Grows w.now third.now
     grown id is = grows_with w (page_in space (next_in w space)) zeros id
         (grows_with first (head_of space) _ id (grows_with second (page_in space (next_in w space)) _ id is))
@@ -225,6 +226,7 @@ module _ (set : ℕ → Bool) (w : Work) (all : PageId → Option (List ℕ)) (s
           slot_small = omega arith;
         }
 
+    -- a piece is put in slot 0 of the new page, whether the head tries that page first then or not
     pub on_new_page : (b : Bool) → PutStep set w (if b then fourth else third) all space next text (record { page = n; slot = 0 })
     on_new_page true = new_step fourth fourth_page fourth_other fourth_form
         (grows_twice w.now third.now fourth.now grown (grows_with third (head_of space) _)) fourth_made
@@ -245,6 +247,7 @@ module _ (set : ℕ → Bool) (w : Work) (all : PageId → Option (List ℕ)) (s
             (ap is_head (sym same) ∙ form.head)
             ∙ ap (λ (b : List ℕ). if next_page b == LAST_PAGE then Some (Spent LAST_PAGE) else None) (sym same)
 
+    -- a piece is put on a new page, or page numbers are spent for one
     pub new_ends : (tried : Option ℕ) → PutEnds set w all space next text (new_piece_in w space tried next text)
     new_ends tried = subst (λ r. PutEnds set w all space next text
         (unless r (
@@ -272,6 +275,7 @@ module _ (set : ℕ → Bool) (w : Work) (all : PageId → Option (List ℕ)) (s
       → PutEnds set w all space next text (and_then r f)
   needed r f need = subst (λ r. PutEnds set w all space next text (and_then r f)) (sym need.1.0) (inl (inr need.1.1))
 
+  -- a piece is put, on the page that is tried first or on a new one, or it is stopped or page numbers are spent
   pub put_ends : PutEnds set w all space next text (piece_put_in w space next text)
   put_ends = split (first-is set w.now all space form)
       (λ found. subst (λ r. PutEnds set w all space next text

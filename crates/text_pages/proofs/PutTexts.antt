@@ -49,9 +49,11 @@ piece_and_rest n bytes =
     let more : suc n * 4074 ≡ n * 4074 + 4074 = omega arith in
     ap (λ m. piece_of n bytes ++ drop m bytes) more ∙ rest_of 4074 (n * 4074) bytes
 
+-- a piece of a text whose number is below their count has a byte
 pub piece_long : (n : ℕ) (bytes : List ℕ) → n * 4074 < length bytes → 0 < length (piece_of n bytes)
 piece_long n bytes inside = let size = length-drop (n * 4074) bytes in (part_size 4074 (drop (n * 4074) bytes)).1 (lit< tt) (omega (arith, size, inside))
 
+-- a piece of a text has at most 4,074 bytes
 pub piece_short : (n : ℕ) (bytes : List ℕ) → length (piece_of n bytes) ≤ 4074
 piece_short n bytes = (part_size 4074 (drop (n * 4074) bytes)).0
 
@@ -67,6 +69,8 @@ module _ (all : PageId → Option (List ℕ)) (space : Space) (texts : TextMap) 
   put_before set then_set old new few (Ok put) grows made is = is
   put_before set then_set old new few (Err end) grows made is = unput_before set then_set old new all space few (suc few) end grows (omega (arith, made)) is
 
+  -- where all after the first n pieces of a text stand beside the texts, to put these n makes all of it stand there,
+  -- or it stops, or page numbers are spent for n pages
   pub pieces_put : (n : ℕ) (set : ℕ → Bool) (w : Work) (next : TextRef) → n ≤ (length text + 4073) / 4074 → next.page < 256 ^ 8 → next.slot < 256 ^ 2
       → Loose (among set w.now all space) texts next (drop (n * 4074) text) → PutText set w.now n (pieces_put_in n w space next text)
   pieces_put zero set w next within page_small slot_small l = (set, l)
@@ -97,6 +101,8 @@ nothing_behind text = drop_all (((length text + 4073) / 4074) * 4074) text (omeg
 abbrev pub PutSomewhere : Known → (PageId → Option (List ℕ)) → Space → TextMap → List ℕ → TextRef → Type 0
 PutSomewhere k all space texts text at = (set : ℕ → Bool) × PutAlone (among set k all space) texts text at
 
+-- where the pages of a set mean texts, a text is put so that those of some set mean the texts with it,
+-- or it stops, or page numbers are spent for its pieces
 pub put_text_means : (set : ℕ → Bool) (w : Work) (all : PageId → Option (List ℕ)) (space : Space) (texts : TextMap) (text : List ℕ)
     → AreTexts (among set w.now all space) texts
     → MatchResult (put_in w space text) (λ put. PutSomewhere put.1.now all space texts text put.0) (λ end. IsUnput set w.now all space (piece_count text) end)
@@ -118,6 +124,7 @@ pub is_put : (k : Known) (all : PageId → Option (List ℕ)) (space : Space) (t
     → PutSomewhere k all space texts text at → IsPut (seen k all space) texts text at
 is_put k all space texts text at is = (is.1.0, record { reached = is.0; alone = is.1.1 })
 
+-- why a text isn't put by the pages of a set is why it isn't put by all pages
 pub not_put : (set : ℕ → Bool) (k : Known) (all : PageId → Option (List ℕ)) (space : Space) (text : List ℕ) (end : PageEnd) → IsForm (among set k all space)
     → IsUnput set k all space (piece_count text) end → IsNotPut k all space text end
 not_put set k all space text end form is = split is

@@ -29,23 +29,28 @@ pub long_in : (set : ℕ → Bool) (pages : PagesByNumber) (n : ℕ) → length 
 long_in set pages n long = in-bytes set pages n (omega (arith, long))
 
 module _ (set : ℕ → Bool) where
+  -- a page of the set that is written is seen with the bytes written
   pub among-written : (w : Work) (all : PageId → Option (List ℕ)) (space : Space) (n : ℕ) (b : List ℕ) → set n ≡ true
       → bytes (among set (with_page w (page_in space n) b).now all space) n ≡ b
   among-written w all space n b is = bytes-in set (seen (with_page w (page_in space n) b).now all space) n is ∙ seen-written w all space n b
 
+  -- every other page is seen as it was where one is written
   pub among-beside : (w : Work) (all : PageId → Option (List ℕ)) (space : Space) (n q : ℕ) (b : List ℕ) → q ≢ n
       → bytes (among set (with_page w (page_in space n) b).now all space) q ≡ bytes (among set w.now all space) q
   among-beside w all space n q b differ =
       bytes-only set (seen w.now all space) (seen (with_page w (page_in space n) b).now all space) q (seen-beside w all space n q b differ)
 
+  -- a page of the set that is there is seen with the bytes that an edit begins with
   pub among-first : (k : Known) (all : PageId → Option (List ℕ)) (space : Space) (n : ℕ) → set n ≡ true → IsTrue (is_there k (page_in space n))
       → bytes (among set k all space) n ≡ first_bytes k (page_in space n)
   among-first k all space n is there = bytes-in set (seen k all space) n is ∙ seen-first k all space n there
 
+  -- a page of the set that is freed is seen without bytes
   pub among-freed : (w : Work) (all : PageId → Option (List ℕ)) (space : Space) (n : ℕ) → set n ≡ true
       → bytes (among set (without_page w (page_in space n)).now all space) n ≡ []
   among-freed w all space n is = bytes-in set (seen (without_page w (page_in space n)).now all space) n is ∙ seen-freed w all space n
 
+  -- every other page is seen as it was where one is freed
   pub among-freed_beside : (w : Work) (all : PageId → Option (List ℕ)) (space : Space) (n q : ℕ) → q ≢ n
       → bytes (among set (without_page w (page_in space n)).now all space) q ≡ bytes (among set w.now all space) q
   among-freed_beside w all space n q differ =

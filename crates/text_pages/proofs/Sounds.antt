@@ -24,6 +24,7 @@ pub record IsOpen (page : List ℕ) : Type 0 where
   pub inside : (s : ℕ) → HasPiece page s → (11 ≤ piece_length s page) × (piece_at s page + piece_length s page ≤ 4096)
   pub apart : (s t : ℕ) → HasPiece page s → HasPiece page t → s ≢ t → AreApart page s t
 
+-- the pieces of a sound page lie right
 pub open_page : (page : List ℕ) → IsSound page → IsOpen page
 open_page page s = record { long = s.long; inside = λ t has. ((s.inside t has).1, (s.inside t has).2); apart = s.apart }
 
@@ -77,9 +78,11 @@ module _ (page : List ℕ) (place : Place) (next : TextRef) (text : List ℕ) (o
       let at = one.at in let size = one.size in let at' = two.at in let size' = two.size in
       split (o.apart s t one.has two.has differ) (λ l. inl (omega (arith, l, at, size, at'))) (λ r. inr (omega (arith, r, at, at', size')))))
 
+  -- the page has a piece in the slot of the place
   pub has_new : HasPiece (with_piece place next text page) place.slot
   has_new = let count = count_is in let behind = p.behind in let slot = p.slot in let at = at_is in (omega (arith, count, slot), omega (arith, at, behind))
 
+  -- the page is sound once the piece is put in, if it has a byte of text
   pub sound_with : IsSound (with_piece place next text page)
   sound_with =
       let count = count_is in let low = low_is in let behind = p.behind in let within = p.inside in let slot = p.slot in let at = at_is in
@@ -139,6 +142,7 @@ module _ (page : List ℕ) (slot : ℕ) (sound : IsSound page) (has : HasPiece p
       (λ (m' : out.IsStill page slot sound has u was'.0 was'.1). let at' = m'.at in
       split (sound.apart s u was.0 was'.0 differ) (λ l. inl (omega (arith, l, at, at', size))) (λ r. inr (omega (arith, r, at, at', size')))))
 
+  -- the page is sound once the piece is taken out
   pub sound_without : IsSound (closed (hole_of slot page) page)
   sound_without =
       let count = out.new_count page slot sound has in let low = out.new_lowest page slot sound has in let slots = sound.slots in let hole =

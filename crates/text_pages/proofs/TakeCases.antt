@@ -48,6 +48,7 @@ pub record IsTested (k : Known) (space : Space) (at : TextRef) (page : List ℕ)
   pub has : has_piece at.slot page ≡ true
   pub may : may_go at.slot page ≡ true
 
+-- a piece that was given for taking away is on this page, which is there, and both passed their tests
 pub piece_there : (k : Known) (space : Space) (from : ℕ) (at : TextRef) (page : List ℕ) → piece_in k space from at ≡ Ok page → IsTested k space at page
 piece_there k space from at page is =
     let id = page_in space at.page in
@@ -71,6 +72,7 @@ hole_inside k space at page t =
     let slotted = slotted_is page t.slotted in let has = has_piece_is page at.slot t.has in let may = may_go_is page at.slot t.may in
     (omega (arith, slotted), has.0, may.2, may.1)
 
+-- a page that is there as one of 4,096 bytes has 4,096 bytes
 pub long_bytes : (k : Known) (id : PageId) (page : List ℕ) → map.get k.pages id ≡ Some page → IsLong k id → length page ≡ 4096
 long_bytes k id page is long = ap (λ (o : Option (List ℕ)). length (unwrap_or o zeros)) (sym is) ∙ long
 
@@ -116,6 +118,7 @@ module _ (w : Work) (space : Space) (at : TextRef) (P : Work → Type 0) where
     either_case room gone true is = freed_case gone is
     either_case room gone false is = holed_case room gone is
 
+  -- what holds in each case, with the page and the head that were found, holds of the workspace after a piece was taken
   pub taken_case : (from : ℕ) (next : TextRef) (new : Work)
       → ((page head : List ℕ) → IsTested w.now space at page → map.get w.now.pages (head_of space) ≡ Some head → EachCase page)
       → piece_taken_in w space from at ≡ Ok (next, new) → P new

@@ -101,6 +101,7 @@ module _ (set : ℕ → Bool) (w : Work) (all : PageId → Option (List ℕ)) (s
     freed_head : bytes (among set freed.now all space) 0 ≡ bytes (among set w.now all space) 0
     freed_head = among-freed_beside set w all space at.page 0 (λ same. past (sym same))
 
+    -- a page goes with its only piece: the piece is taken away, whether the page was the one tried first or not
     pub freed_step : (b : Bool) → (f == at.page) ≡ b → is_only at.slot page ≡ true
         → TakeStep set w (if b then forgotten else freed) all space at (next_at (among set w.now all space) at)
     freed_step true same only =
@@ -164,11 +165,13 @@ module _ (set : ℕ → Bool) (w : Work) (all : PageId → Option (List ℕ)) (s
             made = made;
           }
 
+      -- the piece is taken away where the head stays
       pub holed_step : TakeStep set w holed all space at (next_at (among set w.now all space) at)
       holed_step = hole_step holed holed_page (λ q differ beside. among-beside set w all space at.page q _ differ)
           (head_stays (among set w.now all space) (among set holed.now all space) at.page form (λ text. form.numbered at.page is.0) holed_head
           (λ same. still_text holed holed_page)) (grows_with w (page_in space at.page) _) (let same = ap next_page holed_head in omega (arith, same))
 
+      -- the piece is taken away where the head tries its page first from then on
       pub renamed_step : TakeStep set w renamed all space at (next_at (among set w.now all space) at)
       renamed_step =
           let here : bytes (among set renamed.now all space) at.page ≡ closed (hole_of at.slot page) page = among-beside set holed all space 0 at.page _ past

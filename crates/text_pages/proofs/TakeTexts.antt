@@ -40,6 +40,7 @@ module _ (set : ℕ → Bool) (w : Work) (all : PageId → Option (List ℕ)) (s
     pub grows : Grows w.now t.work.now
     pub made : next_page (bytes (among set t.work.now all space) 0) ≤ next_page (bytes (among set w.now all space) 0)
 
+  -- so far the rest of the text stands beside the others, or it stops for a need or want of memory
   abbrev pub LeftOf : Result Taken PageEnd → Type 0
   LeftOf r = MatchResult r HasLeft (λ end. IsStop w.now all space end)
 
@@ -69,6 +70,7 @@ module _ (set : ℕ → Bool) (w : Work) (all : PageId → Option (List ℕ)) (s
       at_page false is = carried (past is) (piece_taken_in t.work space t.from t.at)
           (take_ends set t.work all space h.rest.means.form t.from t.at (first_piece (among set t.work.now all space) texts t.at h.text h.rest (past is)).0)
 
+  -- this holds after any number of pieces, if the text stood beside the others at first
   pub left_after : (text : List ℕ) → Loose (among set w.now all space) texts at text → (n : ℕ) → LeftOf (taken_in w space at n)
   left_after text l zero = record { text = text; rest = l; grows = λ id is. is; made = omega arith }
   left_after text l (suc n) = more (taken_in w space at n) (left_after text l n)
@@ -90,6 +92,8 @@ module _ (set : ℕ → Bool) (w : Work) (all : PageId → Option (List ℕ)) (s
   abbrev PutThen : Work → List ℕ → Result (TextRef × Work) PageEnd → Type 0
   PutThen v bytes r = MatchResult r (λ put. PutSomewhere put.1.now all space texts bytes put.0) (λ end. IsUnput set v.now all space (piece_count bytes) end)
 
+  -- a text beside the others is replaced by bytes: the pages of some set mean the others with these put,
+  -- or it stops, or page numbers are spent for the pieces of these
   pub replace_ends : (text : List ℕ) → Loose (among set w.now all space) texts at text → (bytes : List ℕ) (r : Result TextRef PageEnd) (new : Work)
       → IsReplaced w space at bytes r new
       → MatchResult r (λ ref. PutSomewhere new.now all space texts bytes ref) (λ end. IsUnput set w.now all space (piece_count bytes) end)
@@ -104,6 +108,7 @@ module _ (set : ℕ → Bool) (w : Work) (all : PageId → Option (List ℕ)) (s
       unput_before set set w.now put.1.0.work.now all space (piece_count bytes) (piece_count bytes) end left.grows (omega (arith, made))
       (subst (PutThen put.1.0.work bytes) put.1.1.2 (put_text_means set put.1.0.work all space texts bytes left.rest.means))))
 
+-- a text that is there is removed: the pages mean the texts without it, or there was a need or want of memory
 pub remove_means : (w : Work) (all : PageId → Option (List ℕ)) (space : Space) (texts : TextMap) (at : TextRef) → MeansTexts (seen w.now all space) texts
     → IsSome (text_in texts at)
     → (r : Result (Unit {0}) PageEnd) (new : Work) → IsRemoved w space at r new
@@ -118,6 +123,7 @@ remove_means w all space texts at m there r new is =
     whole (Ok done) is = record { reached = m.reached; alone = is }
     whole (Err end) is = is
 
+-- a text that is there is replaced: the pages mean the others with the new one put, or say why it isn't put
 pub replace_means : (w : Work) (all : PageId → Option (List ℕ)) (space : Space) (texts : TextMap) (at : TextRef) → MeansTexts (seen w.now all space) texts
     → IsSome (text_in texts at) → (bytes : List ℕ)
     → (r : Result TextRef PageEnd) (new : Work) → IsReplaced w space at bytes r new

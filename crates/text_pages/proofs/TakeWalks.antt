@@ -16,6 +16,7 @@ module _ (w : Work) (space : Space) (first : TextRef) where
   abbrev pub HasTaken : TextRef → ℕ → Work → Type 0
   HasTaken at from work = (n : ℕ) × (taken_in w space first n ≡ Ok (record { at = at; from = from; work = work }))
 
+  -- at first no piece has been taken away, and the first reference is next
   pub taken_start : HasTaken first first.page w
   taken_start = (0, refl)
 

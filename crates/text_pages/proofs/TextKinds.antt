@@ -33,6 +33,7 @@ of_piece place next text page is below past within =
     (of_field TEXT_KIND 2 slotted 2 place.count (of_slot place.slot place.at (10 + length text) (with_content place.at next text page) content below)
     (omega arith) (omega arith)) (omega arith) (omega arith)
 
+-- a new page with a text of at most 4,074 bytes has 4,096 bytes and the kind of a text page
 pub of_new_page : (next : TextRef) (text : List ℕ) → length text ≤ 4074 → IsOfText (page_with_piece next text)
 of_new_page next text short =
     of_piece (only_place text) next text blank (record { long = blank_long; kind_is = blank_kind }) (omega arith) (omega (arith, short)) (omega (arith, short))
@@ -50,6 +51,7 @@ module _ (hole : Hole) (inside : IsHole hole) (past : 1 ≤ hole.lowest) where
   of_moved_slots zero page is below = is
   of_moved_slots (suc n) page is below = of_moved_slot n (moved_slots hole n page) (of_moved_slots n page is (omega (arith, below))) (omega (arith, below))
 
+  -- a page with a hole closed inside it has its 4,096 bytes and its kind still
   pub of_closed : (page : List ℕ) → IsOfText page → IsOfText (closed hole page)
   of_closed page is =
       let long = is.long in let size = length-bytes_at hole.lowest (hole.at - hole.lowest) page (omega (arith, long, inside)) in

@@ -13,13 +13,16 @@ use Rattle.page_bytes.proofs.Orders.{page_cmp-total, page_cmp-exact}
 use Rattle.page_bytes.proofs.Works.{insert-same}
 use Rattle.text_pages.specs.Slots.{lowest}
 
+-- a page's bytes from its lowest piece on, and one
 abbrev pub page_weight : List ℕ → ℕ
 page_weight page = 4097 - lowest page
 
+-- the pages of a list, each with its weight
 abbrev pub entries_weight : List (PageId × List ℕ) → ℕ
 entries_weight [] = 0
 entries_weight (e ∷ es) = page_weight e.1 + entries_weight es
 
+-- the pages of a map, each with its weight
 pub weight : PageMap → ℕ
 weight pages = entries_weight (map.entries pages)
 

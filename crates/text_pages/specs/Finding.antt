@@ -31,6 +31,7 @@ abbrev pub offered : ℕ → Option Place → List ℕ → Tried
 offered number (Some place) page = Fits place
 offered number None page = Full (room page)
 
+-- what the page that is tried first has for a piece of `size` bytes, if there is one
 abbrev pub tried_in : Known → Space → ℕ → ℕ → Result Tried PageEnd
 tried_in k space number size =
     if number == 0 then Ok Absent else and_then (text_page k space 0 number) (λ page. Ok (offered number (place_for size page) page))

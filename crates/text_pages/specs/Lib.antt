@@ -1,3 +1,4 @@
+-- Texts: the slots and pieces of a page, what calls read and write of these, and what the pages mean.
 pub mod Slots
 pub mod Finding
 pub mod Inside

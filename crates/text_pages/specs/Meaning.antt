@@ -20,6 +20,7 @@ use Rattle.text_pages.specs.Putting.{nowhere, piece_count}
 use Rattle.page_bytes.specs.Answers.{IsStop, IsSpent}
 use Rattle.page_bytes.specs.Seen.{seen, bytes, only}
 
+-- a page of kind 5
 abbrev pub IsTextPage : (ℕ → Option (List ℕ)) → ℕ → Type 0
 IsTextPage pages n = slice_index (bytes pages n) 0 ≡ TEXT_KIND
 
@@ -55,9 +56,11 @@ pub record IsForm (pages : ℕ → Option (List ℕ)) : Type 0 where
 abbrev pub IsPiece : (ℕ → Option (List ℕ)) → TextRef → Type 0
 IsPiece pages r = IsTextPage pages r.page × HasPiece (bytes pages r.page) r.slot
 
+-- the reference that a piece has to the next one
 unfoldable pub next_at : (ℕ → Option (List ℕ)) → TextRef → TextRef
 next_at pages r = next_piece r.slot (bytes pages r.page)
 
+-- the bytes of text that a piece has
 unfoldable pub bytes_of : (ℕ → Option (List ℕ)) → TextRef → List ℕ
 bytes_of pages r = piece_text r.slot (bytes pages r.page)
 
@@ -76,6 +79,7 @@ abbrev pub is_listed : List TextRef → TextRef → Bool
 is_listed [] r = false
 is_listed (x ∷ xs) r = (r.page == x.page && r.slot == x.slot) || is_listed xs r
 
+-- no reference comes again later in the list
 abbrev pub IsOnceEach : List TextRef → Type 0
 IsOnceEach [] = Unit {0}
 IsOnceEach (r ∷ rs) = (is_listed rs r ≡ false) × IsOnceEach rs
@@ -84,6 +88,7 @@ IsOnceEach (r ∷ rs) = (is_listed rs r ≡ false) × IsOnceEach rs
 abbrev pub ref_cmp : TextRef → TextRef → Ordering
 ref_cmp a b = ordering_then (nat_cmp a.page b.page) (nat_cmp a.slot b.slot)
 
+-- the texts by their references
 abbrev pub TextMap : Type 0
 TextMap = map.FinMap ref_cmp (List ℕ)
 
@@ -112,10 +117,12 @@ abbrev pub IsNew : TextMap → List ℕ → TextRef → Type 0
 IsNew texts [] at = at ≡ nowhere
 IsNew texts (b ∷ bs) at = (0 < at.page) × (map.get texts at ≡ None)
 
+-- the texts with one put at a reference; the empty one isn't kept
 abbrev pub with_text : TextMap → TextRef → List ℕ → TextMap
 with_text texts at [] = texts
 with_text texts at (b ∷ bs) = map.insert texts at (b ∷ bs)
 
+-- the text has a reference that is new, and the pages mean the texts with it
 abbrev pub IsPut : (ℕ → Option (List ℕ)) → TextMap → List ℕ → TextRef → Type 0
 IsPut pages texts text at = IsNew texts text at × MeansTexts pages (with_text texts at text)
 

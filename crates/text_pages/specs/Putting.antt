@@ -31,6 +31,7 @@ nowhere = record { page = 0; slot = 0 }
 abbrev pub piece_count : List ℕ → ℕ
 piece_count bytes = (length bytes + 4073) / PIECE_MOST
 
+-- the n-th piece of a text, from 0
 abbrev pub piece_of : ℕ → List ℕ → List ℕ
 piece_of n bytes = bytes_at (n * PIECE_MOST) PIECE_MOST bytes
 
@@ -65,6 +66,7 @@ put_on w space number Absent next text = new_piece_in w space None next text
 put_on w space number (Full room) next text = new_piece_in w space (Some room) next text
 put_on w space number (Fits place) next text = Ok (record { page = number; slot = place.slot }, with_piece_on w space number place next text)
 
+-- a piece is put before the reference `next`, with the page that the head tries first looked at first
 abbrev pub piece_put_in : Work → Space → TextRef → List ℕ → Result (TextRef × Work) PageEnd
 piece_put_in w space next text =
     and_then (first_in w.now space) (λ number.

@@ -9,6 +9,7 @@ use Rattle.page_bytes.specs.Known.{Known}
 use Rattle.page_bytes.specs.Links.{page_in}
 use Rattle.page_bytes.specs.Texts.{IsTextAt}
 
+-- the text of all pieces, where it is UTF-8; else the first piece's page is damaged, or reading refused
 abbrev pub IsStrAt : Known → Space → TextRef → Result (List ℕ) PageEnd → Type 0
 IsStrAt k space at (Ok text) = IsTextAt k space at (Ok text) × IsUtf8 text
 IsStrAt k space at (Err end) =

@@ -60,6 +60,7 @@ with_piece place next text page =
 abbrev pub only_place : List ℕ → Place
 only_place text = record { slot = 0; count = 1; at = 4096 - (10 + length text) }
 
+-- a page of zeros but for its kind, with the piece put at its end
 abbrev pub page_with_piece : TextRef → List ℕ → List ℕ
 page_with_piece next text = with_piece (only_place text) next text (with_bytes zeros 0 (TEXT_KIND ∷ []))
 

@@ -19,6 +19,7 @@ use Rattle.text_pages.specs.Putting.{with_first, put_in}
 abbrev pub leaving_of : ℕ → List ℕ → Leaving
 leaving_of slot page = record { only = is_only slot page; hole = hole_of slot page; room = room page + piece_length slot page; next = next_piece slot page }
 
+-- the same, of a piece that has passed its tests
 abbrev pub leaving_in : Known → Space → ℕ → TextRef → Result Leaving PageEnd
 leaving_in k space from at = and_then (piece_in k space from at) (λ page. Ok (leaving_of at.slot page))
 

@@ -52,4 +52,5 @@ module _ {X : Type 0} (spells : List ℕ → Result X InputFault) (IsText : X �
   answered_lacking before after written what read lacks =
       record { input = read.input; taken = read.taken; at_most = read.at_most; answer = (refl, lacks read.input read.reads.0 read.reads.1) }
 
+-- what a command answers: a fault of reading, all written, a part of it written, or want of memory
 pub ruleset answer_laws = (answered_reading, answered_done, answered_partly, answered_lacking)

@@ -25,6 +25,7 @@ after_more (Ok r) line lines = done (step line r)
     done (Err e) = refl
 after_more (Err e) line lines = refl
 
+-- what has been read after one line is the step of that line
 pub ruleset line_laws = (after_one)
 
 -- where no line before the bad byte is refused, its line is

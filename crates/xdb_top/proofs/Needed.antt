@@ -26,6 +26,7 @@ use Rattle.xml_model.specs.Pyx.{IsPlain}
 use Rattle.session_run.proofs.Plain.{plain_name}
 use Rattle.xdb_top.specs.Typed.{Each}
 
+-- what holds of each of two lists holds of each of both together
 pub each-append : {A : Type 0} (Fact : A → Type 0) (xs ys : List A) → Each Fact xs → Each Fact ys → Each Fact (xs ++ ys)
 each-append Fact [] ys each more = more
 each-append Fact (x ∷ xs) ys each more = (each.0, each-append Fact xs ys each.1 more)
@@ -35,6 +36,7 @@ each-append Fact (x ∷ xs) ys each more = (each.0, each-append Fact xs ys each.
 abbrev Entry : Type 0
 Entry = List ℕ × LockMode
 
+-- no name of the needs has a newline
 abbrev pub HavePlainNames : List Need → Type 0
 HavePlainNames asked = Each (λ (n : Need). IsPlain n.name) asked
 

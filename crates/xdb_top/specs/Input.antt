@@ -14,6 +14,7 @@ use Rattle.xdb_top.specs.declared.fault.InputRefusal.TheVariants.{NotUtf8, Pyx, 
 abbrev pub fault_at : RefusedLine → InputFault
 fault_at refused = record { line = refused.line; why = Pyx refused.why }
 
+-- a refusal of PYX is a fault of the input, at its line
 abbrev pub of_text : Result Doc RefusedLine → Result Doc InputFault
 of_text (Ok doc) = Ok doc
 of_text (Err refused) = Err (fault_at refused)
@@ -24,6 +25,7 @@ abbrev pub not_text : List ℕ → Result Reading RefusedLine → Result Doc Inp
 not_text front (Ok reading) = Err (record { line = count_by (λ b. b == 10) front + 1; why = NotUtf8 })
 not_text front (Err refused) = Err (fault_at refused)
 
+-- the fault of an input that is not UTF-8: a refused line before its first bad byte, or else the line of that byte
 abbrev pub up_to_bad_byte : List ℕ → Result Doc InputFault
 up_to_bad_byte front = not_text front (after (split_ended_lines front) start)
 
@@ -31,6 +33,7 @@ up_to_bad_byte front = not_text front (after (split_ended_lines front) start)
 abbrev pub spelled : List ℕ → Result Doc InputFault
 spelled bytes = if utf8_valid_len bytes == length bytes then of_text (read (split_lines bytes)) else up_to_bad_byte (take (utf8_valid_len bytes) bytes)
 
+-- a refusal of a script is a fault of the input, at its line
 abbrev pub of_script : Result Script RefusedScript → Result Script InputFault
 of_script (Ok read) = Ok read
 of_script (Err refused) = Err (record { line = refused.line; why = ScriptWhy refused.why })

@@ -15,6 +15,7 @@ use Rattle.xdb_top.specs.declared.input.InputEnd.TheVariants.{Fault}
 use Rattle.xdb_top.specs.declared.input.InputEnd.TheVariants as inputs
 use Rattle.xdb_top.specs.Tool.{IsWhole}
 
+-- the fault of an answer, if it is one
 abbrev pub fault_of : {T : Type 0} → Result T TopFault → Option TopFault
 fault_of (Ok x) = None
 fault_of (Err fault) = Some fault
@@ -25,10 +26,12 @@ of_read reads.ReadFault = ReadFault
 of_read reads.TooLarge = TooLarge
 of_read reads.NoMemory = NoMemory
 
+-- a fault of the input with its line and its cause, or want of memory
 abbrev pub of_input : InputEnd → TopFault
 of_input (Fault fault) = BadInput fault.line fault.why
 of_input inputs.NoMemory = NoMemory
 
+-- a refusal of a script with its line and its cause, or want of memory
 abbrev pub of_script : ScriptFault → TopFault
 of_script (scripts.Refused refused) = BadInput refused.line (Script refused.why)
 of_script scripts.NoMemory = NoMemory
@@ -43,6 +46,7 @@ Reads spells input rest (Err ReadFault) = length input ≤ INPUT_BYTES_MAX
 Reads spells input rest (Err WriteFault) = ⊥
 Reads spells input rest (Err NoMemory) = Unit {0}
 
+-- an input was taken from the source, of at most one byte more than is allowed, and the answer is right for it
 pub record IsRead {X : Type 0} (spells : List ℕ → Result X InputFault) (before after : Option (List ℕ)) (result : Result X TopFault) : Type 0 where
   pub input : List ℕ
   pub taken : before ≡ prepend_known input after

@@ -18,6 +18,7 @@ pub record IsSeated (s : ℕ) (seat : Seat) (k : Kept) : Type 0 where
   pub made : seat.made ≡ closed_of s (past k)
   pub ready : IsReady s seat.session.changes k
 
+-- the scripts are played so far: no call is under way, and each session may make its next call
 pub record IsPlaying (P : Scripts) (k : Kept) (seats : List Seat) : Type 0 where
   pub base : k.base ≡ start
   pub played : IsPlayed k.base P (past k)

@@ -32,6 +32,7 @@ command_of [] = None
 command_of (word ∷ []) = command_named word
 command_of (word ∷ other ∷ words) = None
 
+-- the words of the command line as bytes
 abbrev pub words_of : List (String Global) → List (List ℕ)
 words_of words = map string_bytes words
 
@@ -50,6 +51,7 @@ abbrev pub is_read_fault : Option TopFault → Bool
 is_read_fault (Some ReadFault) = true
 is_read_fault _ = false
 
+-- the fault is the sink's
 abbrev pub is_write_fault : Option TopFault → Bool
 is_write_fault (Some WriteFault) = true
 is_write_fault _ = false

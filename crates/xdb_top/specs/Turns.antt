@@ -7,6 +7,7 @@ use Rattle.session_core.specs.History.{session_of, is_closing}
 use Rattle.session_core.specs.CallOrder.{is_grant}
 use Rattle.session_core.specs.Closes.{Scripts, calls_of}
 
+-- 1 where it holds, and else 0
 abbrev pub one_where : Bool → ℕ
 one_where b = if b then 1 else 0
 

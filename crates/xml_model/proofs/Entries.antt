@@ -20,6 +20,7 @@ use Rattle.xml_model.specs.Changes.{unshared, changes_of_entries}
 abbrev pub pairs_of : {A Z : Type 0} → List (String A × Option (Arc Doc Z)) → List (List ℕ × Option Doc)
 pairs_of es = list_map (λ e. (string_bytes e.0, unshared e.1)) es
 
+-- what a table has at a name, with the document itself in place of the shared pointer
 abbrev pub entry_of : {Z : Type 0} → Option (Option (Arc Doc Z)) → Option (Option Doc)
 entry_of None = None
 entry_of (Some after) = Some (unshared after)
@@ -28,6 +29,7 @@ entry-cond : {Z : Type 0} (b : Bool) (x y : Option (Option (Arc Doc Z))) → ent
 entry-cond true x y = refl
 entry-cond false x y = refl
 
+-- entries found by the order of names are those looked up by equal bytes
 pub find-texts : {A Z : Type 0} (q : List ℕ) (es : List (String A × Option (Arc Doc Z)))
     → find (slice_cmp nat_cmp) q (list_map (λ e. (string_bytes e.0, unshared e.1)) es) ≡ entry_of (lookup (λ k. bytes_eq q (string_bytes k)) es)
 find-texts q [] = refl
@@ -66,6 +68,7 @@ drop-at xs i x is =
     let within = slice_get_within xs i x is in
     drop-cons xs i x within ∙ (λ j. get_or_from_slice_get xs i x x is j ∷ drop (sym (add-one i) j) xs)
 
+-- what is stated of a good result holds, where the result is good
 pub on_ok : {T E P : Type 0} (r : Result T E) → IsOk r → OnOk r P → P
 on_ok (Ok x) is fact = fact
 on_ok (Err e) is fact = absurd (true≢false (sym is))

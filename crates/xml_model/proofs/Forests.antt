@@ -45,6 +45,7 @@ dropped_leaves : (name : List ℕ) (o : Option Doc) (F : Forest) → IsForest F 
 dropped_leaves name (Some there) F forest = removed F name forest
 dropped_leaves name None F forest = forest
 
+-- a call leaves a forest where it found one, if the names in the call are names of documents
 pub leaves : (F : Forest) (call : Call) → IsForest F → IsTrue (has_good_names call) → IsForest (stmt F call).forest
 leaves F Begin forest named = forest
 leaves F BeginRead forest named = forest

@@ -13,6 +13,7 @@ use Rattle.xml_model.specs.declared.node.Node.TheVariants.{outs-Element', outs-T
 use Rattle.xml_model.specs.Trees.{count_of, bytes_of, depth_of, has_attribute}
 use Rattle.xml_model.specs.Document.{IsValid, Sibling, are_attributes, are_formed, sibling_step, sibling}
 
+-- the node is a text, by its variant
 abbrev pub is_text : Node → Bool
 is_text (Element' name attrs s row) = false
 is_text (Text value) = true
@@ -35,10 +36,12 @@ abbrev mutual
   IsFormed (Text value) = 0 < length value
   IsFormed (Pi target value) = IsTrue (is_name target)
 
+  -- each node of an element's row is well-formed
   pub AreFormed : {m : _} → Row_of-Node m → Type 0
   AreFormed end_of-Node = Unit {0}
   AreFormed (more_of-Node n row) = IsFormed n × AreFormed row
 
+-- each node of the list is well-formed
 abbrev pub AllFormed : List Node → Type 0
 AllFormed [] = Unit {0}
 AllFormed (n ∷ nodes) = IsFormed n × AllFormed nodes
@@ -93,11 +96,13 @@ text_same (Pi target value) = ap (λ x. x.is_text) (instruction_is target value)
 
 -- ---- attributes
 
+-- attributes with names, no name twice, pass the test of attributes
 pub attributes_hold : (attrs : List Attr) → AreAttributes attrs → IsTrue (are_attributes attrs)
 attributes_hold [] h = refl
 attributes_hold (a ∷ more) h =
     both (is_name a.name) _ h.0 (both (not (has_attribute a.name more)) (are_attributes more) (is_not _ h.1) (attributes_hold more h.2))
 
+-- attributes that pass the test have names, no name twice
 pub attributes_of : (attrs : List Attr) → IsTrue (are_attributes attrs) → AreAttributes attrs
 attributes_of [] h = tt
 attributes_of (a ∷ more) h =

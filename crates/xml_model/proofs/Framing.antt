@@ -23,15 +23,19 @@ tied name = ap is_eq (tied_itself nat_list_cmp_total name)
 apart : (q name : List ℕ) → bytes_eq name q ≡ false → eq_by_cmp (slice_cmp nat_cmp) q name ≡ false
 apart q name other = is_eq-slice_cmp q name ∙ bytes_eq_sym name q other
 
+-- a document that was put in is found at its name
 pub get-put : (F : Forest) (name : List ℕ) (doc : Doc) → forests.get (forests.insert F name doc) name ≡ Some doc
 get-put F name doc = forests.get-insert nat_list_cmp_total F name doc name ∙ ap (λ b. cond b (Some doc) (forests.get F name)) (tied name)
 
+-- a document that is put in changes nothing at any other name
 pub get-beside : (F : Forest) (name q : List ℕ) (doc : Doc) → bytes_eq name q ≡ false → forests.get (forests.insert F name doc) q ≡ forests.get F q
 get-beside F name q doc other = forests.get-insert nat_list_cmp_total F name doc q ∙ ap (λ b. cond b (Some doc) (forests.get F q)) (apart q name other)
 
+-- nothing is found at a name that was taken out
 pub get-gone : (F : Forest) (name : List ℕ) → forests.get (forests.remove F name) name ≡ None
 get-gone F name = forests.get-remove nat_list_cmp_total F name name ∙ ap (λ b. cond b None (forests.get F name)) (tied name)
 
+-- a name that is taken out changes nothing at any other name
 pub get-beside-gone : (F : Forest) (name q : List ℕ) → bytes_eq name q ≡ false → forests.get (forests.remove F name) q ≡ forests.get F q
 get-beside-gone F name q other = forests.get-remove nat_list_cmp_total F name q ∙ ap (λ b. cond b None (forests.get F q)) (apart q name other)
 
@@ -86,6 +90,7 @@ adding_after : (name : List ℕ) (made : Result Doc RefusedLine) (F G : Forest) 
     → forests.get (added_where_free (forests.get F name) name made F).forest name ≡ forests.get (added_where_free (forests.get G name) name made G).forest name
 adding_after name made F G same = ap (λ o. forests.get (added_where_free o name made F).forest name) same ∙ added_after name (forests.get G name) made F G same
 
+-- each call keeps to its needs, but for SHOW DOCUMENTS
 pub keeps : (call : Call) → (call ≡ ShowDocuments → ⊥) → KeepsToNeeds call
 keeps Begin other = record { says = λ F G same. refl; after = λ F G same. tt; elsewhere = λ F q e. refl }
 keeps BeginRead other = record { says = λ F G same. refl; after = λ F G same. tt; elsewhere = λ F q e. refl }

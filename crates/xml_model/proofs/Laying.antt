@@ -20,6 +20,7 @@ abbrev pub seen_as : Option (Option Doc) → Option Doc → Option Doc
 seen_as None there = there
 seen_as (Some after) there = after
 
+-- what is seen through one of two changes, by a condition, is one of what is seen through each, by that condition
 pub seen-cond : (b : Bool) (x y : Option (Option Doc)) (there : Option Doc) → seen_as (cond b x y) there ≡ cond b (seen_as x there) (seen_as y there)
 seen-cond true x y there = refl
 seen-cond false x y there = refl
@@ -29,6 +30,7 @@ get-with_document : (name : List ℕ) (after : Option Doc) (F : Forest) (q : Lis
 get-with_document name (Some doc) F q = map.get-insert nat_list_cmp_total F name doc q
 get-with_document name None F q = map.get-remove nat_list_cmp_total F name q
 
+-- with a list of documents laid over a forest, the first of a name counts, and else the forest's
 pub get-with_documents : (es : List (List ℕ × Option Doc)) (F : Forest) (q : List ℕ)
     → map.get (with_documents es F) q ≡ seen_as (find (slice_cmp nat_cmp) q es) (map.get F q)
 get-with_documents [] F q = refl
@@ -41,6 +43,7 @@ get-with_documents (e ∷ es) F q =
 pub get-laid : (changes : ChangeMap) (F : Forest) (q : List ℕ) → map.get (laid_over changes F) q ≡ seen_as (map.get changes q) (map.get F q)
 get-laid changes F q = get-with_documents (map.entries changes) F q ∙ ap (λ o. seen_as o (map.get F q)) (sym (map.get-entries changes q))
 
+-- forests with the same document, or none, at each name are one forest
 pub same_forest : (F G : Forest) → ((q : List ℕ) → map.get F q ≡ map.get G q) → F ≡ G
 same_forest = map.same_map nat_list_cmp_total (slice_cmp-IsAntisymmetric nat_cmp-IsAntisymmetric)
 
@@ -50,9 +53,11 @@ laid-entries es F = same_forest _ _ (λ q.
     get-with_documents es F q ∙ ap (λ o. seen_as o (map.get F q)) (sym (map.get-from_entries nat_list_cmp_total es q))
     ∙ sym (get-laid (map.from_entries es) F q))
 
+-- no changes leave the forest as it is
 pub laid-none : (F : Forest) → laid_over no_changes F ≡ F
 laid-none F = same_forest _ _ (λ q. get-laid no_changes F q ∙ ap (λ o. seen_as o (map.get F q)) (map.get-empty (slice_cmp nat_cmp) q))
 
+-- the changes of a table without entries leave the forest as it is
 pub laid-no-entries : {A Z : Type 0} (es : List (String A × Option (Arc Doc Z))) → length es ≡ 0 → (F : Forest) → laid_over (changes_of_entries es) F ≡ F
 laid-no-entries [] none F = laid-none F
 laid-no-entries (e ∷ es) none F = absurd (omega arith)
@@ -97,6 +102,7 @@ module _ {A S Y Z : Type 0} where
       → forest_of_layers (layers ++ layer ∷ []) ≡ with_layer (forest_of_layers layers) layer
   layers-push layers layer = fold-append with_layer no_documents layers (layer ∷ [])
 
+  -- no layers stand for the forest without documents
   pub no-layers : (layers : List (Arc (IndexMap (String A) (Option (Arc Doc Z)) S) Y)) → length layers ≡ 0 → forest_of_layers layers ≡ no_documents
   no-layers [] none = refl
   no-layers (layer ∷ layers) none = absurd (omega arith)

@@ -115,6 +115,7 @@ with_characters_more (c ∷ cs) here h e = with_characters_apart c cs here e
 abbrev pub state : List OpenElement → List Node → Bool → ℕ → ℕ → ℕ → Reading
 state stack here tag n b l = record { stack = stack; here = here; in_tag = tag; nodes = n; bytes = b; lines = l }
 
+-- an open element by its parts
 abbrev pub opened : List ℕ → List Attr → List Node → OpenElement
 opened name attrs before = record { name = name; attrs = attrs; before = before }
 

@@ -13,17 +13,21 @@ use Rattle.xml_model.specs.Pyx.{is_text_layer}
 
 -- a fold at each variant
 module _ (A : Type 0) (meaning : Node-F A → A) where
+  -- the fold of a text is the meaning of its layer
   pub fold-Text : (value : List ℕ) → fold-Node A meaning (Text value) ≡ meaning (Node-F.Text value)
   fold-Text value = fold_out-Node A meaning (Text value) ∙ rw (outs-Text value) refl
 
+  -- the fold of an instruction is the meaning of its layer
   pub fold-Pi : (target value : List ℕ) → fold-Node A meaning (Pi target value) ≡ meaning (Node-F.Pi target value)
   fold-Pi target value = fold_out-Node A meaning (Pi target value) ∙ rw (outs-Pi target value) refl
 
+  -- the fold of an element with a row is the meaning of its layer, with the folds of the row's nodes as children
   pub fold-Element' : (name : List ℕ) (attrs : List Attr) (s : _) (row : Row_of-Node _)
       → fold-Node A meaning (Element' name attrs s row) ≡ meaning (Node-F.Element name attrs (map (fold-Node A meaning) (items-the_row-Node _ row)))
   fold-Element' name attrs s row = fold_out-Node A meaning (Element' name attrs s row)
       ∙ rw (outs-Element' name attrs s row, items_shown-the_row-Node-0 s row) refl
 
+  -- the fold of an element made of a list is the meaning of its layer, with the folds of the list's nodes as children
   pub fold-Element : (name : List ℕ) (attrs : List Attr) (kids : List Node)
       → fold-Node A meaning (Element name attrs kids) ≡ meaning (Node-F.Element name attrs (map (fold-Node A meaning) kids))
   fold-Element name attrs kids = fold_out-Node A meaning (Element name attrs kids) ∙ rw (outs-Element name attrs kids) refl

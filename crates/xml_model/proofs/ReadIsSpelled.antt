@@ -39,10 +39,12 @@ characters-push _ _ line w (some_characters {value = v} {more = more} f rest) e 
 
 -- ---- runs of characters
 
+-- where a run of lines of characters is not empty, it and what follows begin with characters
 pub run_begins : (run : List Line) (v : List ℕ) (rest : List Line) → SpellCharacters run v → 0 < length run → begins_with_characters (run ++ rest) ≡ true
 run_begins _ _ rest no_characters h = absurd (omega arith)
 run_begins _ _ rest (some_characters f more) h = ap is_characters f
 
+-- a run of lines whose characters are not empty has a line
 pub run_is_there : (run : List Line) (v : List ℕ) → SpellCharacters run v → 0 < length v → 0 < length run
 run_is_there _ _ no_characters h = h
 run_is_there _ _ (some_characters f more) h = omega arith
@@ -79,6 +81,7 @@ element_lines : (first last : Line) (tags inside rest lines : List Line)
 element_lines first last tags inside rest lines =
     ap (λ l. first ∷ l) (append_assoc tags (inside ++ last ∷ rest) lines ∙ ap (λ l. tags ++ l) (append_assoc inside (last ∷ rest) lines))
 
+-- lines that spell nodes, and behind them lines that spell more and do not begin with characters, spell all of them
 pub Spell-append : (lines : List Line) (nodes : List Node) (then : List Line) (more : List Node) → Spell lines nodes → Spell then more
     → begins_with_characters then ≡ false → Spell (lines ++ then) (nodes ++ more)
 Spell-append _ _ then more no_nodes t e = t
@@ -140,6 +143,7 @@ no_text_last first run (l ∷ rest) v [] line w s none both apart e r = absurd b
 no_text_last first run (l ∷ rest) v (n ∷ nodes) line w s none both apart e r =
     subst (λ lines. Spell lines (with_characters w (n ∷ nodes))) (sym (append_assoc (first ∷ run) (l ∷ rest) (line ∷ []))) (no_text s none apart r)
 
+-- lines that spell nodes spell, with a line of characters behind them, the nodes with these characters at the end
 pub Spell-characters : (lines : List Line) (nodes : List Node) (line : Line) (w : List ℕ) → Spell lines nodes → form line ≡ characters w
     → Spell (lines ++ line ∷ []) (with_characters w nodes)
 Spell-characters _ _ line w no_nodes e =

@@ -24,6 +24,7 @@ use Rattle.xml_model.proofs.Laying.{seen_as, seen-cond, same_forest, get-laid-no
 
 -- ---- the entries that have a document
 
+-- the names of the entries that have a document, in the order of the entries
 abbrev pub names_in : {A Z : Type 0} → List (String A × Option (Arc Doc Z)) → List (List ℕ)
 names_in [] = []
 names_in (e ∷ es) = cond (is_some e.1) (string_bytes e.0 ∷ names_in es) (names_in es)

@@ -25,6 +25,7 @@ first_ended : (line : Line) (rest : List ℕ) → IsPlain line → split_ended_l
 first_ended [] rest plain = refl
 first_ended (b ∷ line) rest plain = rw plain.0 (ap (in_front_of_ended b) (first_ended line rest plain.1))
 
+-- a text cut at its first newline has as its first line what stands before it, and that line is ended
 pub first_at_newline : (text line rest : List ℕ) → IsCutLine text line rest → IsFirstLine text line true rest
 first_at_newline text line rest cut = record {
   lines = ap split_lines cut.whole ∙ first_line line rest cut.plain;
@@ -32,6 +33,7 @@ first_at_newline text line rest cut = record {
   shorter = omega (arith, ap length cut.whole, length-append line (10 ∷ rest));
 }
 
+-- a text with bytes and without a newline is one line, which no newline ends, and nothing is left
 pub first_of_one : (text : List ℕ) → text ≢ [] → IsPlain text → IsFirstLine text text false []
 first_of_one [] some plain = elim (some refl) [ ]
 first_of_one (b ∷ bs) some plain = record { lines = one_line b bs plain; ended = none_ended (b ∷ bs) plain; shorter = omega arith }

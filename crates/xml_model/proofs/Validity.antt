@@ -35,6 +35,7 @@ put_by : (changes : ChangeMap) (name : List ℕ) (after : Option Doc) (q : List 
 put_by changes name after q true same before named valid = (subst (λ z. IsTrue (is_document_name z)) (sym ((bytes_eq-Decides q name).0 same)) named, valid)
 put_by changes name after q false other before named valid = before
 
+-- valid changes stay valid with one change more, if its name is a document's name and its document is valid
 pub put_is_valid : (changes : ChangeMap) (name : List ℕ) (after : Option Doc) → AreValidChanges changes → IsTrue (is_document_name name) → IfSome after IsValid
     → AreValidChanges (map.insert changes name after)
 put_is_valid changes name after before named valid q =

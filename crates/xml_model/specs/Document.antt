@@ -32,6 +32,7 @@ sibling_step (Element name attrs kids) = record { is_text = false; is_formed = i
 sibling_step (Text value) = record { is_text = true; is_formed = nat_lt 0 (length value) }
 sibling_step (Pi target value) = record { is_text = false; is_formed = is_name target }
 
+-- what the node is among its siblings: whether it is a text, and whether it and all below it are well-formed
 abbrev pub sibling : Node → Sibling
 sibling = fold-Node Sibling sibling_step
 

@@ -13,6 +13,7 @@ use Rattle.xml_model.specs.Document.{IsValid}
 abbrev pub Forest : Type 0
 Forest = map.FinMap (slice_cmp nat_cmp) Doc
 
+-- the forest without documents
 abbrev pub no_documents : Forest
 no_documents = map.empty
 
@@ -20,5 +21,6 @@ no_documents = map.empty
 abbrev pub IsForest : Forest → Type 0
 IsForest F = (name : List ℕ) → IfSome (map.get F name) (λ doc. IsTrue (is_document_name name) × IsValid doc)
 
+-- how a forest is written as one value: by its entries, each a list of bytes and a document
 abbrev pub forest_code : Coded Forest
 forest_code = map.code (coded_list coded_ℕ) the_doc.the_row.coded

@@ -17,6 +17,7 @@ use Rattle.xq_ast.specs.Documents.{documents}
 use Rattle.xml_model.specs.Forest.{Forest}
 use Rattle.xml_model.specs.Statement.{stmt}
 
+-- one need: this name with this mode
 abbrev pub need : List ℕ → LockMode → List Need
 need name mode = record { name = name; mode = mode } ∷ []
 
@@ -39,6 +40,8 @@ asked_by_update (update.Rename target name) = all_in X target
 abbrev pub each_once : List Need → List Need
 each_once asked = needs_of (with_needs asked forests.empty)
 
+-- the locks that a call needs: X on the document that it makes or takes away, S on the one that it exports,
+-- those of its expressions for an update or a query, and none for any other call
 abbrev pub needs : Call → List Need
 needs Begin = []
 needs BeginRead = []

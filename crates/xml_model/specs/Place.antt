@@ -24,21 +24,25 @@ attrs_in (Element name attrs kids) = attrs
 attrs_in (Text value) = []
 attrs_in (Pi target value) = []
 
+-- the children of an element; texts and instructions have none
 abbrev pub kids_in : Node-F Node → List Node
 kids_in (Element name attrs kids) = kids
 kids_in (Text value) = []
 kids_in (Pi target value) = []
 
+-- the attributes of what stands at a place: those of an element, and none of anything else
 abbrev pub attrs_of : Placed → List Attr
 attrs_of (the_document doc) = []
 attrs_of (a_node n) = attrs_in (out-Node n)
 attrs_of (an_attribute a) = []
 
+-- the children of what stands at a place: the document's nodes or those of an element, and none of an attribute
 abbrev pub kids_of : Placed → List Node
 kids_of (the_document doc) = doc.kids
 kids_of (a_node n) = kids_in (out-Node n)
 kids_of (an_attribute a) = []
 
+-- what one step leads to: the attribute or the child with this number, if it is there
 abbrev pub step_from : Placed → PlaceStep → Option Placed
 step_from from (steps.Attr i) = option_map an_attribute (slice_get (attrs_of from) i)
 step_from from (steps.Kid i) = option_map a_node (slice_get (kids_of from) i)
@@ -49,6 +53,7 @@ placed_from [] from = from
 placed_from (s ∷ more) None = None
 placed_from (s ∷ more) (Some from) = placed_from more (step_from from s)
 
+-- what stands at a place of the document, if all its steps lead somewhere
 abbrev pub placed : Doc → List PlaceStep → Option Placed
 placed doc place = placed_from place (Some (the_document doc))
 

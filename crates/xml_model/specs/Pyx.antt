@@ -17,6 +17,7 @@ use Rattle.xq_ast.specs.Names.{is_name}
 use Rattle.xml_model.specs.Trees.{joined, has_attribute}
 use Rattle.xml_model.specs.Values.{escaped, unescaped}
 
+-- a line of PYX: its bytes, without a newline
 abbrev pub Line : Type 0
 Line = List ℕ
 
@@ -33,6 +34,7 @@ pub data Form : Type 0 where
 abbrev pub before_space : List ℕ → List ℕ
 before_space = before_first (λ b. b == 32)
 
+-- what stands behind the first space: nothing where there is none
 abbrev pub behind_space : List ℕ → List ℕ
 behind_space = after_first (λ b. b == 32)
 
@@ -63,22 +65,27 @@ pub record Reading : Type 0 where
   pub bytes : ℕ
   pub lines : ℕ
 
+-- nothing has been read: no line, no node, no open element
 abbrev pub start : Reading
 start = record { stack = []; here = []; in_tag = false; nodes = 0; bytes = 0; lines = 0 }
 
+-- an end tag of this name ends the innermost open element: there is one, and it has this name
 abbrev pub closes : List ℕ → List OpenElement → Bool
 closes name [] = false
 closes name (e ∷ outer) = bytes_eq e.name name
 
+-- the innermost open element has an attribute of this name
 abbrev pub has_already : List ℕ → List OpenElement → Bool
 has_already name [] = false
 has_already name (e ∷ outer) = has_attribute name e.attrs
 
+-- the node is a text, by its outermost layer
 abbrev pub is_text_layer : Node-F Node → Bool
 is_text_layer (Node-F.Element name attrs kids) = false
 is_text_layer (Node-F.Text value) = true
 is_text_layer (Node-F.Pi target value) = false
 
+-- the last of the nodes is a text; of no nodes it is not
 abbrev pub ends_in_text : List Node → Bool
 ends_in_text [] = false
 ends_in_text (n ∷ []) = is_text_layer (out-Node n)
@@ -89,6 +96,7 @@ abbrev pub texts_added : List ℕ → List Node → ℕ
 texts_added [] here = 0
 texts_added (b ∷ bs) here = if ends_in_text here then 0 else 1
 
+-- the last node with more characters behind it: a text takes them in, any other node has them as a text beside it
 abbrev pub added_to : Node-F Node → List ℕ → Node → List Node
 added_to (Node-F.Text first) value n = Text (first ++ value) ∷ []
 added_to (Node-F.Element name attrs kids) value n = n ∷ Text value ∷ []
@@ -155,6 +163,7 @@ taken (instruction target value) r = record r { here = r.here ++ Pi target value
 abbrev pub next_line : ℕ → ℕ
 next_line n = min (n + 1) (2 ^ 64 - 1)
 
+-- what is read by a line of this form: a refusal with the line's number where there is one, and else one line more
 abbrev pub stepped : Option PyxRefusal → Form → Reading → Result Reading RefusedLine
 stepped (Some why) f r = Err (record { why = why; line = next_line r.lines })
 stepped None f r = Ok (record (taken f r) { lines = next_line r.lines })
@@ -163,6 +172,7 @@ stepped None f r = Ok (record (taken f r) { lines = next_line r.lines })
 abbrev pub step : Line → Reading → Result Reading RefusedLine
 step line r = stepped (refusal (form line) r) (form line) r
 
+-- goes on with what was read, or stays at the refusal
 infixl 10 ◌>>=◌
 abbrev pub ◌>>=◌ : {A B : Type 0} → Result A RefusedLine → (A → Result B RefusedLine) → Result B RefusedLine
 (Ok x) >>= f = f x
@@ -173,6 +183,7 @@ abbrev pub after : List Line → Reading → Result Reading RefusedLine
 after [] r = Ok r
 after (line ∷ lines) r = step line r >>= after lines
 
+-- the document of the nodes where no element is open, and else the refusal that one is not closed
 abbrev pub ended_at : List OpenElement → Reading → Result Doc RefusedLine
 ended_at [] r = Ok (record { kids = r.here })
 ended_at (e ∷ outer) r = Err (record { why = Unclosed; line = next_line r.lines })
@@ -187,37 +198,47 @@ read lines = after lines start >>= ended
 
 -- the canonical lines
 
+-- the line of an attribute: A, its name, a space and its escaped value
 abbrev pub attribute_line : Attr → Line
 attribute_line a = 65 ∷ (a.name ++ 32 ∷ escaped a.value)
 
+-- what stands behind the target of an instruction: a space and its escaped value, and nothing for an empty value
 abbrev pub behind_target : List ℕ → List ℕ
 behind_target [] = []
 behind_target (b ∷ bs) = 32 ∷ escaped (b ∷ bs)
 
+-- the lines of a node, from those of its children: an element has its start, attributes, children and end,
+-- a text and an instruction have one line
 abbrev pub pyx_step : Node-F (List Line) → List Line
 pyx_step (Node-F.Element name attrs kids) = (40 ∷ name) ∷ (map attribute_line attrs ++ (joined kids ++ (41 ∷ name) ∷ []))
 pyx_step (Node-F.Text value) = (45 ∷ escaped value) ∷ []
 pyx_step (Node-F.Pi target value) = (63 ∷ (target ++ behind_target value)) ∷ []
 
+-- the canonical lines of a node
 abbrev pub pyx_node : Node → List Line
 pyx_node = fold-Node (List Line) pyx_step
 
+-- the canonical lines of nodes, one node after another
 abbrev pub pyx_of : List Node → List Line
 pyx_of nodes = joined (map pyx_node nodes)
 
+-- the canonical lines of a document
 abbrev pub pyx : Doc → List Line
 pyx doc = pyx_of doc.kids
 
 -- lines as one text, and a text as lines: each line ends with a newline, the last one need not
 
+-- the lines as one text, each with a newline behind it
 abbrev pub text_of : List Line → List ℕ
 text_of [] = []
 text_of (line ∷ lines) = line ++ 10 ∷ text_of lines
 
+-- the byte stands in front of the first line, and is a line of its own where there is none
 abbrev pub in_front : ℕ → List Line → List Line
 in_front b [] = (b ∷ []) ∷ []
 in_front b (line ∷ lines) = (b ∷ line) ∷ lines
 
+-- the lines of a text; a last line without a newline is one of them
 abbrev pub split_lines : List ℕ → List Line
 split_lines [] = []
 split_lines (b ∷ bs) = if b == 10 then [] ∷ split_lines bs else in_front b (split_lines bs)
@@ -227,6 +248,7 @@ abbrev pub in_front_of_ended : ℕ → List Line → List Line
 in_front_of_ended b [] = []
 in_front_of_ended b (line ∷ lines) = (b ∷ line) ∷ lines
 
+-- the lines of a text that a newline ends; what stands behind the last newline is left out
 abbrev pub split_ended_lines : List ℕ → List Line
 split_ended_lines [] = []
 split_ended_lines (b ∷ bs) = if b == 10 then [] ∷ split_ended_lines bs else in_front_of_ended b (split_ended_lines bs)

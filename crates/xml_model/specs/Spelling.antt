@@ -23,6 +23,7 @@ pub data SpellCharacters : List Line → List ℕ → Type 0 where
   some_characters : {line : Line} {lines : List Line} {value more : List ℕ} → form line ≡ characters value → SpellCharacters lines more
       → SpellCharacters (line ∷ lines) (value ++ more)
 
+-- the line is one of characters, by its form
 abbrev pub is_characters : Form → Bool
 is_characters no_form = false
 is_characters (begins name) = false
@@ -36,6 +37,7 @@ abbrev pub begins_with_characters : List Line → Bool
 begins_with_characters [] = false
 begins_with_characters (line ∷ lines) = is_characters (form line)
 
+-- the lines spell the nodes, one after another
 pub data Spell : List Line → List Node → Type 0 where
   no_nodes : Spell [] []
   -- a start tag, the attributes, of which no two have one name, the content and the end tag of the same name

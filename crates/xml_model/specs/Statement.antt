@@ -13,15 +13,18 @@ use Rattle.xml_model.specs.declared.node.RefusedLine.{RefusedLine}
 use Rattle.xml_model.specs.Forest.{Forest}
 use Rattle.xml_model.specs.Pyx.{Line, read, pyx, text_of}
 
+-- what a statement says: that it is done, lines, or an error with its code
 pub data Answer : Type 0 where
   done : Answer
   lines : List Line → Answer
   error : Code → Answer
 
+-- what a statement says, and the forest that it leaves
 pub record Outcome : Type 0 where
   pub says : Answer
   pub forest : Forest
 
+-- the call reads or changes documents: it neither begins nor ends a transaction, nor is it CHECKPOINT
 abbrev pub is_statement : Call → Bool
 is_statement Begin = false
 is_statement BeginRead = false
@@ -54,10 +57,12 @@ abbrev pub added_where_free : Option Doc → List ℕ → Result Doc RefusedLine
 added_where_free (Some there) name made F = unchanged (error Exists) F
 added_where_free None name made F = added name made F
 
+-- the forest without the document, or an error where there is none of this name
 abbrev pub dropped : Option Doc → List ℕ → Forest → Outcome
 dropped (Some there) name F = record { says = done; forest = forests.remove F name }
 dropped None name F = unchanged (error FODC0002) F
 
+-- the canonical lines of the document, or an error where there is none
 abbrev pub exported : Option Doc → Answer
 exported (Some doc) = answer_of (pyx doc)
 exported None = error FODC0002

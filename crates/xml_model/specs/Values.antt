@@ -5,6 +5,7 @@ use Rattle.std.specs.Prelude.{ℕ, List, [], ◌∷◌, ◌++◌, ◌==◌, if�
 abbrev pub escaped_byte : ℕ → List ℕ
 escaped_byte b = if b == 10 then 92 ∷ 110 ∷ [] else (if b == 9 then 92 ∷ 116 ∷ [] else (if b == 92 then 92 ∷ 92 ∷ [] else b ∷ []))
 
+-- the value as it stands in a line: each byte escaped
 abbrev pub escaped : List ℕ → List ℕ
 escaped [] = []
 escaped (b ∷ bs) = escaped_byte b ++ escaped bs

@@ -26,6 +26,7 @@ has_space-refusal_name refusals.TooManyNodes = refl
 has_space-refusal_name refusals.TooMuchText = refl
 has_space-refusal_name refusals.Unclosed = refl
 
+-- no name of a kind of number has a space
 pub has_space-kind_name : (kind : SpentKind) → has_space (kind_name kind) ≡ false
 has_space-kind_name kinds.Commit = refl
 has_space-kind_name kinds.Generation = refl

@@ -16,6 +16,7 @@ not_eq a b ne = grind (arith, ne)
 differ : (a b : ℕ) → nat_eq a b ≡ false → a ≢ b
 differ a b test e = grind arith
 
+-- bytes that are no space at any index have no space
 pub no_space_by_index : (bytes : List ℕ) → ((i : ℕ) → i < length bytes → get_or bytes i 0 ≢ 32) → has_space bytes ≡ false
 no_space_by_index [] lacks = refl
 no_space_by_index (b ∷ bs) lacks =

@@ -21,6 +21,7 @@ conflict-symmetric S X = refl
 conflict-symmetric X S = refl
 conflict-symmetric X X = refl
 
+-- which of two modes stands first makes no difference to the stronger
 pub stronger-symmetric : (a b : LockMode) → stronger_of a b ≡ stronger_of b a
 stronger-symmetric S S = refl
 stronger-symmetric S X = refl

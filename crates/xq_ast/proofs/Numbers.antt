@@ -15,6 +15,7 @@ own = numerals_by_value (AllDigits 10) tells_digits
 digits_lack : (n c : ℕ) → n < 2 ^ 64 → (IsInRange 48 57 c → ⊥) → (i : ℕ) → i < length (decimal n) → get_or (decimal n) i 0 ≢ c
 digits_lack n c small out = not_in_digits own (decimal n) c (decimal_is_IsNumeral n small).0.1 out
 
+-- a number of 64 bits has no space in its decimal spelling
 pub has_space-decimal : (n : ℕ) → n < 2 ^ 64 → has_space (decimal n) ≡ false
 has_space-decimal n small = no_space_by_index (decimal n) (digits_lack n 32 small (λ h. omega arith))
 

@@ -6,6 +6,7 @@ use Rattle.xq_ast.specs.declared.code_reading.TheConstants.{WORDS}
 use Rattle.xq_ast.specs.declared.code.Code.{Code}
 use Rattle.xq_ast.specs.declared.code.Code.TheVariants.{XPST0003, XPST0008, XPST0017, XPDY0002, XPTY0004, XPTY0019, XPTY0020, XQTY0024, XQDY0025, FOAR0001, FOAR0002, FODC0002, FORG0001, FORG0006, TooLong, NestedTooDeep, BadName, NoTransaction, InTransaction, ReadOnly, Updating, Exists, TooDeep, TooManyNodes, TooMuchText, TooManyItems, ReplyTooLong, NoMemory, NotBuilt, Failed, InDoubt, Pyx, Spent, Damaged}
 
+-- all codes of the table are words, whose marks go from 0 to 0
 pub words-AreWords : AreWords WORDS
 words-AreWords = (
   tt,

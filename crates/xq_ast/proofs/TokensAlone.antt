@@ -42,5 +42,6 @@ bare_pieces n [] = refl
 bare_pieces zero (b ∷ bytes) = refl
 bare_pieces (suc n) (b ∷ bytes) = turn_same n b bytes (piece (b ∷ bytes)) (bare_pieces n)
 
+-- the reading of tokens alone gives the tokens of a text
 pub bare_tokens : (bytes : List ℕ) → bare (length bytes) bytes ≡ tokens bytes
 bare_tokens bytes = bare_pieces (length bytes) bytes

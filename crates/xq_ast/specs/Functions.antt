@@ -14,6 +14,7 @@ pub record Function : Type 0 where
   pub least : ℕ
   pub most : Option ℕ
 
+-- a function of this name, by the least and the greatest number of its arguments
 abbrev pub takes : List ℕ → ℕ → Option ℕ → Function
 takes name least most = record { name = name; least = least; most = most }
 
@@ -27,6 +28,7 @@ functions =
     ∷ takes (codes "string-length") 0 (Some 1) ∷ takes (codes "concat") 2 None
     ∷ takes (codes "sum") 1 (Some 1) ∷ takes (codes "position") 0 (Some 0) ∷ takes (codes "last") 0 (Some 0) ∷ []
 
+-- the number is not above the greatest one, if there is a greatest
 abbrev pub is_at_most : ℕ → Option ℕ → Bool
 is_at_most n None = true
 is_at_most n (Some most) = nat_le n most
@@ -37,6 +39,7 @@ is_among [] name arguments = false
 is_among (f ∷ more) name arguments =
     if bytes_eq name f.name then nat_le f.least arguments && is_at_most arguments f.most else is_among more name arguments
 
+-- there is a function of this name that takes this number of arguments
 abbrev pub is_function : List ℕ → ℕ → Bool
 is_function = is_among functions
 
@@ -44,6 +47,7 @@ is_function = is_among functions
 abbrev pub calling : Tests
 calling = record { made = λ name. true; called = is_function }
 
+-- each function in the expressions of an update is there and takes so many arguments
 abbrev pub are_known_in_update : Update → Bool
 are_known_in_update (update.Into source target) = everywhere calling source && everywhere calling target
 are_known_in_update (update.Preceding source target) = everywhere calling source && everywhere calling target

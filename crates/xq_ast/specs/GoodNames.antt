@@ -20,6 +20,7 @@ naming = record { made = is_name; called = λ name arguments. true }
 abbrev pub are_good_in : Expr → Bool
 are_good_in expr = list_all is_document_name (documents expr) && everywhere naming expr
 
+-- the names in the expressions of an update are names, and so is the one that `rename` gives
 abbrev pub are_good_in_update : Update → Bool
 are_good_in_update (update.Into source target) = are_good_in source && are_good_in target
 are_good_in_update (update.Preceding source target) = are_good_in source && are_good_in target

@@ -44,34 +44,42 @@ abbrev pub group_of : Option Expr → Expr
 group_of None = expression.Seq []
 group_of (Some e) = e
 
+-- one part is itself, more are an `or`
 abbrev pub or_of : Expr → List Expr → Expr
 or_of e [] = e
 or_of e (f ∷ es) = expression.Or (e ∷ f ∷ es)
 
+-- one part is itself, more are an `and`
 abbrev pub and_of : Expr → List Expr → Expr
 and_of e [] = e
 and_of e (f ∷ es) = expression.And (e ∷ f ∷ es)
 
+-- one part is itself, more are a sum
 abbrev pub sum_of : Expr → List SumPart → Expr
 sum_of e [] = e
 sum_of e (p ∷ ps) = expression.Sum e (p ∷ ps)
 
+-- one part is itself, more are a product
 abbrev pub product_of : Expr → List ProductPart → Expr
 product_of e [] = e
 product_of e (p ∷ ps) = expression.Product e (p ∷ ps)
 
+-- one part is itself, more are a union
 abbrev pub union_of : Expr → List Expr → Expr
 union_of e [] = e
 union_of e (f ∷ es) = expression.Union (e ∷ f ∷ es)
 
+-- an expression without signs is itself, one with signs is signed
 abbrev pub signed_of : List Sign → Expr → Expr
 signed_of [] e = e
 signed_of (s ∷ signs) e = expression.Signed (s ∷ signs) e
 
+-- an expression without predicates is itself, one with predicates is filtered
 abbrev pub filter_of : Expr → List Expr → Expr
 filter_of e [] = e
 filter_of e (p ∷ preds) = expression.Filter e (p ∷ preds)
 
+-- an expression without steps is itself, one with steps begins a path
 abbrev pub path_of : Expr → List Step → Expr
 path_of e [] = e
 path_of e (s ∷ steps) = expression.Path (Value e) (s ∷ steps)
@@ -82,12 +90,15 @@ steps_of s steps = expression.Path (First s) steps
 
 -- ---- parts
 
+-- a key of `order by`: its expression, and whether it descends
 abbrev pub key : Bool → Expr → SortKey
 key descending e = record { expr = e; descending = descending }
 
+-- a summand after the first: its expression, and whether it is taken away
 abbrev pub sum_part : Bool → Expr → SumPart
 sum_part minus e = record { minus = minus; expr = e }
 
+-- a factor after the first: its expression and its operator
 abbrev pub product_part : ProductOp → Expr → ProductPart
 product_part op e = record { op = op; expr = e }
 
@@ -99,6 +110,7 @@ step way what preds = record { deep = false; axis = way; test = what; preds = pr
 abbrev pub step_behind : Bool → Step → Step
 step_behind deep s = record { deep = deep; axis = s.axis; test = s.test; preds = s.preds }
 
+-- the symbol of a comparison: =, !=, <, <=, > or >=
 abbrev pub compare_symbol : CompareOp → Symbol
 compare_symbol compare.Eq = Equal
 compare_symbol compare.Ne = NotEqual
@@ -107,6 +119,7 @@ compare_symbol compare.Le = LessOrEqual
 compare_symbol compare.Gt = Greater
 compare_symbol compare.Ge = GreaterOrEqual
 
+-- the symbol of a sign: + or -
 abbrev pub sign_symbol : Sign → Symbol
 sign_symbol sign.Plus = Plus
 sign_symbol sign.Minus = Minus
@@ -146,6 +159,7 @@ abbrev pub plain_from : List ℕ → Option (List ℕ) → List ℕ
 plain_from w None = w
 plain_from w (Some rest) = rest
 
+-- the name without the prefix `fn:`, if it has it
 abbrev pub plain : List ℕ → List ℕ
 plain w = plain_from w (behind (codes "fn:") w)
 
@@ -156,6 +170,7 @@ is_statement_word w =
     || bytes_eq w (codes "SHOW") || bytes_eq w (codes "CREATE") || bytes_eq w (codes "DROP") || bytes_eq w (codes "LOAD")
     || bytes_eq w (codes "EXPORT") || bytes_eq w (codes "UPDATE")
 
+-- the first token is a word that says the row of a call
 abbrev pub is_statement : List Token → Bool
 is_statement (Name w ∷ ts) = is_statement_word w
 is_statement _ = false
@@ -387,6 +402,7 @@ mutual
 
 -- ---- updates
 
+-- Update := what follows the word UPDATE
 pub data IsUpdate : List Token → Update → Type 0 where
   -- insert Single (into | preceding | following) Single
   into : {ts us : List Token} {s t : Expr} → IsSingle ts s → IsSingle us t → IsUpdate (Name (codes "insert") ∷ (ts ++ Name (codes "into") ∷ us)) (updates.Into s t)

@@ -3,6 +3,7 @@ use Rattle.std.specs.Prelude.{Bool, true, false, ◌||◌, Option, None, Some}
 use Rattle.xq_ast.specs.declared.need.LockMode.{LockMode}
 use Rattle.xq_ast.specs.declared.need.LockMode.TheVariants.{S, X}
 
+-- the mode is X
 abbrev pub is_exclusive : LockMode → Bool
 is_exclusive S = false
 is_exclusive X = true

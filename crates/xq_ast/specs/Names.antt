@@ -4,12 +4,15 @@ use Rattle.std.specs.Prelude.{ℕ, Bool, false, not, List, [], ◌∷◌, length
 use Rattle.std.specs.List.{list_all}
 use Rattle.xq_ast.specs.declared.limits.TheConstants.{NAME_BYTES_MAX, DOCUMENT_NAME_BYTES_MAX}
 
+-- an ASCII letter
 abbrev pub is_letter : ℕ → Bool
 is_letter b = (nat_le 65 b && nat_le b 90) || (nat_le 97 b && nat_le b 122)
 
+-- an ASCII digit
 abbrev pub is_digit : ℕ → Bool
 is_digit b = nat_le 48 b && nat_le b 57
 
+-- the colon
 abbrev pub is_colon : ℕ → Bool
 is_colon b = b == 58
 
@@ -30,6 +33,7 @@ is_name (b ∷ bs) = begins_name b && (list_all continues_name bs && nat_le (len
 abbrev pub begins_part : ℕ → Bool
 begins_part b = begins_name b && not (is_colon b)
 
+-- a byte that continues a name, but no colon
 abbrev pub continues_part : ℕ → Bool
 continues_part b = continues_name b && not (is_colon b)
 

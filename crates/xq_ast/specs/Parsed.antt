@@ -39,6 +39,7 @@ abbrev pub is_nesting_word : Token → Bool
 is_nesting_word (token.Name name) = bytes_eq name (codes "return") || bytes_eq name (codes "else")
 is_nesting_word _ = false
 
+-- not too many brackets are open at once, and there are not too many of the words `return` and `else`
 abbrev pub is_nested_well : List Token → Bool
 is_nested_well ts = nat_le (most_open 0 ts) BRACKETS_MAX && nat_le (count_by is_nesting_word ts) NESTING_WORDS_MAX
 

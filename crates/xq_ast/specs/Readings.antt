@@ -43,31 +43,38 @@ use Rattle.xq_ast.specs.Functions.{has_known_functions}
 use Rattle.xq_ast.specs.Variables.{has_bound_variables}
 use Rattle.xq_ast.specs.Parsed.{is_nested_well}
 
+-- what the tokens begin with and the tokens behind it, or None where they begin with nothing of the kind
 abbrev pub Reader : Type 0 → Type 0
 Reader A = List Token → Option (A × List Token)
 
 -- ---- looking ahead: what stands behind a token or two, where the tokens begin with them
 
+-- what stands behind a comma, where the tokens begin with one
 abbrev pub comma : List Token → Option (List Token)
 comma (Mark Comma ∷ ts) = Some ts
 comma _ = None
 
+-- what stands behind a closing round bracket, where the tokens begin with one
 abbrev pub close_round : List Token → Option (List Token)
 close_round (Mark CloseRound ∷ ts) = Some ts
 close_round _ = None
 
+-- what stands behind a closing square bracket, where the tokens begin with one
 abbrev pub close_square : List Token → Option (List Token)
 close_square (Mark CloseSquare ∷ ts) = Some ts
 close_square _ = None
 
+-- what stands behind a closing curly bracket, where the tokens begin with one
 abbrev pub close_curly : List Token → Option (List Token)
 close_curly (Mark CloseCurly ∷ ts) = Some ts
 close_curly _ = None
 
+-- what stands behind an opening square bracket, where the tokens begin with one
 abbrev pub open_square : List Token → Option (List Token)
 open_square (Mark OpenSquare ∷ ts) = Some ts
 open_square _ = None
 
+-- what stands behind :=, where the tokens begin with it
 abbrev pub assign : List Token → Option (List Token)
 assign (Mark Assign ∷ ts) = Some ts
 assign _ = None
@@ -82,6 +89,7 @@ abbrev pub two_words : List ℕ → List ℕ → List Token → Option (List Tok
 two_words v w (Name first ∷ Name second ∷ ts) = if bytes_eq first v && bytes_eq second w then Some ts else None
 two_words v w _ = None
 
+-- the name that the tokens begin with
 abbrev pub a_name : Reader (List ℕ)
 a_name (Name name ∷ ts) = Some (name, ts)
 a_name _ = None
@@ -107,6 +115,7 @@ sum_op (Mark Plus ∷ ts) = Some (false, ts)
 sum_op (Mark Minus ∷ ts) = Some (true, ts)
 sum_op _ = None
 
+-- the operator of a product: *, or one of the words idiv and mod
 abbrev pub product_op : Reader ProductOp
 product_op (Mark Star ∷ ts) = Some (Times, ts)
 product_op (Name w ∷ ts) = if bytes_eq w (codes "idiv") then Some (Idiv, ts) else if bytes_eq w (codes "mod") then Some (Mod, ts) else None
@@ -138,6 +147,7 @@ pub data Behind : Type 0 where
   colons : List Token → Behind
   other : Behind
 
+-- what these tokens, behind a name, tell of it
 abbrev pub behind_name : List Token → Behind
 behind_name (Mark Dollar ∷ ts) = Behind.dollar ts
 behind_name (Mark OpenRound ∷ ts) = Behind.round ts
@@ -151,10 +161,12 @@ behind_name _ = Behind.other
 -- Items, each behind what `separator` reads. An item may depend on its separator; `add` puts it before the others.
 -- The number bounds the turns; any number from that of the tokens on gives the same.
 module _ {S A B : Type 0} (separator : Reader S) (item : S → Reader A) (add : S → A → B → B) (none : B) where
+  -- no items where no separator stands, and else the item behind it and then more; a separator without item is a fault
   abbrev pub repeated_at : Option (S × List Token) → List Token → Reader B → Option (B × List Token)
   repeated_at None ts more = Some (none, ts)
   repeated_at (Some s) ts more = item s.0 s.1 >>= (λ r. more r.1 >>= (λ q. Some (add s.0 r.0 q.0, q.1)))
 
+  -- the items that follow, of which at most so many are read
   abbrev pub repeated : ℕ → Reader B
   repeated zero ts = Some (none, ts)
   repeated (suc n) ts = repeated_at (separator ts) ts (repeated n)
@@ -172,6 +184,7 @@ abbrev pub paired_at : {S A : Type 0} → (A → S → A → A) → Reader A →
 paired_at make part l None = Some l
 paired_at make part l (Some s) = part s.1 >>= (λ r. Some (make l.0 s.0 r.0, r.1))
 
+-- a part, and where an operator stands behind it that operator and a second part
 abbrev pub paired : {S A : Type 0} → Reader S → (A → S → A → A) → Reader A → Reader A
 paired op make part ts = part ts >>= (λ l. paired_at make part l (op l.1))
 
@@ -180,9 +193,11 @@ abbrev pub there_at : Option (List Token) → Option (Unit {0} × List Token)
 there_at None = None
 there_at (Some ts) = Some (tt, ts)
 
+-- the separator is there, with the tokens behind it
 abbrev pub there : (List Token → Option (List Token)) → Reader (Unit {0})
 there look ts = there_at (look ts)
 
+-- the item comes before the others, whatever its separator is
 abbrev pub put : {S A : Type 0} → S → A → List A → List A
 put s x xs = x ∷ xs
 
@@ -205,6 +220,7 @@ abbrev pub content_at : (List Token → Option (List Token)) → Reader Expr →
 content_at close inner ts (Some us) = Some (None, us)
 content_at close inner ts None = expr inner ts >>= (λ e. close e.1 >>= (λ us. Some (Some e.0, us)))
 
+-- [Expr] and the bracket that closes it
 unfoldable pub content : (List Token → Option (List Token)) → Reader Expr → Reader (Option Expr)
 content close inner ts = content_at close inner ts (close ts)
 
@@ -213,6 +229,7 @@ abbrev pub arguments_at : Reader Expr → List Token → Option (List Token) →
 arguments_at inner ts (Some us) = Some ([], us)
 arguments_at inner ts None = list inner ts >>= (λ es. close_round es.1 >>= (λ us. Some (es.0, us)))
 
+-- [Single (, Single)*] and the bracket that closes it
 unfoldable pub arguments : Reader Expr → Reader (List Expr)
 arguments inner ts = arguments_at inner ts (close_round ts)
 
@@ -220,6 +237,7 @@ arguments inner ts = arguments_at inner ts (close_round ts)
 unfoldable pub pred : Reader Expr → Reader Expr
 pred inner ts = expr inner ts >>= (λ e. close_square e.1 >>= (λ us. Some (e.0, us)))
 
+-- Pred*
 unfoldable pub preds : Reader Expr → Reader (List Expr)
 preds inner = items (there open_square) (λ s. pred inner) put []
 
@@ -313,6 +331,7 @@ named_operand w (Behind.name_curly name us) =
 named_operand w (Behind.curly us) = if bytes_eq w (codes "text") then Operand.a_text_node us else Operand.a_step
 named_operand w _ = Operand.a_step
 
+-- how these tokens begin an operand: as one of the primaries, or as a step
 abbrev pub operand : List Token → Operand
 operand (Text value ∷ ts) = Operand.a_string value ts
 operand (Int value ∷ ts) = Operand.an_integer value ts
@@ -352,6 +371,7 @@ abbrev pub path_at : Reader Expr → List Token → Operand → Option (Expr × 
 path_at inner ts Operand.a_step = followed steps_of (step inner) (steps inner) ts
 path_at inner ts o = followed path_of (filtered inner o) (steps inner) ts
 
+-- Path
 unfoldable pub path : Reader Expr → Reader Expr
 path inner ts = path_at inner ts (operand ts)
 
@@ -359,6 +379,7 @@ path inner ts = path_at inner ts (operand ts)
 abbrev pub with_sign : Sign → List Sign × List Token → List Sign × List Token
 with_sign s r = (s ∷ r.0, r.1)
 
+-- (+ | -)*
 abbrev pub signs : List Token → List Sign × List Token
 signs (Mark Plus ∷ ts) = with_sign sign.Plus (signs ts)
 signs (Mark Minus ∷ ts) = with_sign sign.Minus (signs ts)
@@ -368,6 +389,7 @@ signs ts = ([], ts)
 abbrev pub signed_at : Reader Expr → List Sign × List Token → Option (Expr × List Token)
 signed_at inner s = path inner s.1 >>= (λ e. Some (signed_of s.0 e.0, e.1))
 
+-- Signed
 unfoldable pub signed : Reader Expr → Reader Expr
 signed inner ts = signed_at inner (signs ts)
 
@@ -375,6 +397,7 @@ signed inner ts = signed_at inner (signs ts)
 unfoldable pub unions : Reader Expr → Reader (List Expr)
 unions inner = items (there union_op) (λ s. signed inner) put []
 
+-- Union
 unfoldable pub union : Reader Expr → Reader Expr
 union inner = followed union_of (signed inner) (unions inner)
 
@@ -382,6 +405,7 @@ union inner = followed union_of (signed inner) (unions inner)
 unfoldable pub product_parts : Reader Expr → Reader (List ProductPart)
 product_parts inner = items product_op (λ op. union inner) (λ op e ps. product_part op e ∷ ps) []
 
+-- Product
 unfoldable pub product : Reader Expr → Reader Expr
 product inner = followed product_of (union inner) (product_parts inner)
 
@@ -389,6 +413,7 @@ product inner = followed product_of (union inner) (product_parts inner)
 unfoldable pub sum_parts : Reader Expr → Reader (List SumPart)
 sum_parts inner = items sum_op (λ minus. product inner) (λ minus e ps. sum_part minus e ∷ ps) []
 
+-- Sum
 unfoldable pub sum : Reader Expr → Reader Expr
 sum inner = followed sum_of (product inner) (sum_parts inner)
 
@@ -404,6 +429,7 @@ comp inner = paired compare_op expression.Compare (range inner)
 unfoldable pub ands : Reader Expr → Reader (List Expr)
 ands inner = items (there (word (codes "and"))) (λ s. comp inner) put []
 
+-- And
 unfoldable pub and : Reader Expr → Reader Expr
 and inner = followed and_of (comp inner) (ands inner)
 
@@ -411,6 +437,7 @@ and inner = followed and_of (comp inner) (ands inner)
 unfoldable pub ors : Reader Expr → Reader (List Expr)
 ors inner = items (there (word (codes "or"))) (λ s. and inner) put []
 
+-- Or
 unfoldable pub or : Reader Expr → Reader Expr
 or inner = followed or_of (and inner) (ors inner)
 
@@ -482,6 +509,7 @@ abbrev pub filter_at : Reader Expr → List Token → Option (List Token) → Op
 filter_at inner ts None = Some (None, ts)
 filter_at inner ts (Some us) = inner us >>= (λ e. Some (Some e.0, e.1))
 
+-- [where Single]
 unfoldable pub filter : Reader Expr → Reader (Option Expr)
 filter inner ts = filter_at inner ts (word (codes "where") ts)
 
@@ -490,6 +518,7 @@ abbrev pub direction : List Token → Bool × List Token
 direction (Name w ∷ ts) = if bytes_eq w (codes "ascending") then (false, ts) else if bytes_eq w (codes "descending") then (true, ts) else (false, Name w ∷ ts)
 direction ts = (false, ts)
 
+-- a key of this expression with the direction that was read, and the tokens behind it
 abbrev pub key_at : Expr → Bool × List Token → Option (SortKey × List Token)
 key_at e d = Some (key d.0 e, d.1)
 
@@ -510,6 +539,7 @@ abbrev pub order_at : Reader Expr → List Token → Option (List Token) → Opt
 order_at inner ts None = Some ([], ts)
 order_at inner ts (Some us) = sort_keys inner us
 
+-- [order by Key (, Key)*]
 unfoldable pub order : Reader Expr → Reader (List SortKey)
 order inner ts = order_at inner ts (two_words (codes "order") (codes "by") ts)
 
@@ -531,11 +561,13 @@ pub data Begins : Type 0 where
   an_if_behind : List Token → Begins
   an_or : Begins
 
+-- which row a single expression is that begins with this name
 abbrev pub named_begins : List ℕ → Behind → Begins
 named_begins w (Behind.dollar us) = if bytes_eq w (codes "for") || bytes_eq w (codes "let") then Begins.a_flwor else Begins.an_or
 named_begins w (Behind.round us) = if bytes_eq w (codes "if") then Begins.an_if_behind us else Begins.an_or
 named_begins w _ = Begins.an_or
 
+-- which row a single expression is that begins with these tokens
 abbrev pub begins : List Token → Begins
 begins (Name w ∷ ts) = named_begins w (behind_name ts)
 begins _ = Begins.an_or
@@ -546,6 +578,7 @@ single_at inner ts Begins.a_flwor = flwor inner ts
 single_at inner ts (Begins.an_if_behind us) = an_if inner us
 single_at inner ts Begins.an_or = or inner ts
 
+-- Single, over the reading of those inside it
 unfoldable pub single_over : Reader Expr → Reader Expr
 single_over inner ts = single_at inner ts (begins ts)
 
@@ -556,17 +589,20 @@ single (suc n) ts = single_over (single n) ts
 
 -- ---- whole texts: nothing is left
 
+-- what was read, where no token is left
 abbrev pub alone_at : {A : Type 0} → A × List Token → Option A
 alone_at (x, []) = Some x
 alone_at (x, t ∷ ts) = None
 
 -- ---- updates
 
+-- where an insert puts its nodes: into the target, before it or after it
 pub data Relation : Type 0 where
   into : Relation
   preceding : Relation
   following : Relation
 
+-- where an insert puts its nodes, by one of the words into, preceding and following
 abbrev pub relation : Reader Relation
 relation (Name w ∷ ts) =
     if bytes_eq w (codes "into") then Some (Relation.into, ts)
@@ -575,6 +611,7 @@ relation (Name w ∷ ts) =
     else None
 relation _ = None
 
+-- the update of an insert with this relation: what is put, and its target
 abbrev pub inserted : Relation → Expr → Expr → Update
 inserted Relation.into s t = update.Into s t
 inserted Relation.preceding s t = update.Preceding s t
@@ -594,6 +631,7 @@ replace inner ts =
 abbrev pub rename : Reader Expr → Reader Update
 rename inner ts = inner ts >>= (λ t. word (codes "on") t.1 >>= (λ us. a_name us >>= (λ n. Some (update.Rename t.0 n.0, n.1))))
 
+-- Single, as the target of this update
 abbrev pub deleted : (Expr → Update) → Reader Expr → Reader Update
 deleted make inner ts = inner ts >>= (λ t. Some (make t.0, t.1))
 
@@ -607,6 +645,7 @@ named_update w inner ts =
     else if bytes_eq w (codes "rename") then rename inner ts
     else None
 
+-- Update, whose first token is the word that says which
 abbrev pub an_update : Reader Expr → Reader Update
 an_update inner (Name w ∷ ts) = named_update w inner ts
 an_update inner _ = None
@@ -662,6 +701,7 @@ row inner word ts pyx =
     else if bytes_eq word (codes "UPDATE") then updating inner ts
     else query inner (token.Name word ∷ ts)
 
+-- the call that these tokens are: its row is said by the first word, and without one it is a query
 abbrev pub call_over : Reader Expr → List Token → List (List ℕ) → Option Call
 call_over inner (token.Name word ∷ ts) pyx = row inner word ts pyx
 call_over inner ts pyx = query inner ts
@@ -675,10 +715,12 @@ abbrev pub passed : Call → Result Call Code
 passed c =
     if has_good_names c then (if has_known_functions c then (if has_bound_variables c then Ok c else Err XPST0008) else Err XPST0017) else Err BadName
 
+-- the call after its passes, or a refusal where the tokens are no call
 abbrev pub named_well : Option Call → Result Call Code
 named_well None = Err XPST0003
 named_well (Some the_call) = passed the_call
 
+-- what tokens are: a call or its refusal; no tokens, or tokens that are nested too deep, are refused before
 abbrev pub read_tokens : Option (List Token) → List (List ℕ) → Result Call Code
 read_tokens None pyx = Err XPST0003
 read_tokens (Some ts) pyx = if is_nested_well ts then named_well (call_of ts pyx) else Err NestedTooDeep

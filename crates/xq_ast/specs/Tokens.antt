@@ -11,11 +11,13 @@ use Rattle.xq_ast.specs.declared.token.Symbol.TheVariants.{OpenRound, CloseRound
 use Rattle.xq_ast.specs.declared.token.Token.{Token}
 use Rattle.xq_ast.specs.declared.token.Token.TheVariants as token
 
+-- goes on with what is there, and stays at None
 infixl 10 ◌>>=◌
 abbrev pub ◌>>=◌ : {A B : Type 0} → Option A → (A → Option B) → Option B
 None >>= f = None
 (Some x) >>= f = f x
 
+-- what the bytes begin with and the bytes behind it, or None where they begin with nothing of the kind
 abbrev pub Reading : Type 0 → Type 0
 Reading A = List ℕ → Option (A × List ℕ)
 
@@ -46,6 +48,7 @@ behind [] bytes = Some bytes
 behind (w ∷ word) [] = None
 behind (w ∷ word) (b ∷ bytes) = if w == b then behind word bytes else None
 
+-- the meaning of this row where its spelling stood, and else what the other rows give
 abbrev pub row_or : {A : Type 0} → Option (List ℕ) → A → Option (A × List ℕ) → Option (A × List ℕ)
 row_or (Some rest) meaning others = Some (meaning, rest)
 row_or None meaning others = others
@@ -62,6 +65,7 @@ abbrev pub second_part : List ℕ → Option (List ℕ)
 second_part [] = None
 second_part (c ∷ bytes) = if c == 58 && begins begins_part bytes then Some bytes else None
 
+-- the first part of a name alone, or with a colon and the second part where one begins behind it
 abbrev pub with_second : List ℕ → List ℕ → Option (List ℕ) → List ℕ × List ℕ
 with_second first rest None = (first, rest)
 with_second first rest (Some second) = (first ++ 58 ∷ take_while continues_part second, behind_front continues_part second)
@@ -74,9 +78,11 @@ name bytes =
 
 -- ---- integers
 
+-- the number with one digit more at its end
 abbrev pub digit_more : ℕ → ℕ → ℕ
 digit_more n digit = 10 * n + (digit - 48)
 
+-- the number, if it is not above the greatest integer and no character of a name follows
 abbrev pub integer_of : ℕ → List ℕ → Option (ℕ × List ℕ)
 integer_of value rest = if nat_le value INTEGER_MAX && not (begins continues_part rest) then Some (value, rest) else None
 
@@ -102,10 +108,13 @@ abbrev pub behind_quote : Option (List ℕ) → ℕ → List ℕ → StringPart
 behind_quote (Some rest) quote bytes = StringPart.holds (quote ∷ []) rest
 behind_quote None quote bytes = StringPart.ends bytes
 
+-- what a reference stands for, or a fault where the ampersand begins none
 abbrev pub behind_ampersand : Option (List ℕ × List ℕ) → StringPart
 behind_ampersand (Some r) = StringPart.holds r.0 r.1
 behind_ampersand None = StringPart.fault
 
+-- how a string goes on: a quote of its own kind ends it or stands twice for itself, an ampersand begins a reference,
+-- any other byte stands for itself, and a text that ends first is a fault
 abbrev pub string_part : ℕ → List ℕ → StringPart
 string_part quote [] = StringPart.fault
 string_part quote (b ∷ bytes) =
@@ -113,6 +122,7 @@ string_part quote (b ∷ bytes) =
     else if b == 38 then behind_ampersand (first_row references bytes)
     else StringPart.holds (b ∷ []) bytes
 
+-- what a string holds from this part on
 abbrev pub string_from : StringPart → Reading (List ℕ) → Option (List ℕ × List ℕ)
 string_from (StringPart.holds bytes rest) more = more rest >>= (λ r. Some (bytes ++ r.0, r.1))
 string_from (StringPart.ends rest) more = Some ([], rest)
@@ -154,9 +164,11 @@ symbols =
 abbrev pub Piece : Type 0
 Piece = Option Token
 
+-- what parts tokens is no token
 abbrev pub parting : List ℕ → Option (Piece × List ℕ)
 parting rest = Some (None, rest)
 
+-- the token made of what was read
 abbrev pub a_token : {A : Type 0} → (A → Token) → A × List ℕ → Option (Piece × List ℕ)
 a_token make r = Some (Some (make r.0), r.1)
 

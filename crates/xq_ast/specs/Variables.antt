@@ -25,13 +25,16 @@ Bound = List (List ℕ)
 abbrev pub PartTest : Type 0
 PartTest = Bound → Bool
 
+-- the name is among the bound ones
 abbrev pub is_bound : List ℕ → Bound → Bool
 is_bound name bound = list_any (λ b. bytes_eq b name) bound
 
+-- all variables of each part are bound
 abbrev pub all_bound : List PartTest → PartTest
 all_bound [] bound = true
 all_bound (p ∷ ps) bound = p bound && all_bound ps bound
 
+-- all variables of a part that may be there are bound, if it is
 abbrev pub if_there : Option PartTest → PartTest
 if_there None bound = true
 if_there (Some p) bound = p bound
@@ -41,6 +44,7 @@ pub record Binding : Type 0 where
   pub source : PartTest
   pub names : Bound
 
+-- the names that a `for` binds: that of its item, and that of the position where it has one
 abbrev pub and_position : List ℕ → Option (List ℕ) → Bound
 and_position name None = name ∷ []
 and_position name (Some at) = name ∷ at ∷ []
@@ -59,10 +63,12 @@ names_of (b ∷ bs) = b.names ++ names_of bs
 abbrev pub behind : Option PartTest → List PartTest → PartTest → PartTest
 behind filter keys result bound = if_there filter bound && (all_bound keys bound && result bound)
 
+-- a binding: the variables of what it binds to, and the names that it binds
 abbrev pub bind_step : Bind-F Binding PartTest PartTest PartTest PartTest PartTest PartTest → Binding
 bind_step (Bind-F.For name at source) = record { source = source; names = and_position name at }
 bind_step (Bind-F.Let name value) = record { source = value; names = name ∷ [] }
 
+-- all variables of an expression are bound where those of its parts are; those behind bindings may use their names
 abbrev pub expr_step : Expr-F Binding PartTest PartTest PartTest PartTest PartTest PartTest → PartTest
 expr_step (Expr-F.Text value) bound = true
 expr_step (Expr-F.Int value) bound = true
@@ -87,19 +93,24 @@ expr_step (Expr-F.Element name content) bound = if_there content bound
 expr_step (Expr-F.Attribute name content) bound = if_there content bound
 expr_step (Expr-F.TextNode content) bound = if_there content bound
 
+-- the variables of the beginning of a path are those of its expression or of its step
 abbrev pub start_step : Start-F Binding PartTest PartTest PartTest PartTest PartTest PartTest → PartTest
 start_step (Start-F.Value inner) = inner
 start_step (Start-F.First step) = step
 
+-- the variables of a factor are those of its expression
 abbrev pub product_step : ProductPart-F Binding PartTest PartTest PartTest PartTest PartTest PartTest → PartTest
 product_step p = p.expr
 
+-- the variables of a key are those of its expression
 abbrev pub key_step : SortKey-F Binding PartTest PartTest PartTest PartTest PartTest PartTest → PartTest
 key_step k = k.expr
 
+-- the variables of a step are those of its predicates
 abbrev pub step_step : Step-F Binding PartTest PartTest PartTest PartTest PartTest PartTest → PartTest
 step_step s = all_bound s.preds
 
+-- the variables of a summand are those of its expression
 abbrev pub sum_step : SumPart-F Binding PartTest PartTest PartTest PartTest PartTest PartTest → PartTest
 sum_step p = p.expr
 
@@ -107,24 +118,31 @@ sum_step p = p.expr
 abbrev pub binds_in : Expr → PartTest
 binds_in = fold-Expr Binding PartTest PartTest PartTest PartTest PartTest PartTest bind_step expr_step start_step product_step key_step step_step sum_step
 
+-- what a binding binds its names to, and these names
 abbrev pub bind_binding : Bind → Binding
 bind_binding = fold-Bind Binding PartTest PartTest PartTest PartTest PartTest PartTest bind_step expr_step start_step product_step key_step step_step sum_step
 
+-- all variables of the beginning of a path are bound, where these are bound around it
 abbrev pub start_binds : Start → PartTest
 start_binds = fold-Start Binding PartTest PartTest PartTest PartTest PartTest PartTest bind_step expr_step start_step product_step key_step step_step sum_step
 
+-- all variables of a factor are bound, where these are bound around it
 abbrev pub product_binds : ProductPart → PartTest
 product_binds = fold-ProductPart Binding PartTest PartTest PartTest PartTest PartTest PartTest bind_step expr_step start_step product_step key_step step_step sum_step
 
+-- all variables of a key are bound, where these are bound around it
 abbrev pub key_binds : SortKey → PartTest
 key_binds = fold-SortKey Binding PartTest PartTest PartTest PartTest PartTest PartTest bind_step expr_step start_step product_step key_step step_step sum_step
 
+-- all variables of a step are bound, where these are bound around it
 abbrev pub step_binds : Step → PartTest
 step_binds = fold-Step Binding PartTest PartTest PartTest PartTest PartTest PartTest bind_step expr_step start_step product_step key_step step_step sum_step
 
+-- all variables of a summand are bound, where these are bound around it
 abbrev pub sum_binds : SumPart → PartTest
 sum_binds = fold-SumPart Binding PartTest PartTest PartTest PartTest PartTest PartTest bind_step expr_step start_step product_step key_step step_step sum_step
 
+-- all variables in the expressions of an update are bound; `replace` binds its own in what it puts there
 abbrev pub are_bound_in_update : Update → Bool
 are_bound_in_update (update.Into source target) = binds_in source [] && binds_in target []
 are_bound_in_update (update.Preceding source target) = binds_in source [] && binds_in target []

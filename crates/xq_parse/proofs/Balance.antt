@@ -188,9 +188,11 @@ name_balanced (Some name) a = word a
 name_balanced None a = plain (Mark Star) (λ n. refl) a
 
 mutual
+  -- the tokens of an Expr are balanced
   pub expr_balanced : {ts : List Token} {e : Expr} → IsExpr ts e → Balanced ts
   expr_balanced (grammar.IsExpr.expr d) = list_balanced d
 
+  -- the tokens of Single (, Single)* are balanced
   pub list_balanced : {ts : List Token} {es : List Expr} → IsList ts es → Balanced ts
   list_balanced (grammar.IsList.list p q) = both (single_balanced p) (commas_balanced q)
 
@@ -198,14 +200,17 @@ mutual
   commas_balanced grammar.IsCommas.no_comma = none
   commas_balanced (grammar.IsCommas.comma p q) = plain (Mark Comma) (λ n. refl) (both (single_balanced p) (commas_balanced q))
 
+  -- the tokens of [Expr] are balanced
   pub content_balanced : {ts : List Token} {o : Option Expr} → IsContent ts o → Balanced ts
   content_balanced grammar.IsContent.no_content = none
   content_balanced (grammar.IsContent.content d) = expr_balanced d
 
+  -- the tokens of [Single (, Single)*] are balanced
   pub arguments_balanced : {ts : List Token} {es : List Expr} → IsArguments ts es → Balanced ts
   arguments_balanced grammar.IsArguments.no_argument = none
   arguments_balanced (grammar.IsArguments.arguments d) = list_balanced d
 
+  -- the tokens of a Single are balanced
   pub single_balanced : {ts : List Token} {e : Expr} → IsSingle ts e → Balanced ts
   single_balanced (grammar.IsSingle.single_flwor d) = flwor_balanced d
   single_balanced (grammar.IsSingle.single_if d) = if_balanced d

@@ -32,24 +32,28 @@ drop_seam : (xs ys : List ℕ) → drop (length xs) (xs ++ ys) ≡ ys
 drop_seam [] ys = refl
 drop_seam (x ∷ xs) ys = drop_seam xs ys
 
+-- what stands before an ASCII byte of a UTF-8 text is UTF-8
 pub utf8_before : (xs rest : List ℕ) (c : ℕ) → c < 128 → IsUtf8 (xs ++ c ∷ rest) → IsUtf8 xs
 utf8_before xs rest c ascii u =
     let small : get_or (xs ++ c ∷ rest) (length xs) 0 < 128 = rw at_seam ascii in
     let boundary = IsCharBoundary-before_ascii (xs ++ c ∷ rest) (length xs) (omega (arith, length-append xs (c ∷ rest))) small in
     subst IsUtf8 (take_seam xs (c ∷ rest)) (IsUtf8-take (xs ++ c ∷ rest) (length xs) u boundary)
 
+-- what stands from an ASCII byte of a UTF-8 text on is UTF-8
 pub utf8_from : (xs rest : List ℕ) (c : ℕ) → c < 128 → IsUtf8 (xs ++ c ∷ rest) → IsUtf8 (c ∷ rest)
 utf8_from xs rest c ascii u =
     let small : get_or (xs ++ c ∷ rest) (length xs) 0 < 128 = rw at_seam ascii in
     let boundary = IsCharBoundary-before_ascii (xs ++ c ∷ rest) (length xs) (omega (arith, length-append xs (c ∷ rest))) small in
     subst IsUtf8 (drop_seam xs (c ∷ rest)) (IsUtf8-drop (xs ++ c ∷ rest) (length xs) u boundary)
 
+-- what stands after an ASCII byte of a UTF-8 text is UTF-8
 pub utf8_after : (xs rest : List ℕ) (c : ℕ) → c < 128 → IsUtf8 (xs ++ c ∷ rest) → IsUtf8 rest
 utf8_after xs rest c ascii u =
     let whole = utf8_from xs rest c ascii u in
     let small : get_or (c ∷ rest) 0 0 < 128 = ascii in
     IsUtf8-drop (c ∷ rest) 1 whole (IsCharBoundary-after_ascii (c ∷ rest) 0 whole (omega arith) small)
 
+-- an ASCII byte alone is UTF-8
 pub utf8_one : (c : ℕ) → c < 128 → IsUtf8 (c ∷ [])
 utf8_one c ascii = IsUtf8-from_ascii (c ∷ []) (λ i. each i)
   where
@@ -63,18 +67,22 @@ utf8_glued xs ys c ascii u v = IsUtf8-append (xs ++ c ∷ []) ys (IsUtf8-append 
 
 -- ---- steps
 
+-- one may step over an ASCII byte
 pub behind_ascii : (b : ℕ) (bytes : List ℕ) → b < 128 → IsBehind (b ∷ bytes) bytes
 behind_ascii b bytes ascii = record { less = omega arith; utf8 = λ xs u. utf8_after xs bytes b ascii u }
 
+-- what may be stepped to from some bytes may be stepped to from one byte before them
 pub behind_any : (b : ℕ) (bytes rest : List ℕ) → IsBehind bytes rest → IsBehind (b ∷ bytes) rest
 behind_any b bytes rest h =
     record { less = omega (arith, h.less); utf8 = λ xs u. h.utf8 (xs ++ b ∷ []) (subst IsUtf8 (sym (append_assoc xs (b ∷ []) bytes)) u) }
 
+-- two steps are one step
 pub behind_both : (a b c : List ℕ) → IsBehind a b → IsBehind b c → IsBehind a c
 behind_both a b c g h = record { less = omega (arith, g.less, h.less); utf8 = λ xs u. h.utf8 [] (g.utf8 xs u) }
 
 -- ---- words
 
+-- bytes, one at least, that are all ASCII
 abbrev pub is_word : List ℕ → Bool
 is_word [] = false
 is_word (w ∷ word) = list_all (λ b. nat_lt b 128) (w ∷ word)
@@ -87,6 +95,7 @@ append_behind : (w : ℕ) (word rest : List ℕ) → list_all (λ b. nat_lt b 12
 append_behind w [] rest ascii = behind_ascii w rest (ltb-true w 128 (both_true (nat_lt w 128) _ ascii).0)
 append_behind w (v ∷ word) rest ascii = behind_any w ((v ∷ word) ++ rest) rest (append_behind v word rest (both_true (nat_lt w 128) _ ascii).1)
 
+-- one may step over a word with which the bytes begin
 pub word_behind : (word bytes rest : List ℕ) → is_word word ≡ true → behind word bytes ≡ Some rest → IsBehind bytes rest
 word_behind [] bytes rest is e = cc
 word_behind (w ∷ word) bytes rest is e = subst (λ x. IsBehind x rest) (sym (behind-whole (w ∷ word) bytes rest e)) (append_behind w word rest is)
@@ -96,9 +105,11 @@ abbrev pub are_words : {A : Type 0} → List (List ℕ × A) → Bool
 are_words [] = true
 are_words (row ∷ rows) = is_word row.0 && are_words rows
 
+-- equal options have equal values
 pub some_is : {A : Type 0} {x y : A} → Some x ≡ Some y → x ≡ y
 some_is e = cc
 
+-- one may step over the word of the first row with which the bytes begin, where a table's spellings are words
 pub first_row_behind : {A : Type 0} (rows : List (List ℕ × A)) (bytes : List ℕ) (r : A × List ℕ) → are_words rows ≡ true → first_row rows bytes ≡ Some r
     → IsBehind bytes r.1
 first_row_behind [] bytes r are e = cc
@@ -125,6 +136,7 @@ module _ (n : ℕ) (rest : List ℕ) (more : (k : ℕ) (after : List ℕ) → be
   turn_behind opened None None [] o c e = cc
   turn_behind opened None None (b ∷ bytes) o c e = behind_any b bytes rest (more opened bytes e)
 
+-- one may step over comments to what stands after them
 pub comments_behind : (n opened : ℕ) (bytes rest : List ℕ) → behind_comments n (suc opened) bytes ≡ Some rest → IsBehind bytes rest
 comments_behind zero opened bytes rest e = cc
 comments_behind (suc n) opened bytes rest e =
@@ -132,6 +144,7 @@ comments_behind (suc n) opened bytes rest e =
 
 -- ---- strings
 
+-- where one thing after another gives a value, the first gave one, and the second gave the value from it
 pub bind_some : {A B : Type 0} (o : Option A) (f : A → Option B) (y : B) → (o >>= f) ≡ Some y → (x : A) × (o ≡ Some x) × (f x ≡ Some y)
 bind_some None f y e = cc
 bind_some (Some x) f y e = (x, refl, e)
@@ -147,6 +160,7 @@ pub record EndsString (bytes rest : List ℕ) : Type 0 where
   pub behind : IsBehind bytes rest
   pub utf8 : (xs : List ℕ) → IsUtf8 (xs ++ bytes) → IsUtf8 xs
 
+-- what a part of a string is: it steps over some of its text, ends it, or is a fault
 abbrev pub IsPartOf : List ℕ → spec.StringPart → Type 0
 IsPartOf bytes (spec.StringPart.holds text rest) = StepsOver bytes text rest
 IsPartOf bytes (spec.StringPart.ends rest) = EndsString bytes rest
@@ -204,6 +218,7 @@ ampersand_part b bytes (Some r) ascii e =
 plain_part : (b : ℕ) (bytes : List ℕ) → IsPartOf (b ∷ bytes) (spec.StringPart.holds (b ∷ []) bytes)
 plain_part b bytes = record { less = omega arith; behind = λ r h. behind_any b bytes r h; utf8 = λ xs u. subst IsUtf8 (sym (append_assoc xs (b ∷ []) bytes)) u }
 
+-- each part of a string in ASCII quotes steps over some of its text, ends it, or is a fault
 pub part_is : (quote : ℕ) (bytes : List ℕ) → quote < 128 → IsPartOf bytes (string_part quote bytes)
 part_is quote [] small = tt
 part_is quote (b ∷ bytes) small = by_tests (nat_eq b quote) (nat_eq b 38) refl refl
@@ -236,6 +251,7 @@ string_from_is n quote bytes r (spec.StringPart.ends rest) is more e =
     subst (λ x. IsString bytes x.0 x.1) (some_is e) (record { behind = is.behind; utf8 = λ xs u. subst IsUtf8 (sym (append-nil xs)) (is.utf8 xs u) })
 string_from_is n quote bytes r spec.StringPart.fault is more e = cc
 
+-- a string that was read in ASCII quotes is stepped over, and its text is UTF-8 where the bytes are
 pub string_is : (n quote : ℕ) (bytes : List ℕ) (r : List ℕ × List ℕ) → quote < 128 → string n quote bytes ≡ Some r → IsString bytes r.0 r.1
 string_is zero quote bytes r small e = cc
 string_is (suc n) quote bytes r small e =
@@ -252,6 +268,7 @@ pub record IsFront (bytes used rest : List ℕ) : Type 0 where
   pub some : 0 < length used
   pub ends : begins continues_part rest ≡ false
 
+-- one may step over a front after which no name goes on
 pub front_behind : (bytes used rest : List ℕ) → IsFront bytes used rest → IsBehind bytes rest
 front_behind bytes used [] f = record { less = omega (arith, ap length f.whole, length-append used [], f.some); utf8 = λ xs u. IsUtf8-nil }
 front_behind bytes used (c ∷ rest) f =
@@ -260,6 +277,7 @@ front_behind bytes used (c ∷ rest) f =
       utf8 = λ xs u. utf8_from (xs ++ used) rest c (plain_ascii c f.ends) (subst IsUtf8 (ap (λ y. xs ++ y) f.whole ∙ sym (append_assoc xs used (c ∷ rest))) u);
     }
 
+-- a front of UTF-8 after which no name goes on is UTF-8
 pub front_utf8 : (bytes used rest : List ℕ) → IsFront bytes used rest → IsUtf8 bytes → IsUtf8 used
 front_utf8 bytes used [] f u = subst IsUtf8 (f.whole ∙ append-nil used) u
 front_utf8 bytes used (c ∷ rest) f u = utf8_before used rest c (plain_ascii c f.ends) (subst IsUtf8 f.whole u)
@@ -290,6 +308,7 @@ with_second_is bytes first rest (Some second) f e =
 begins_continues : (b : ℕ) → begins_part b ≡ true → continues_part b ≡ true
 begins_continues b begins_ = continues_part_is b ∙ ap (λ t. t || is_digit b || b == 45 || b == 46) begins_
 
+-- where a part of a name begins, the name is a front after which no name goes on
 pub name_is : (b : ℕ) (bytes : List ℕ) → begins_part b ≡ true → IsFront (b ∷ bytes) (name (b ∷ bytes)).0 (name (b ∷ bytes)).1
 name_is b bytes begins_ =
     let all = b ∷ bytes in
@@ -310,6 +329,7 @@ integer_of_rest value rest r e = by_tests (nat_le value INTEGER_MAX) (begins con
     by_tests true true ends e = cc
     by_tests false g ends e = cc
 
+-- one may step over an integer that was read
 pub integer_behind : (b : ℕ) (bytes : List ℕ) (r : ℕ × List ℕ) → is_digit b ≡ true → integer (b ∷ bytes) ≡ Some r → IsBehind (b ∷ bytes) r.1
 integer_behind b bytes r digit e =
     let all = b ∷ bytes in
@@ -330,6 +350,7 @@ choose false x y z e then_ else_ = else_ refl e
 space_ascii : (b : ℕ) → is_space b ≡ true → b < 128
 space_ascii b is = grind (arith, nat_tests)
 
+-- a quote is ASCII
 pub quote_ascii : (b : ℕ) → is_quote b ≡ true → b < 128
 quote_ascii b is = grind (arith, nat_tests)
 
@@ -343,6 +364,7 @@ mark_behind bytes r None opens e =
     let a = bind_some (first_row symbols bytes) (spec.a_token token.Symbol) r e in
     subst (λ x. IsBehind bytes x.1) (some_is a.2) (first_row_behind symbols bytes a.0 refl a.1)
 
+-- one may step over a piece that was read
 pub piece_behind : (bytes : List ℕ) (r : spec.Piece × List ℕ) → piece bytes ≡ Some r → IsBehind bytes r.1
 piece_behind [] r e = cc
 piece_behind (b ∷ bytes) r e =
@@ -361,6 +383,7 @@ piece_behind (b ∷ bytes) r e =
 
 -- ---- texts
 
+-- a name in UTF-8 is UTF-8
 pub name_utf8 : (bytes : List ℕ) → begins begins_part bytes ≡ true → IsUtf8 bytes → IsUtf8 (name bytes).0
 name_utf8 [] begins_ u = cc
 name_utf8 (b ∷ bytes) begins_ u = front_utf8 (b ∷ bytes) (name (b ∷ bytes)).0 (name (b ∷ bytes)).1 (name_is b bytes begins_) u

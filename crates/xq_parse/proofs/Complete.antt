@@ -100,6 +100,7 @@ comp_starts (grammar.IsComp.comp {ts = us} {us = vs} op p q) = starts_append us 
 and_starts : {ts : List Token} {e : Expr} → IsAnd ts e → starts ts ≡ true
 and_starts (grammar.IsAnd.and {ts = us} {us = vs} p q) = starts_append us vs (comp_starts p)
 
+-- an Or begins as an expression may
 pub or_starts : {ts : List Token} {e : Expr} → IsOr ts e → starts ts ≡ true
 or_starts (grammar.IsOr.or {ts = us} {us = vs} p q) = starts_append us vs (and_starts p)
 
@@ -107,14 +108,17 @@ clause_begins : {ts : List Token} {bs : List Bind} → IsClause ts bs → starts
 clause_begins (grammar.IsClause.for_clause p q) = refl
 clause_begins (grammar.IsClause.let_clause p q) = refl
 
+-- a Single begins as an expression may
 pub single_starts : {ts : List Token} {e : Expr} → IsSingle ts e → starts ts ≡ true
 single_starts (grammar.IsSingle.single_flwor (grammar.IsFlwor.flwor {ts = us} a b c d e)) = starts_append us _ (clause_begins a)
 single_starts (grammar.IsSingle.single_if (grammar.IsIf.an_if a b c)) = refl
 single_starts (grammar.IsSingle.single_or h d) = or_starts d
 
+-- Single (, Single)* begins as an expression may
 pub list_starts : {ts : List Token} {es : List Expr} → IsList ts es → starts ts ≡ true
 list_starts (grammar.IsList.list {ts = us} {us = vs} p q) = starts_append us vs (single_starts p)
 
+-- an Expr begins as an expression may
 pub expr_starts : {ts : List Token} {e : Expr} → IsExpr ts e → starts ts ≡ true
 expr_starts (grammar.IsExpr.expr d) = list_starts d
 
@@ -133,6 +137,7 @@ steps_rank (grammar.IsSteps.slash_slash p q) left h = omega arith
 word_below : (w : List ℕ) (k : ℕ) (us vs left : List Token) → starts us ≡ true → word_rank w false < k → rank (Name w ∷ ((us ++ vs) ++ left)) < k
 word_below w k us vs left h less = let e = word_rank_is w ((us ++ vs) ++ left) (starts_append (us ++ vs) left (starts_append us vs h)) in omega (arith, e)
 
+-- a word before an expression has a rank below k, where the word alone has
 pub word_before : (w : List ℕ) (k : ℕ) (us left : List Token) → starts us ≡ true → word_rank w false < k → rank (Name w ∷ (us ++ left)) < k
 word_before w k us left h less = let e = word_rank_is w (us ++ left) (starts_append us left h) in omega (arith, e)
 
@@ -160,6 +165,7 @@ ors_rank : {ts : List Token} {es : List Expr} → IsOrs ts es → (left : List T
 ors_rank grammar.IsOrs.no_or left h = omega arith
 ors_rank (grammar.IsOrs.next_or {ts = us} {us = vs} p q) left h = word_below (codes "or") 2 us vs left (and_starts p) (omega arith)
 
+-- no operator could take what (, Single)* begins with, if none could take what follows it
 pub commas_rank : {ts : List Token} {es : List Expr} → IsCommas ts es → (left : List Token) → rank left < 1 → rank (ts ++ left) < 1
 commas_rank grammar.IsCommas.no_comma left h = h
 commas_rank (grammar.IsCommas.comma p q) left h = omega arith
@@ -234,6 +240,7 @@ name_then : (w x : List ℕ) (us : List Token) → begins (Name w ∷ Name x ∷
 name_then w x (Mark OpenCurly ∷ us) = refl
 name_then w x _ = refl
 
+-- tokens that begin as an expression may but with no keyword, and go on with no operator, begin an Or
 pub begins_or : (ts left : List Token) → starts ts ≡ true → is_keyword ts ≡ false → rank left < 1 → begins (ts ++ left) ≡ Begins.an_or
 begins_or [] left h k less = cc
 begins_or (Name w ∷ []) left h k less = ap (named_begins w) (behind_none left (omega arith))
@@ -249,6 +256,7 @@ bind_begins (grammar.IsBind.bind_at d) left = refl
 let_begins : {ts : List Token} {b : Bind} → IsLet ts b → (left : List Token) → begins (Name (codes "let") ∷ (ts ++ left)) ≡ Begins.a_flwor
 let_begins (grammar.IsLet.let_bind d) left = refl
 
+-- tokens that begin with a clause begin a Flwor
 pub clause_flwor : {ts : List Token} {bs : List Bind} → IsClause ts bs → (left : List Token) → begins (ts ++ left) ≡ Begins.a_flwor
 clause_flwor (grammar.IsClause.for_clause {ts = us} {us = vs} p q) left = ap (λ x. begins (Name (codes "for") ∷ x)) (append_assoc us vs left) ∙ bind_begins p (vs ++ left)
 clause_flwor (grammar.IsClause.let_clause {ts = us} {us = vs} p q) left = ap (λ x. begins (Name (codes "let") ∷ x)) (append_assoc us vs left) ∙ let_begins p (vs ++ left)
@@ -270,12 +278,14 @@ bind_rank (grammar.IsBind.bind_at d) w left = refl
 let_rank : {ts : List Token} {b : Bind} → IsLet ts b → (w : List ℕ) (left : List Token) → rank (Name w ∷ (ts ++ left)) ≡ word_rank w false
 let_rank (grammar.IsLet.let_bind d) w left = refl
 
+-- tokens that begin with a clause begin with no operator and no comma
 pub clause_ends : {ts : List Token} {bs : List Bind} → IsClause ts bs → (left : List Token) → Ends (ts ++ left)
 clause_ends (grammar.IsClause.for_clause {ts = us} {us = vs} p q) left =
     record { loose = omega (arith, ap (λ x. rank (Name (codes "for") ∷ x)) (append_assoc us vs left), bind_rank p (codes "for") (vs ++ left)); no_comma = refl }
 clause_ends (grammar.IsClause.let_clause {ts = us} {us = vs} p q) left =
     record { loose = omega (arith, ap (λ x. rank (Name (codes "let") ∷ x)) (append_assoc us vs left), let_rank p (codes "let") (vs ++ left)); no_comma = refl }
 
+-- clauses and what follows them begin with no operator and no comma, if what follows does not
 pub clauses_end : {ts : List Token} {bs : List Bind} → IsClauses ts bs → (left : List Token) → Ends left → Ends (ts ++ left)
 clauses_end grammar.IsClauses.no_clause left h = h
 clauses_end (grammar.IsClauses.clause {ts = us} {us = vs} p q) left h = subst Ends (sym (append_assoc us vs left)) (clause_ends p (vs ++ left))
@@ -290,26 +300,32 @@ pub record EndsWhere (ts : List Token) : Type 0 where
   pub clauses : EndsClauses ts
   pub no_where : word (codes "where") ts ≡ None
 
+-- `return` and an expression begin with no operator, comma, clause or `where`
 pub return_ends : (us left : List Token) → starts us ≡ true → EndsWhere (Name (codes "return") ∷ (us ++ left))
 return_ends us left h = record { clauses = record { ends = word_ends (codes "return") us left h (omega arith); no_clause = refl }; no_where = refl }
 
+-- [order by Key (, Key)*] begins with no operator, comma, clause or `where`, if what follows it does not
 pub order_ends : {ts : List Token} {ks : List SortKey} → IsOrder ts ks → (left : List Token) → EndsWhere left → EndsWhere (ts ++ left)
 order_ends grammar.IsOrder.no_order left h = h
 order_ends (grammar.IsOrder.order p q) left h = record { clauses = record { ends = record { loose = omega arith; no_comma = refl }; no_clause = refl }; no_where = refl }
 
+-- [where Single] begins with no operator, comma or clause, if what follows it does not, nor with `where`
 pub where_ends : {ts : List Token} {o : Option Expr} → IsWhere ts o → (left : List Token) → EndsWhere left → EndsClauses (ts ++ left)
 where_ends grammar.IsWhere.no_where left h = h.clauses
 where_ends (grammar.IsWhere.a_where {ts = us} d) left h = record { ends = word_ends (codes "where") us left (single_starts d) (omega arith); no_clause = refl }
 
+-- `return` is not `order by`
 pub no_order_words : (us : List Token) → two_words (codes "order") (codes "by") (Name (codes "return") ∷ us) ≡ None
 no_order_words (Name w ∷ us) = refl
 no_order_words _ = refl
 
 -- ---- nesting
 
+-- `return` and what follows it have a word that nests
 pub return_nests : (us : List Token) → 0 < words (Name (codes "return") ∷ us)
 return_nests us = let e : words (Name (codes "return") ∷ us) ≡ 1 + words us = sum_by-append _ (Name (codes "return") ∷ []) us in omega (arith, e)
 
+-- `else` and what follows it have a word that nests
 pub else_nests : (us : List Token) → 0 < words (Name (codes "else") ∷ us)
 else_nests us = let e : words (Name (codes "else") ∷ us) ≡ 1 + words us = sum_by-append _ (Name (codes "else") ∷ []) us in omega (arith, e)
 
@@ -321,12 +337,15 @@ module _ (n : ℕ) (inner : Reader Expr) (inner_takes : Takes IsSingle inner)
   pub commas_shrink : Shrinking (there comma) (λ s. inner)
   commas_shrink = shrinking (there comma) (λ s. inner) (there_takes (Mark Comma) comma comma_takes) (λ us s e. omega (arith, ap length e)) (λ s. inner_takes)
 
+  -- each [ Expr ] leaves fewer tokens
   pub preds_shrink : Shrinking (there open_square) (λ s. pred inner)
   preds_shrink = shrinking (there open_square) (λ s. pred inner) (there_takes (Mark OpenSquare) open_square open_square_takes) (λ us s e. omega (arith, ap length e)) (λ s. sound.pred_takes inner inner_takes)
 
+  -- each slash with its Step leaves fewer tokens
   pub steps_shrink : Shrinking slash (λ deep. step inner)
   steps_shrink = shrinking slash (λ deep. step inner) slash_takes (λ us s e. omega (arith, ap length e)) (λ s. sound.step_takes inner inner_takes)
 
+  -- each operator of a union with its Signed leaves fewer tokens
   pub unions_shrink : Shrinking (there union_op) (λ s. signed inner)
   unions_shrink = shrinking (there union_op) (λ s. signed inner) union_op_takes (λ us s e. long us e) (λ s. sound.signed_takes inner inner_takes)
     where
@@ -334,27 +353,35 @@ module _ (n : ℕ) (inner : Reader Expr) (inner_takes : Takes IsSingle inner)
       long us (inl e) = omega (arith, ap length e)
       long us (inr e) = omega (arith, ap length e)
 
+  -- each operator of a product with its Union leaves fewer tokens
   pub product_parts_shrink : Shrinking product_op (λ op. union inner)
   product_parts_shrink = shrinking product_op (λ op. union inner) product_op_takes (λ us s e. omega (arith, ap length e)) (λ s. sound.union_takes inner inner_takes)
 
+  -- each operator of a sum with its Product leaves fewer tokens
   pub sum_parts_shrink : Shrinking sum_op (λ minus. product inner)
   sum_parts_shrink = shrinking sum_op (λ minus. product inner) sum_op_takes (λ us s e. omega (arith, ap length e)) (λ s. sound.product_takes inner inner_takes)
 
+  -- each `and` with its Comp leaves fewer tokens
   pub ands_shrink : Shrinking (there (word (codes "and"))) (λ s. comp inner)
   ands_shrink = shrinking (there (word (codes "and"))) (λ s. comp inner) (there_takes (Name (codes "and")) (word (codes "and")) (word_takes (codes "and"))) (λ us s e. omega (arith, ap length e)) (λ s. sound.comp_takes inner inner_takes)
 
+  -- each `or` with its And leaves fewer tokens
   pub ors_shrink : Shrinking (there (word (codes "or"))) (λ s. and inner)
   ors_shrink = shrinking (there (word (codes "or"))) (λ s. and inner) (there_takes (Name (codes "or")) (word (codes "or")) (word_takes (codes "or"))) (λ us s e. omega (arith, ap length e)) (λ s. sound.and_takes inner inner_takes)
 
+  -- each comma with its Bind leaves fewer tokens
   pub binds_shrink : Shrinking (there comma) (λ s. bind inner)
   binds_shrink = shrinking (there comma) (λ s. bind inner) (there_takes (Mark Comma) comma comma_takes) (λ us s e. omega (arith, ap length e)) (λ s. sound.bind_takes inner inner_takes)
 
+  -- each comma with its $Name := Single leaves fewer tokens
   pub lets_shrink : Shrinking (there comma) (λ s. let_bind inner)
   lets_shrink = shrinking (there comma) (λ s. let_bind inner) (there_takes (Mark Comma) comma comma_takes) (λ us s e. omega (arith, ap length e)) (λ s. sound.let_takes inner inner_takes)
 
+  -- each word of a clause with what follows it leaves fewer tokens
   pub clauses_shrink : Shrinking clause_word (clause inner)
   clauses_shrink = shrinking clause_word (clause inner) clause_word_takes (λ us s e. omega (arith, ap length e)) (λ s. sound.clause_takes inner inner_takes s)
 
+  -- each comma with its Key leaves fewer tokens
   pub keys_shrink : Shrinking (there comma) (λ s. sort_key inner)
   keys_shrink = shrinking (there comma) (λ s. sort_key inner) (there_takes (Mark Comma) comma comma_takes) (λ us s e. omega (arith, ap length e)) (λ s. sound.key_takes inner inner_takes)
 
@@ -373,6 +400,7 @@ module _ (n : ℕ) (inner : Reader Expr) (inner_takes : Takes IsSingle inner)
       followed_over (λ e es. e ∷ es) inner (commas inner) us vs left e es
       (inner_reads us e p (omega (arith, nest-left us vs)) (vs ++ left) (commas_rank q left h.loose)) (commas_read q (omega (arith, nest-right us vs)) left h)
 
+  -- each Expr that is in the grammar and less deep than n is read, where no operator and no comma goes on after it
   pub expr_read : {ts : List Token} {e : Expr} → IsExpr ts e → nest ts < n → (left : List Token) → Ends left → expr inner (ts ++ left) ≡ Some (e, left)
   unfolding expr
   expr_read (grammar.IsExpr.expr d) small left h = ap (λ o. o >>= (λ r. let x : Option (Expr × List Token) = Some (sequence_of r.0, r.1) in x)) (list_read d small left h)
@@ -657,6 +685,7 @@ module _ (n : ℕ) (inner : Reader Expr) (inner_takes : Takes IsSingle inner)
       (and_read p (omega (arith, nest-left us vs, nest-right (Name (codes "or") ∷ []) (us ++ vs))) (vs ++ left) (ors_rank q left h))
       (ors_read q (omega (arith, nest-right us vs, nest-right (Name (codes "or") ∷ []) (us ++ vs))) left h)
 
+  -- each Or that is in the grammar and no deeper than n is read, where no operator goes on after it
   pub or_read : {ts : List Token} {e : Expr} → IsOr ts e → nest ts ≤ n → (left : List Token) → rank left < 1 → or inner (ts ++ left) ≡ Some (e, left)
   unfolding or
   or_read (grammar.IsOr.or {ts = us} {us = vs} {e} {es} p q) small left h =

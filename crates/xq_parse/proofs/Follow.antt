@@ -9,10 +9,12 @@ use Rattle.xq_ast.specs.declared.token.Token.TheVariants.{Name, Text, Int, Symbo
 use Rattle.xq_ast.specs.Readings.{Behind, comma, close_round, close_square, close_curly, open_square, word, two_words, compare_op, sum_op, product_op, union_op, slash, behind_name, there, signs, direction, clause_word}
 use Rattle.xq_parse.proofs.Taken.{same_bytes}
 
+-- the tokens begin with an opening curly bracket
 abbrev pub is_curly : List Token → Bool
 is_curly (Mark OpenCurly ∷ ts) = true
 is_curly _ = false
 
+-- the rank of a symbol: 0 for what ends an expression, 3 to 9 for operators, 10 for all else
 abbrev pub symbol_rank : Symbol → ℕ
 symbol_rank CloseRound = 0
 symbol_rank CloseSquare = 0
@@ -45,6 +47,7 @@ word_rank w false =
     else if bytes_eq w (codes "or") then 1
     else 0
 
+-- the rank of tokens by the first of them; no tokens have 0, and texts and integers have 10
 abbrev pub rank : List Token → ℕ
 rank [] = 0
 rank (Text value ∷ ts) = 10
@@ -68,15 +71,19 @@ word_none v k least small _ less = refl
 there_none : (look : List Token → Option (List Token)) (ts : List Token) → look ts ≡ None → there look ts ≡ None
 there_none look ts e = rw e refl
 
+-- tokens of a rank below 1 do not begin with `or`
 pub or_none : (ts : List Token) → rank ts < 1 → there (word (codes "or")) ts ≡ None
 or_none ts less = there_none (word (codes "or")) ts (word_none (codes "or") 1 (omega arith) (omega arith) ts less)
 
+-- tokens of a rank below 2 do not begin with `and`
 pub and_none : (ts : List Token) → rank ts < 2 → there (word (codes "and")) ts ≡ None
 and_none ts less = there_none (word (codes "and")) ts (word_none (codes "and") 2 (omega arith) (omega arith) ts less)
 
+-- tokens of a rank below 4 do not begin with `to`
 pub to_none : (ts : List Token) → rank ts < 4 → there (word (codes "to")) ts ≡ None
 to_none ts less = there_none (word (codes "to")) ts (word_none (codes "to") 4 (omega arith) (omega arith) ts less)
 
+-- tokens of a rank below 3 do not begin with the operator of a comparison
 pub compare_none : (ts : List Token) → rank ts < 3 → compare_op ts ≡ None
 compare_none (Mark Equal ∷ ts) less = absurd (omega arith)
 compare_none (Mark NotEqual ∷ ts) less = absurd (omega arith)
@@ -86,11 +93,13 @@ compare_none (Mark Greater ∷ ts) less = absurd (omega arith)
 compare_none (Mark GreaterOrEqual ∷ ts) less = absurd (omega arith)
 compare_none _ less = refl
 
+-- tokens of a rank below 5 do not begin with + or -
 pub sum_none : (ts : List Token) → rank ts < 5 → sum_op ts ≡ None
 sum_none (Mark Plus ∷ ts) less = absurd (omega arith)
 sum_none (Mark Minus ∷ ts) less = absurd (omega arith)
 sum_none _ less = refl
 
+-- tokens of a rank below 6 do not begin with the operator of a product
 pub product_none : (ts : List Token) → rank ts < 6 → product_op ts ≡ None
 product_none (Mark Star ∷ ts) less = absurd (omega arith)
 product_none (Name w ∷ ts) less = by_words (bytes_eq w (codes "idiv")) (bytes_eq w (codes "mod")) refl refl
@@ -109,16 +118,19 @@ product_none (Name w ∷ ts) less = by_words (bytes_eq w (codes "idiv")) (bytes_
     by_words false false p q = rw (p, q) refl
 product_none _ less = refl
 
+-- tokens of a rank below 7 do not begin with the operator of a union
 pub union_none : (ts : List Token) → rank ts < 7 → there union_op ts ≡ None
 union_none (Mark Bar ∷ ts) less = absurd (omega arith)
 union_none (Name w ∷ ts) less = there_none union_op (Name w ∷ ts) (word_absent (codes "union") w 7 ts (is_curly ts) (bytes_eq w (codes "union")) (omega arith) (omega arith) less refl)
 union_none _ less = refl
 
+-- tokens of a rank below 8 do not begin with / or //
 pub slash_none : (ts : List Token) → rank ts < 8 → slash ts ≡ None
 slash_none (Mark Slash ∷ ts) less = absurd (omega arith)
 slash_none (Mark SlashSlash ∷ ts) less = absurd (omega arith)
 slash_none _ less = refl
 
+-- tokens of a rank below 9 do not begin with an opening square bracket
 pub square_none : (ts : List Token) → rank ts < 9 → there open_square ts ≡ None
 square_none (Mark OpenSquare ∷ ts) less = absurd (omega arith)
 square_none _ less = refl
@@ -134,6 +146,7 @@ behind_none _ less = refl
 
 -- ---- how expressions begin
 
+-- a path may begin with this token
 abbrev pub path_token : Token → Bool
 path_token (Name w) = true
 path_token (Text value) = true
@@ -146,6 +159,7 @@ path_token (Mark DotDot) = true
 path_token (Mark Star) = true
 path_token _ = false
 
+-- an expression may begin with this token: a sign, or what a path begins with
 abbrev pub start_token : Token → Bool
 start_token (Mark Plus) = true
 start_token (Mark Minus) = true
@@ -161,14 +175,17 @@ abbrev pub starts : List Token → Bool
 starts [] = false
 starts (t ∷ ts) = start_token t
 
+-- tokens that a path may begin with stay so, whatever follows them
 pub path_append : (ts us : List Token) → begins_path ts ≡ true → begins_path (ts ++ us) ≡ true
 path_append (t ∷ ts) us h = h
 path_append [] us h = cc
 
+-- tokens that an expression may begin with stay so, whatever follows them
 pub starts_append : (ts us : List Token) → starts ts ≡ true → starts (ts ++ us) ≡ true
 starts_append (t ∷ ts) us h = h
 starts_append [] us h = cc
 
+-- what a path may begin with an expression may begin with
 pub path_starts : (ts : List Token) → begins_path ts ≡ true → starts ts ≡ true
 path_starts (Mark Plus ∷ ts) h = refl
 path_starts (Mark Minus ∷ ts) h = refl
@@ -180,14 +197,17 @@ no_signs (Mark Plus ∷ ts) h = cc
 no_signs (Mark Minus ∷ ts) h = cc
 no_signs _ h = refl
 
+-- an expression does not begin with an opening curly bracket
 pub starts_no_curly : (ts : List Token) → starts ts ≡ true → is_curly ts ≡ false
 starts_no_curly (Mark OpenCurly ∷ ts) h = cc
 starts_no_curly _ h = refl
 
+-- an expression does not begin with a closing round bracket
 pub starts_no_close_round : (ts : List Token) → starts ts ≡ true → close_round ts ≡ None
 starts_no_close_round (Mark CloseRound ∷ ts) h = cc
 starts_no_close_round _ h = refl
 
+-- an expression does not begin with a closing curly bracket
 pub starts_no_close_curly : (ts : List Token) → starts ts ≡ true → close_curly ts ≡ None
 starts_no_close_curly (Mark CloseCurly ∷ ts) h = cc
 starts_no_close_curly _ h = refl

@@ -39,9 +39,11 @@ nested_small ts well =
     let words_few : words ts ≤ NESTING_WORDS_MAX = leb-true (words ts) NESTING_WORDS_MAX p.1 in
     omega (arith, brackets, words_few)
 
+-- tokens that are nested well and are a call are read as this call
 pub call_complete : {ts : List Token} {pyx : List (List ℕ)} {c : Call} → is_nested_well ts ≡ true → IsCall ts pyx c → call_of ts pyx ≡ Some c
 call_complete {ts} well is = calls.call_read SINGLES_MAX is (nested_small ts well)
 
+-- tokens that are read as a call are this call
 pub call_sound : (ts : List Token) (pyx : List (List ℕ)) (c : Call) → call_of ts pyx ≡ Some c → IsCall ts pyx c
 call_sound ts pyx c e = calls.call_sound SINGLES_MAX ts pyx c e
 

@@ -71,6 +71,7 @@ named_test_sound w ts (Behind.name_curly name us) is r e = name_sound w ts r e
 named_test_sound w ts (Behind.colons us) is r e = name_sound w ts r e
 named_test_sound w ts Behind.other is r e = name_sound w ts r e
 
+-- what is read as a Test is one
 pub test_takes : Takes IsTest test
 test_takes = record { takes = go }
   where
@@ -302,14 +303,17 @@ module _ (inner : Reader Expr) (inner_takes : Takes IsSingle inner) where
       items_sound (there comma) (λ s. inner) put [] (λ s. IsSingle) IsCommas (λ us s. us ≡ Mark Comma ∷ []) (there_takes (Mark Comma) comma comma_takes) (λ s. inner_takes)
       grammar.IsCommas.no_comma (λ s us vs ws x xs e p q. subst (λ l. IsCommas (l ++ (vs ++ ws)) (x ∷ xs)) (sym e) (grammar.IsCommas.comma p q))
 
+  -- what is read as Single (, Single)* is that
   pub list_takes : Takes IsList (list inner)
   unfolding list
   list_takes = followed_sound (λ e es. e ∷ es) inner (commas inner) inner_takes commas_takes (λ x y us vs p q. grammar.IsList.list p q)
 
+  -- what is read as an Expr is one
   pub expr_takes : Takes IsExpr (expr inner)
   unfolding expr
   expr_takes = record { takes = λ ts r e. last_sound sequence_of (list inner) ts r list_takes e (λ es us d. grammar.IsExpr.expr d) }
 
+  -- what is read as [Expr] with the bracket that closes it is that
   pub content_takes : (t : Token) (close : List Token → Option (List Token)) → TakesToken t close → Takes (Enclosed t IsContent) (content close inner)
   unfolding content
   content_takes t close is = record { takes = λ ts r e. go ts r (close ts) refl e }
@@ -320,6 +324,7 @@ module _ (inner : Reader Expr) (inner_takes : Takes IsSingle inner) where
           step_sound (expr inner) (λ e. close e.1 >>= (λ us. let x : Option (Option Expr × List Token) = Some (Some e.0, us) in x)) ts r expr_takes e
           (λ x us left d f. end_sound t close (Some x) left r is f (us, grammar.IsContent.content d, refl))
 
+  -- what is read as [Single (, Single)*] with the bracket that closes it is that
   pub arguments_takes : Takes (Enclosed (Mark CloseRound) IsArguments) (arguments inner)
   unfolding arguments
   arguments_takes = record { takes = λ ts r e. go ts r (close_round ts) refl e }
@@ -330,6 +335,7 @@ module _ (inner : Reader Expr) (inner_takes : Takes IsSingle inner) where
           step_sound (list inner) (λ es. close_round es.1 >>= (λ us. let x : Option (List Expr × List Token) = Some (es.0, us) in x)) ts r list_takes e
           (λ x us left d f. end_sound (Mark CloseRound) close_round x left r close_round_takes f (us, grammar.IsArguments.arguments d, refl))
 
+  -- what is read as Expr and the bracket that closes it is that
   pub pred_takes : Takes (Enclosed (Mark CloseSquare) IsExpr) (pred inner)
   unfolding pred
   pred_takes = record {
@@ -338,6 +344,7 @@ module _ (inner : Reader Expr) (inner_takes : Takes IsSingle inner) where
         (λ x us left d f. end_sound (Mark CloseSquare) close_square x left r close_square_takes f (us, d, refl));
   }
 
+  -- what is read as Pred* is that
   pub preds_takes : Takes IsPreds (preds inner)
   unfolding preds
   preds_takes =
@@ -346,10 +353,12 @@ module _ (inner : Reader Expr) (inner_takes : Takes IsSingle inner) where
       (λ s us vs ws x xs e p q. subst (λ l. IsPreds (l ++ (vs ++ ws)) (x ∷ xs)) (sym e) (subst (λ l. IsPreds (Mark OpenSquare ∷ l) (x ∷ xs))
       (sym (ap (λ l. l ++ ws) p.2 ∙ append_assoc p.0 (Mark CloseSquare ∷ []) ws)) (grammar.IsPreds.pred p.1 q)))
 
+  -- what is read as a Step is one
   pub step_takes : Takes IsStep (step inner)
   unfolding step IsBare
   step_takes = followed_sound (λ s ps. step_with s.0 s.1 ps) bare_step (preds inner) bare_step_takes preds_takes (λ s ps us vs h p. h vs ps p)
 
+  -- what is read as ((/ or //) Step)* is that
   pub steps_takes : Takes IsSteps (steps inner)
   unfolding steps
   steps_takes =
@@ -414,6 +423,7 @@ module _ (inner : Reader Expr) (inner_takes : Takes IsSingle inner) where
   unfolding path
   path_takes = record { takes = λ ts r e. path_sound (operand ts) ts r (operand_is ts) e }
 
+  -- what is read as a Signed is one
   pub signed_takes : Takes IsSigned (signed inner)
   unfolding signed
   signed_takes = record {
@@ -432,6 +442,7 @@ module _ (inner : Reader Expr) (inner_takes : Takes IsSingle inner) where
       go us vs ws x xs (inl e) p q = subst (λ l. IsUnions (l ++ (vs ++ ws)) (x ∷ xs)) (sym e) (grammar.IsUnions.bar p q)
       go us vs ws x xs (inr e) p q = subst (λ l. IsUnions (l ++ (vs ++ ws)) (x ∷ xs)) (sym e) (grammar.IsUnions.union_word p q)
 
+  -- what is read as a Union is one
   pub union_takes : Takes IsUnion (union inner)
   unfolding union
   union_takes = followed_sound union_of (signed inner) (unions inner) signed_takes unions_takes (λ x y us vs p q. grammar.IsUnion.union p q)
@@ -447,6 +458,7 @@ module _ (inner : Reader Expr) (inner_takes : Takes IsSingle inner) where
       go Idiv vs ws x xs p q = grammar.IsProductParts.idiv p q
       go Mod vs ws x xs p q = grammar.IsProductParts.mod_ p q
 
+  -- what is read as a Product is one
   pub product_takes : Takes IsProduct (product inner)
   unfolding product
   product_takes = followed_sound product_of (union inner) (product_parts inner) union_takes product_parts_take (λ x y us vs p q. grammar.IsProduct.product p q)
@@ -461,16 +473,19 @@ module _ (inner : Reader Expr) (inner_takes : Takes IsSingle inner) where
       go true vs ws x xs p q = grammar.IsSumParts.minus p q
       go false vs ws x xs p q = grammar.IsSumParts.plus p q
 
+  -- what is read as a Sum is one
   pub sum_takes : Takes IsSum (sum inner)
   unfolding sum
   sum_takes = followed_sound sum_of (product inner) (sum_parts inner) product_takes sum_parts_take (λ x y us vs p q. grammar.IsSum.sum p q)
 
+  -- what is read as a Range is one
   pub range_takes : Takes IsRange (range inner)
   unfolding range
   range_takes =
       paired_sound (there (word (codes "to"))) (λ l s h. expression.Range l h) (sum inner) (there_takes (Name (codes "to")) (word (codes "to")) (word_takes (codes "to"))) sum_takes
       (λ x us d. grammar.IsRange.no_range d) (λ x y s us vs ws p e q. subst (λ l. IsRange (us ++ (l ++ ws)) (expression.Range x y)) (sym e) (grammar.IsRange.range p q))
 
+  -- what is read as a Comp is one
   pub comp_takes : Takes IsComp (comp inner)
   unfolding comp
   comp_takes =
@@ -484,6 +499,7 @@ module _ (inner : Reader Expr) (inner_takes : Takes IsSingle inner) where
       (there_takes (Name (codes "and")) (word (codes "and")) (word_takes (codes "and"))) (λ s. comp_takes) grammar.IsAnds.no_and
       (λ s us vs ws x xs e p q. subst (λ l. IsAnds (l ++ (vs ++ ws)) (x ∷ xs)) (sym e) (grammar.IsAnds.next_and p q))
 
+  -- what is read as an And is one
   pub and_takes : Takes IsAnd (and inner)
   unfolding and
   and_takes = followed_sound and_of (comp inner) (ands inner) comp_takes ands_takes (λ x y us vs p q. grammar.IsAnd.and p q)
@@ -495,10 +511,12 @@ module _ (inner : Reader Expr) (inner_takes : Takes IsSingle inner) where
       (there_takes (Name (codes "or")) (word (codes "or")) (word_takes (codes "or"))) (λ s. and_takes) grammar.IsOrs.no_or
       (λ s us vs ws x xs e p q. subst (λ l. IsOrs (l ++ (vs ++ ws)) (x ∷ xs)) (sym e) (grammar.IsOrs.next_or p q))
 
+  -- what is read as an Or is one
   pub or_takes : Takes IsOr (or inner)
   unfolding or
   or_takes = followed_sound or_of (and inner) (ors inner) and_takes ors_takes (λ x y us vs p q. grammar.IsOr.or p q)
 
+  -- what is read as a Bind is one
   pub bind_takes : Takes IsBind (bind inner)
   unfolding bind
   bind_takes = record {
@@ -515,6 +533,7 @@ module _ (inner : Reader Expr) (inner_takes : Takes IsSingle inner) where
       items_sound (there comma) (λ s. bind inner) put [] (λ s. IsBind) IsBinds (λ us s. us ≡ Mark Comma ∷ []) (there_takes (Mark Comma) comma comma_takes) (λ s. bind_takes)
       grammar.IsBinds.no_bind (λ s us vs ws x xs e p q. subst (λ l. IsBinds (l ++ (vs ++ ws)) (x ∷ xs)) (sym e) (grammar.IsBinds.next_bind p q))
 
+  -- what is read as $Name := Single is that
   pub let_takes : Takes IsLet (let_bind inner)
   unfolding let_bind
   let_takes = record {
@@ -531,6 +550,7 @@ module _ (inner : Reader Expr) (inner_takes : Takes IsSingle inner) where
       items_sound (there comma) (λ s. let_bind inner) put [] (λ s. IsLet) IsLets (λ us s. us ≡ Mark Comma ∷ []) (there_takes (Mark Comma) comma comma_takes) (λ s. let_takes)
       grammar.IsLets.no_let (λ s us vs ws x xs e p q. subst (λ l. IsLets (l ++ (vs ++ ws)) (x ∷ xs)) (sym e) (grammar.IsLets.next_let p q))
 
+  -- what is read after the word of a clause is, with this word, a For or a Let
   pub clause_takes : (w : ClauseWord) → Takes (λ us bs. IsClause (clause_token w ∷ us) bs) (clause inner w)
   unfolding clause binds lets
   clause_takes ClauseWord.for_word = followed_sound (λ b bs. b ∷ bs) (bind inner) (more_binds inner) bind_takes more_binds_take (λ x y us vs p q. grammar.IsClause.for_clause p q)
@@ -556,6 +576,7 @@ module _ (inner : Reader Expr) (inner_takes : Takes IsSingle inner) where
       followed_sound (λ bs more. bs ++ more) (first_clause inner) (more_clauses inner) first_clause_takes more_clauses_take
       (λ x y us vs p q. record { first_tokens = us; more_tokens = vs; first = x; more = y; first_is = p; more_are = q; tokens_are = refl; binds_are = refl })
 
+  -- what is read as [where Single] is that
   pub where_takes : Takes IsWhere (filter inner)
   unfolding filter
   where_takes = record { takes = λ ts r e. go ts r (word (codes "where") ts) refl e }
@@ -566,6 +587,7 @@ module _ (inner : Reader Expr) (inner_takes : Takes IsSingle inner) where
           under (Name (codes "where") ∷ []) ts us r ((word_takes (codes "where")).takes ts us some)
           (last_sound (λ x. let y : Option Expr = Some x in y) inner us r inner_takes e (λ x vs d. grammar.IsWhere.a_where d))
 
+  -- what is read as a Key is one
   pub key_takes : Takes IsKey (sort_key inner)
   unfolding sort_key
   key_takes = record { takes = λ ts r e. step_sound inner (λ e. key_at e.0 (direction e.1)) ts r inner_takes e (λ x us left d f. key_joins us x left r d f) }
@@ -580,6 +602,7 @@ module _ (inner : Reader Expr) (inner_takes : Takes IsSingle inner) where
   unfolding sort_keys
   keys_take = followed_sound (λ k ks. k ∷ ks) (sort_key inner) (more_keys inner) key_takes more_keys_take (λ x y us vs p q. grammar.IsOrder.order p q)
 
+  -- what is read as [order by Key (, Key)*] is that
   pub order_takes : Takes IsOrder (order inner)
   unfolding order
   order_takes = record { takes = λ ts r e. go ts r (two_words (codes "order") (codes "by") ts) refl e }
@@ -589,6 +612,7 @@ module _ (inner : Reader Expr) (inner_takes : Takes IsSingle inner) where
       go ts r (Some us) some e =
           under (Name (codes "order") ∷ Name (codes "by") ∷ []) ts us r (two_words_take (codes "order") (codes "by") ts us some) (keys_take.takes us r e)
 
+  -- what is read as a Flwor is one
   pub flwor_takes : Takes IsFlwor (flwor inner)
   unfolding flwor
   flwor_takes = record {
@@ -600,6 +624,7 @@ module _ (inner : Reader Expr) (inner_takes : Takes IsSingle inner) where
         last_sound (λ x. expression.Flwor bs o ks x) inner left r inner_takes f (λ x xs d. flwor_joins us vs ws xs bs o ks x c p q d)))));
   }
 
+  -- what is read after `if (` is, with these two tokens, an If
   pub if_takes : Takes (λ us e. IsIf (Name (codes "if") ∷ Mark OpenRound ∷ us) e) (an_if inner)
   unfolding an_if
   if_takes = record {
@@ -627,6 +652,7 @@ module _ (inner : Reader Expr) (inner_takes : Takes IsSingle inner) where
   unfolding single_over
   single_over_takes = record { takes = λ ts r e. single_sound ts r (begins ts) (begins_is ts) e }
 
+-- what is read as a Single, with so many one in another at most, is one
 pub single_takes : (n : ℕ) → Takes IsSingle (single n)
 single_takes zero = record { takes = λ ts r e. cc }
 single_takes (suc n) = record { takes = λ ts r e. (single_over_takes (single n) (single_takes n)).takes ts r e }

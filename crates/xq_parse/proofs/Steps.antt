@@ -16,6 +16,7 @@ use Rattle.xq_parse.proofs.Fuel.{comment_step, string_step, piece_then, pieces_s
 
 -- ---- comments
 
+-- a turn over comments leaves what stands after all of them as it is
 pub comment_kept : (opened : ℕ) (bytes : List ℕ) (whole : Option (List ℕ)) (t : Option CommentTurn) → 0 < opened
     → ((more : ℕ → List ℕ → Option (List ℕ)) → comment_turn (behind (codes "(:") bytes) (behind (codes ":)") bytes) bytes (opened - 1) more ≡ turned t more)
     → behind_comments (length bytes) opened bytes ≡ whole → turned t (λ k after. behind_comments (length after) k after) ≡ whole
@@ -90,6 +91,7 @@ name_of_both bytes rest n m count is second =
 
 -- ---- brackets
 
+-- where a token opens a bracket too many, the most brackets that are open at once are too many
 pub too_many : (tokens_ : List Token) (i opened most : ℕ) (t : Token) → i < length tokens_ → t ≡ get_or tokens_ i t → opened ≤ most
     → most < open_behind opened t
     → nat_le (most_open opened (drop i tokens_)) most ≡ nat_le (most_open 0 tokens_) most → false ≡ nat_le (most_open 0 tokens_) most
@@ -109,6 +111,7 @@ too_many tokens_ i opened most t less is few many so_far =
 
 -- ---- strings
 
+-- with one byte more of the text read, the text so far and what follows are still the whole string
 pub string_goes_on : (quote byte : ℕ) (rest after text new : List ℕ) (whole : Option (List ℕ × List ℕ)) → quote < 128
     → string_part quote rest ≡ spec.StringPart.holds (byte ∷ []) after → new ≡ text ++ byte ∷ []
     → (string (length rest) quote rest >>= (λ r. Some (text ++ r.0, r.1))) ≡ whole
@@ -124,10 +127,12 @@ string_goes_on quote byte rest after text new whole small part pushed so_far =
         ∙ (ap (λ t. let x : Option (List ℕ × List ℕ) = Some (t, r.1) in x) (append_assoc text (byte ∷ []) r.0)
         ∙ (sym (ap (λ o. o >>= (λ r. let x : Option (List ℕ × List ℕ) = Some (text ++ r.0, r.1) in x)) e) ∙ so_far))
 
+-- a part of a string that holds a byte leaves fewer bytes
 pub string_gets_shorter : (quote byte : ℕ) (rest after : List ℕ) → quote < 128 → string_part quote rest ≡ spec.StringPart.holds (byte ∷ []) after
     → length after < length rest
 string_gets_shorter quote byte rest after small part = (subst (IsPartOf rest) part (part_is quote rest small)).less
 
+-- where a string ends, its text is the text so far, and the bytes stand after it
 pub string_ends : (quote : ℕ) (rest after text : List ℕ) (whole : Option (List ℕ × List ℕ)) → quote < 128 → string_part quote rest ≡ spec.StringPart.ends after
     → (string (length rest) quote rest >>= (λ r. Some (text ++ r.0, r.1))) ≡ whole → whole ≡ Some (text, after)
 string_ends quote rest after text whole small part so_far =
@@ -136,6 +141,7 @@ string_ends quote rest after text whole small part so_far =
     sym so_far ∙ (ap (λ o. o >>= (λ r. let x : Option (List ℕ × List ℕ) = Some (text ++ r.0, r.1) in x)) e
     ∙ ap (λ t. let x : Option (List ℕ × List ℕ) = Some (t, after) in x) (append-nil text))
 
+-- where a string has a fault, there is no string
 pub string_fails : (quote : ℕ) (rest text : List ℕ) (whole : Option (List ℕ × List ℕ)) → quote < 128 → string_part quote rest ≡ spec.StringPart.fault
     → (string (length rest) quote rest >>= (λ r. Some (text ++ r.0, r.1))) ≡ whole → whole ≡ None
 string_fails quote rest text whole small part so_far =
@@ -148,6 +154,7 @@ string_utf8 quote bytes text rest small u e = (string_is (length bytes) quote by
 
 -- ---- tokens
 
+-- the pieces of bytes that begin with one are that piece and those of what follows
 pub some_bytes : (rest : List ℕ) (p : spec.Piece × List ℕ) → piece rest ≡ Some p
     → pieces (length rest) rest ≡ piece_then rest (λ after. pieces (length after) after) p
 some_bytes [] p e = cc
@@ -163,13 +170,16 @@ module _ {A : Type 0} (part : Spelled → A) where
   with_piece-append None n more = refl
   with_piece-append (Some t) n more = refl
 
+  -- the tokens so far and those of the pieces that are left, if these can be read
   abbrev pub Goes : List A → Option (List Spelled) → Option (List A)
   Goes all left = left >>= (λ more. Some (all ++ map part more))
 
+  -- with no tokens so far, those of the pieces that are left are all
   pub pieces_start : (o : Option (List Spelled)) → Goes [] o ≡ option_map (map part) o
   pieces_start None = refl
   pieces_start (Some more) = refl
 
+  -- with no pieces left, the tokens so far are all
   pub pieces_end : (all : List A) → Goes all (Some []) ≡ Some all
   pieces_end all = ap (λ t. let x : Option (List A) = Some t in x) (append-nil all)
 
@@ -182,6 +192,7 @@ module _ {A : Type 0} (part : Spelled → A) where
       ∙ ap (λ t. all ++ t) (with_piece-append p n more))
       ∙ (sym (ap (Goes all) e) ∙ so_far))
 
+  -- with one piece more read, the tokens so far and those of the pieces that are left are still the whole
   pub pieces_go_on : (rest after : List ℕ) (p : spec.Piece) (all new : List A) (whole : Option (List A)) → piece rest ≡ Some (p, after)
       → new ≡ all ++ map part (with_piece p (length rest - length after) [])
       → Goes all (pieces (length rest) rest) ≡ whole → Goes new (pieces (length after) after) ≡ whole
@@ -189,13 +200,16 @@ module _ {A : Type 0} (part : Spelled → A) where
       by_rest p (length rest - length after) all new whole (pieces (length after) after) (pieces (length rest) rest) added
       (some_bytes rest (p, after) read) so_far
 
+  -- where bytes are left that begin with no piece, there are no tokens
   pub pieces_fail : (rest : List ℕ) (all : List A) (whole : Option (List A)) → rest ≢ [] → piece rest ≡ None → Goes all (pieces (length rest) rest) ≡ whole
       → whole ≡ None
   pieces_fail rest all whole some read so_far = sym so_far ∙ ap (Goes all) (no_bytes rest some read)
 
+-- what stands after a piece of a UTF-8 text is UTF-8
 pub piece_utf8 : (rest : List ℕ) (p : spec.Piece × List ℕ) → piece rest ≡ Some p → IsUtf8 rest → IsUtf8 p.1
 piece_utf8 rest p e u = (piece_behind rest p e).utf8 [] u
 
+-- a piece that was read leaves fewer bytes
 pub piece_shrinks : (rest : List ℕ) (p : spec.Piece × List ℕ) → piece rest ≡ Some p → length p.1 < length rest
 piece_shrinks rest p e = (piece_behind rest p e).less
 

@@ -33,10 +33,12 @@ use Rattle.xq_ast.specs.Grammar.{step as step_with}
 use Rattle.xq_ast.specs.Readings as spec
 use Rattle.xq_ast.specs.Readings.{Reader, Behind, Operand, Begins, ClauseWord, comma, close_round, close_square, close_curly, open_square, assign, word, two_words, a_name, variable, compare_op, sum_op, product_op, union_op, slash, behind_name, repeated_at, repeated, items, followed, paired_at, paired, there, there_at, put, commas, list, expr, content_at, content, arguments_at, arguments, pred, preds, axis_of, kind_of, name_test, named_test, test, named_step, bare_step, step, steps, named_operand, operand, doc, primary, filtered, path_at, path, with_sign, signs, signed_at, signed, unions, union, product_parts, product, sum_parts, sum, range, comp, ands, and, ors, or, place, bind_in, bind, more_binds, binds, let_bind, more_lets, lets, clause_word, clause, more_clauses, first_clause, clauses, filter_at, filter, direction, key_at, sort_key, more_keys, sort_keys, order_at, order, flwor, an_if, named_begins, begins, single_at, single_over, single}
 
+-- where one thing after another gives a value, the first gave one, and the second gave the value from it
 pub bind_some : {A B : Type 0} (o : Option A) (f : A → Option B) (y : B) → (o >>= f) ≡ Some y → (x : A) × (o ≡ Some x) × (f x ≡ Some y)
 bind_some None f y e = cc
 bind_some (Some x) f y e = (x, refl, e)
 
+-- equal options have equal values
 pub some_is : {A : Type 0} {x y : A} → Some x ≡ Some y → x ≡ y
 some_is e = cc
 
@@ -135,6 +137,7 @@ module _ {S A B : Type 0} (separator : Reader S) (item : S → Reader A) (add : 
   repeated_sound zero = record { takes = λ ts r e. nothing_sound none ts r e empty }
   repeated_sound (suc n) = record { takes = λ ts r e. repeated_go n (repeated_sound n) ts r (separator ts) refl e }
 
+  -- repeated items take what the fact of lists holds of, if it holds of no tokens and of an item before a list
   pub items_sound : Takes R (items separator item add none)
   items_sound = record { takes = λ ts r e. (repeated_sound (length ts)).takes ts r e }
 
@@ -155,6 +158,7 @@ paired_sound {S} {A} {P} {Q} op make part is p alone both = record {
 
 -- ---- looking ahead
 
+-- what is looked at as a comma is one
 pub comma_takes : TakesToken (Mark Comma) comma
 comma_takes = record { takes = go }
   where
@@ -162,6 +166,7 @@ comma_takes = record { takes = go }
     go (Mark Comma ∷ ts) us e = ap (λ x. Mark Comma ∷ x) (some_is e)
     go _ us e = cc
 
+-- what is looked at as a closing round bracket is one
 pub close_round_takes : TakesToken (Mark CloseRound) close_round
 close_round_takes = record { takes = go }
   where
@@ -169,6 +174,7 @@ close_round_takes = record { takes = go }
     go (Mark CloseRound ∷ ts) us e = ap (λ x. Mark CloseRound ∷ x) (some_is e)
     go _ us e = cc
 
+-- what is looked at as a closing square bracket is one
 pub close_square_takes : TakesToken (Mark CloseSquare) close_square
 close_square_takes = record { takes = go }
   where
@@ -176,6 +182,7 @@ close_square_takes = record { takes = go }
     go (Mark CloseSquare ∷ ts) us e = ap (λ x. Mark CloseSquare ∷ x) (some_is e)
     go _ us e = cc
 
+-- what is looked at as a closing curly bracket is one
 pub close_curly_takes : TakesToken (Mark CloseCurly) close_curly
 close_curly_takes = record { takes = go }
   where
@@ -183,6 +190,7 @@ close_curly_takes = record { takes = go }
     go (Mark CloseCurly ∷ ts) us e = ap (λ x. Mark CloseCurly ∷ x) (some_is e)
     go _ us e = cc
 
+-- what is looked at as an opening square bracket is one
 pub open_square_takes : TakesToken (Mark OpenSquare) open_square
 open_square_takes = record { takes = go }
   where
@@ -190,6 +198,7 @@ open_square_takes = record { takes = go }
     go (Mark OpenSquare ∷ ts) us e = ap (λ x. Mark OpenSquare ∷ x) (some_is e)
     go _ us e = cc
 
+-- what is looked at as := is that
 pub assign_takes : TakesToken (Mark Assign) assign
 assign_takes = record { takes = go }
   where
@@ -202,6 +211,7 @@ pub choose : {A P : Type 0} (b : Bool) (x y : A) (c : A) → (if b then x else y
 choose true x y c e yes_ no_ = yes_ refl e
 choose false x y c e yes_ no_ = no_ refl e
 
+-- what is looked at as a word is this word
 pub word_takes : (w : List ℕ) → TakesToken (Name w) (word w)
 word_takes w = record { takes = go }
   where
@@ -210,6 +220,7 @@ word_takes w = record { takes = go }
         choose (bytes_eq v w) (Some ts) None (Some us) e (λ same f. ap (λ x. Name x ∷ ts) (same_bytes v w same) ∙ ap (λ x. Name w ∷ x) (some_is f)) (λ other f. cc)
     go _ us e = cc
 
+-- what is looked at as two words are these two
 pub two_words_take : (v w : List ℕ) (ts us : List Token) → two_words v w ts ≡ Some us → ts ≡ Name v ∷ Name w ∷ us
 two_words_take v w (Name a ∷ Name b ∷ ts) us e = go (bytes_eq a v) (bytes_eq b w) refl refl e
   where
@@ -227,6 +238,7 @@ there_takes t look is = record { takes = λ ts r e. go ts r (look ts) refl e }
     go ts r None none e = cc
     go ts r (Some us) some e = stands_sound (t ∷ []) tt ts us r (is.takes ts us some) e refl
 
+-- what is read as the operator of a union is | or the word union
 pub union_op_takes : Takes (λ us s. (us ≡ Mark Bar ∷ []) ⊎ (us ≡ Name (codes "union") ∷ [])) (there union_op)
 union_op_takes = record { takes = go }
   where
@@ -240,10 +252,12 @@ union_op_takes = record { takes = go }
         by_test false other f = cc
     go _ r e = cc
 
+-- the token of a slash: // where it is deep, and else /
 abbrev pub slash_token : Bool → Token
 slash_token true = Mark SlashSlash
 slash_token false = Mark Slash
 
+-- what is read as a slash is / or //, as it says
 pub slash_takes : Takes (λ us deep. us ≡ slash_token deep ∷ []) slash
 slash_takes = record { takes = go }
   where
@@ -252,10 +266,12 @@ slash_takes = record { takes = go }
     go (Mark SlashSlash ∷ ts) r e = stands_sound (Mark SlashSlash ∷ []) true _ ts r refl e refl
     go _ r e = cc
 
+-- the token of an operator of a sum: - where it is minus, and else +
 abbrev pub sum_token : Bool → Token
 sum_token true = Mark Minus
 sum_token false = Mark Plus
 
+-- what is read as the operator of a sum is + or -, as it says
 pub sum_op_takes : Takes (λ us minus. us ≡ sum_token minus ∷ []) sum_op
 sum_op_takes = record { takes = go }
   where
@@ -264,11 +280,13 @@ sum_op_takes = record { takes = go }
     go (Mark Minus ∷ ts) r e = stands_sound (Mark Minus ∷ []) true _ ts r refl e refl
     go _ r e = cc
 
+-- the token of an operator of a product: *, or one of the words idiv and mod
 abbrev pub product_token : ProductOp → Token
 product_token Times = Mark Star
 product_token Idiv = Name (codes "idiv")
 product_token Mod = Name (codes "mod")
 
+-- what is read as the operator of a product is the token of this operator
 pub product_op_takes : Takes (λ us op. us ≡ product_token op ∷ []) product_op
 product_op_takes = record { takes = go }
   where
@@ -279,6 +297,7 @@ product_op_takes = record { takes = go }
         choose (bytes_eq w (codes "mod")) _ _ (Some r) f (λ same g. stands_sound (Name (codes "mod") ∷ []) Mod _ ts r (ap (λ x. Name x ∷ ts) (same_bytes w (codes "mod") same)) g refl) (λ other g. cc))
     go _ r e = cc
 
+-- what is read as the operator of a comparison is the symbol of this operator
 pub compare_op_takes : Takes (λ us op. us ≡ Mark (compare_symbol op) ∷ []) compare_op
 compare_op_takes = record { takes = go }
   where
@@ -291,6 +310,7 @@ compare_op_takes = record { takes = go }
     go (Mark GreaterOrEqual ∷ ts) r e = stands_sound (Mark GreaterOrEqual ∷ []) compare.Ge _ ts r refl e refl
     go _ r e = cc
 
+-- what is read as a name is this name
 pub a_name_takes : Takes (λ us name. us ≡ Name name ∷ []) a_name
 a_name_takes = record { takes = go }
   where
@@ -298,6 +318,7 @@ a_name_takes = record { takes = go }
     go (Name name ∷ ts) r e = stands_sound (Name name ∷ []) name _ ts r refl e refl
     go _ r e = cc
 
+-- what is read as $Name is $ and this name
 pub variable_takes : Takes (λ us name. us ≡ Mark Dollar ∷ Name name ∷ []) variable
 variable_takes = record { takes = go }
   where
@@ -305,10 +326,12 @@ variable_takes = record { takes = go }
     go (Mark Dollar ∷ Name name ∷ ts) r e = stands_sound (Mark Dollar ∷ Name name ∷ []) name _ ts r refl e refl
     go _ r e = cc
 
+-- the token of a clause's word: for or let
 abbrev pub clause_token : ClauseWord → Token
 clause_token ClauseWord.for_word = Name (codes "for")
 clause_token ClauseWord.let_word = Name (codes "let")
 
+-- what is read as the word of a clause is this word
 pub clause_word_takes : Takes (λ us w. us ≡ clause_token w ∷ []) clause_word
 clause_word_takes = record { takes = go }
   where
@@ -329,6 +352,7 @@ IsBehind (Behind.name_curly name us) ts = ts ≡ Name name ∷ Mark OpenCurly �
 IsBehind (Behind.colons us) ts = ts ≡ Mark ColonColon ∷ us
 IsBehind Behind.other ts = (w : List ℕ) → is_keyword (Name w ∷ ts) ≡ false
 
+-- what tokens after a name are found to be they are
 pub behind_is : (ts : List Token) → IsBehind (behind_name ts) ts
 behind_is (Mark Dollar ∷ ts) = refl
 behind_is (Mark OpenRound ∷ ts) = refl

@@ -4,6 +4,7 @@ use Rattle.xq_ast.specs.declared.code.Code.TheVariants as codes
 use Rattle.xq_parse.specs.declared.answer.ParseEnd.{ParseEnd}
 use Rattle.xq_parse.specs.declared.answer.ParseEnd.TheVariants.{TooLong, XPST0003, NestedTooDeep, BadName, XPST0017, XPST0008, NoMemory}
 
+-- the code of each refusal
 abbrev pub code_of : ParseEnd → Code
 code_of TooLong = codes.TooLong
 code_of XPST0003 = codes.XPST0003

@@ -16,6 +16,7 @@ use Rattle.xq_parse.specs.declared.update.Relation.TheVariants.{Into, Preceding,
 use Rattle.xq_parse.specs.declared.single.Begins.{Begins}
 use Rattle.xq_parse.specs.declared.single.Begins.TheVariants.{Flwor, If, Or}
 
+-- how an operand begins, with the tokens in place of the borrowed ones
 abbrev pub operand_of : Operand → spec.Operand
 operand_of (Text value rest) = spec.Operand.a_string value.now rest.now
 operand_of (Int value rest) = spec.Operand.an_integer value rest.now
