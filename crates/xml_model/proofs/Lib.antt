@@ -1,3 +1,6 @@
+pub mod Building
+pub mod Chains
+pub mod DocumentNumbers
 pub mod Entries
 pub mod Escapes
 pub mod Formed
@@ -10,8 +13,19 @@ pub mod ReadAgain
 pub mod ReadIsValid
 pub mod ReadIsSpelled
 pub mod SpelledIsRead
+mod NavRows
+pub mod NodeCases
+pub mod Numbered
+pub mod Numbers
+pub mod Reached
 mod Rows
+pub mod Standing
 pub mod TextAgain
 pub mod TextLines
+pub mod PlaceOrder
+pub mod Placing
 pub mod Sorting
+pub mod TreeFacts
+pub mod TreeCalls
+pub mod TreesMade
 pub mod Validity
