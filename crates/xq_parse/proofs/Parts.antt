@@ -2,12 +2,11 @@
 use Rattle.std.proofs.Common.{◌≡◌, ◌<◌, ℕ, Bool, true, false, List, [], ◌∷◌, ◌++◌, length, Option, Some, None, Result, Ok, Err, refl, ap, sym, ◌∙◌, subst, arith}
 use Rattle.std.specs.Result.{IsErrAnd}
 use Rattle.xq_ast.specs.declared.token.Token.{Token}
-use Rattle.xq_ast.specs.declared.tree.Bind.{Bind}
 use Rattle.xq_ast.specs.declared.tree.Expr.{Expr}
 use Rattle.xq_ast.specs.declared.tree.Expr.TheVariants as expression
 use Rattle.xq_ast.specs.declared.call.Call.TheVariants as call
 use Rattle.xq_ast.specs.Tokens.{◌>>=◌}
-use Rattle.xq_ast.specs.Grammar.{group_of, plain, path_of, steps_of}
+use Rattle.xq_ast.specs.Grammar.{group_of, plain, path_of}
 use Rattle.xq_ast.specs.Readings as spec
 use Rattle.xq_ast.specs.Readings.{Reader, there, followed, content, content_at, arguments, arguments_at, list, expr, close_round, close_curly, clause, binds, lets, path, path_at, operand, filtered, step, steps, primary}
 use Rattle.xq_parse.specs.declared.answer.ParseEnd.{ParseEnd}
