@@ -122,7 +122,7 @@ pub first_is : (doc : Doc) (n : ℕ) (a : At doc n)
     × ((size a.it ≤ 1) → first_place (the_document doc) a.place ≡ None)
 first_is doc n a =
     let there : first_place (the_document doc) a.place ≡ option_map (λ s. a.place ++ s ∷ []) (first_step a.it) =
-    ap (λ o. option_and_then (λ from. option_map (λ s. a.place ++ s ∷ []) (first_step from)) o) a.stands in
+        ap (λ o. option_and_then (λ from. option_map (λ s. a.place ++ s ∷ []) (first_step from)) o) a.stands in
     let one = go (first_step a.it) (first_goes_on a.it) in
     (λ h. there ∙ one.0 h, λ h. there ∙ one.1 h)
   where
@@ -203,9 +203,9 @@ pub next_is : (doc : Doc) (n : ℕ) (a : At doc n) (u : Above doc n a.place a.it
     × ((number u.above (Some (the_document doc)) + size u.from ≤ n + size a.it) → next_place (the_document doc) a.place ≡ None)
 next_is doc n a u =
     let there : next_place (the_document doc) a.place ≡ option_map (λ s. u.above ++ s ∷ []) (next_step u.from u.last) =
-    ap (λ o. option_and o (option_and_then (behind_ending (the_document doc)) (ending a.place))) a.stands
-    ∙ (ap (option_and_then (behind_ending (the_document doc))) u.ends
-    ∙ ap (λ o. option_and_then (λ from. option_map (λ s. u.above ++ s ∷ []) (next_step from u.last)) o) u.stands) in
+        ap (λ o. option_and o (option_and_then (behind_ending (the_document doc)) (ending a.place))) a.stands
+        ∙ (ap (option_and_then (behind_ending (the_document doc))) u.ends
+        ∙ ap (λ o. option_and_then (λ from. option_map (λ s. u.above ++ s ∷ []) (next_step from u.last)) o) u.stands) in
     let one = go (next_step u.from u.last) (next_goes_on u.from a.it u.last u.leads) in
     (λ h. there ∙ one.0 h, λ h. there ∙ one.1 h)
   where

@@ -65,7 +65,7 @@ module _ (F : Forest) (trees : List Tree) (s : StandFor F trees) where
   in_tree id e tree there h =
       let t = tree_is F trees id.doc tree s.are there in
       let row_there : slice_get (document_rows t.doc) id.node ≡ Some (row_of e) =
-      ap (λ rows. slice_get rows id.node) (sym t.rows) ∙ (slice_get-map row_of tree.rows.items id.node ∙ ap (option_map row_of) h) in
+          ap (λ rows. slice_get rows id.node) (sym t.rows) ∙ (slice_get-map row_of tree.rows.items id.node ∙ ap (option_map row_of) h) in
       record {
         doc = t.doc;
         found = ap (fin_map.get F) (names_same id.doc ∙ ap (λ o. option_map_or (λ tree. tree.name) o []) there) ∙ t.found;

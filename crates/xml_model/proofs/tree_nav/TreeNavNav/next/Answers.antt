@@ -44,7 +44,7 @@ returns-then-behind-parent-clause-gives c =
     let above : Id = record { doc = c.args.n.doc; node = c.args.n.node - c.in-Some.entry.now.back } in
     let same = ap (λ trees. entry_at trees above) (c.deref.ensures.value ∙ sym c.deref-2.ensures.value) in
     λ valid. next_none c.args.self.now c.deref.result.now s c.args.n c.in-Some.entry.now c.in-Some-entry_of.holder.now (sym c.in-Some.ensures) (omega arith)
-    (same ∙ sym c.in-Some-entry_of.ensures) (omega arith)
+        (same ∙ sym c.in-Some-entry_of.ensures) (omega arith)
 
 pub returns-clause-gives : goal.returns-clause-gives
 returns-clause-gives c =
@@ -52,7 +52,7 @@ returns-clause-gives c =
     let above : Id = record { doc = c.args.n.doc; node = c.args.n.node - c.in-Some.entry.now.back } in
     let same = ap (λ trees. entry_at trees above) (c.deref.ensures.value ∙ sym c.deref-2.ensures.value) in
     λ valid. next_there c.args.self.now c.deref.result.now s c.args.n c.in-Some.entry.now c.in-Some-entry_of.holder.now (sym c.in-Some.ensures) (omega arith)
-    (same ∙ sym c.in-Some-entry_of.ensures) (omega arith)
+        (same ∙ sym c.in-Some-entry_of.ensures) (omega arith)
 
 pub returns-clause-falls : goal.returns-clause-falls
 returns-clause-falls c =
