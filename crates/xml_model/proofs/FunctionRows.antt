@@ -110,8 +110,9 @@ length_of_string :
     × (answer [] (e.Fun (codes "string-length") ((e.Text (195 ∷ 169 ∷ [])) ∷ [])) ≡ Ok ((codes "=1") ∷ []))
 unfolding seen
 length_of_string = (
-    computes [] tt 2 _ refl ∙ refl,
-    computes [] tt 2 _ refl ∙ refl)
+  computes [] tt 2 _ refl ∙ refl,
+  computes [] tt 2 _ refl ∙ refl,
+)
 
 -- without an argument it takes the context item
 --     (doc( 'e' )) [ (string-length () ) ]
