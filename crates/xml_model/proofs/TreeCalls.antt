@@ -1,5 +1,5 @@
 -- What the calls on the trees of a forest answer, by those of the one tree that they ask.
-use Rattle.std.proofs.Common.{◌≡◌, ℕ, zero, suc, ◌<◌, Bool, true, false, ◌||◌, true≢false, IsTrue, IfSome, List, [], ◌∷◌, map, length, Option, Some, None, refl, sym, ap, subst, ◌∙◌, arith}
+use Rattle.std.proofs.Common.{◌≡◌, ℕ, zero, suc, ◌-◌, ◌<◌, ◌≤◌, ◌^◌, Bool, true, false, ◌||◌, true≢false, IsTrue, IfSome, List, [], ◌∷◌, map, length, Option, Some, None, refl, sym, ap, subst, ◌∙◌, arith}
 use Rattle.std.specs.Prelude.{is_some, unwrap_or}
 use Rattle.std.specs.Cmp.Lexicographic.{slice_cmp}
 use Rattle.std.specs.FinMap as fin_map
@@ -11,6 +11,7 @@ use Rattle.std.specs.declared.cmp.Ordering.TheVariants.{Less, Equal, Greater}
 use Rattle.std.proofs.lemmas.Bool.{false≢true}
 use Rattle.std.proofs.lemmas.Option.{slice_get-map, none-some, same_Some}
 use Rattle.xq_ast.specs.Names.{is_document_name}
+use Rattle.xml_model.specs.declared.limits.TheConstants.{NODES_MAX}
 use Rattle.xml_model.specs.declared.nav.Id.{Id}
 use Rattle.xml_model.specs.declared.node.Doc.{Doc}
 use Rattle.xml_model.specs.declared.place.PlaceStep.{PlaceStep}
@@ -162,3 +163,14 @@ module _ (F : Forest) (trees : List Tree) (s : StandFor F trees) where
   root_missing name none =
       sym (ap (option_map (λ doc. record { name = name; place = [] }))
       (no_value (fin_map.get F name) (fin_map.contains_key-keys F name ∙ (ap (list_any (eq_by_cmp (slice_cmp nat_cmp) name)) (sym s.names) ∙ none_named name trees none))))
+
+-- the numbers of ids fall as those of nodes rise
+pub falls : (n : Id) (o : Option ℕ) (r : Option Id) → r ≡ option_map (λ m. record { doc = n.doc; node = m }) o → IfSome o (λ m. (n.node < m) × (m ≤ NODES_MAX))
+    → IfSome r (λ m. 2 ^ 32 - m.node < 2 ^ 32 - n.node)
+falls n None r e h = subst (λ r. IfSome r (λ m. 2 ^ 32 - m.node < 2 ^ 32 - n.node)) (sym e) tt
+falls n (Some m) r e h = subst (λ r. IfSome r (λ m. 2 ^ 32 - m.node < 2 ^ 32 - n.node)) (sym e) (omega (arith, h.0, h.1))
+
+pub rises : (n : Id) (o : Option ℕ) (r : Option Id) → r ≡ option_map (λ m. record { doc = n.doc; node = m }) o → IfSome o (λ m. (m < n.node) × (m ≤ NODES_MAX))
+    → IfSome r (λ m. 2 ^ 32 - n.node < 2 ^ 32 - m.node)
+rises n None r e h = subst (λ r. IfSome r (λ m. 2 ^ 32 - n.node < 2 ^ 32 - m.node)) (sym e) tt
+rises n (Some m) r e h = subst (λ r. IfSome r (λ m. 2 ^ 32 - n.node < 2 ^ 32 - m.node)) (sym e) (omega (arith, h.0, h.1))

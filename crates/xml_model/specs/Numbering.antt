@@ -9,6 +9,7 @@ use Rattle.xml_model.specs.declared.place.PlaceStep.{PlaceStep}
 use Rattle.xml_model.specs.declared.place.PlaceStep.TheVariants as steps
 use Rattle.xml_model.specs.Axes.{one_step_each, into_each}
 use Rattle.xml_model.specs.Nav.{Told, told_in, told_of, of_document}
+use Rattle.xml_model.specs.Trees.{count_node, count_of}
 use Rattle.xml_model.specs.Place.{Placed, the_document, a_node, an_attribute}
 
 -- A node: what it tells, how far before it its parent stands (a root: 0), and how many rows it has with all
@@ -43,6 +44,12 @@ rows_step (Pi target value) back = headed (told_in {X = ℕ} (Pi target value)) 
 -- the rows of a node that stands so far behind its parent
 abbrev pub node_rows : Node → ℕ → List Row
 node_rows = fold-Node (ℕ → List Row) rows_step
+
+-- how many rows a tree has
+abbrev pub tree_size : Placed → ℕ
+tree_size (the_document doc) = 1 + count_of doc.kids
+tree_size (a_node n) = count_node n
+tree_size (an_attribute a) = 1
 
 -- the rows of a tree
 abbrev pub tree_rows : Placed → List Row

@@ -1,7 +1,8 @@
 //! Plain trees behind `Nav`: the documents of a map, each as the rows of its nodes.
 ghost use Rattle.std.specs.Prelude.{◌≡◌, ℕ, ◌<◌, map as list_map, is_some, length, ◌^◌, IfSome, IfNone, IfOk};
 ghost use Rattle.std.specs.FinMap as map;
-ghost use Rattle.std.specs.Option.{option_map};
+ghost use Rattle.std.specs.Option.{option_map, option_copied};
+ghost use Rattle.std.specs.List.{slice_get};
 ghost use Rattle.xml_model.specs.Forest.{IsForest};
 ghost use Rattle.xml_model.specs.TreeNodes.{tree_name, IsTreeOf, AreTreesOf};
 
@@ -45,6 +46,12 @@ impl<'a> Model for TreeNav<'a> {
 /// A fault that never comes.
 #[derive(Clone, Copy, Debug, PartialEq, Eq)]
 pub enum NoFault {}
+
+fn tree_at<'t, 'a>(trees: &'t [Tree<'a>], doc: u32) -> Option<&'t Tree<'a>>
+    ensures { option_copied result ≡ slice_get trees.now doc }
+{
+    trees.get(doc as usize)
+}
 
 fn name_of<'t, 'a>(trees: &'t [Tree<'a>], doc: u32) -> &'t str
     ensures { result.now ≡ tree_name trees.now doc }
@@ -150,28 +157,28 @@ impl<'a> Nav for TreeNav<'a> {
     }
 
     fn first(&self, n: Id) -> Result<Option<Id>, NoFault> {
-        let Some(tree) = self.trees.get(n.doc as usize) else {
+        let Some(tree) = tree_at(&self.trees, n.doc) else {
             return Ok(None);
         };
         Ok(in_document(n.doc, tree.rows.first(n.node)))
     }
 
     fn next(&self, n: Id) -> Result<Option<Id>, NoFault> {
-        let Some(tree) = self.trees.get(n.doc as usize) else {
+        let Some(tree) = tree_at(&self.trees, n.doc) else {
             return Ok(None);
         };
         Ok(in_document(n.doc, tree.rows.next(n.node)))
     }
 
     fn parent(&self, n: Id) -> Result<Option<Id>, NoFault> {
-        let Some(tree) = self.trees.get(n.doc as usize) else {
+        let Some(tree) = tree_at(&self.trees, n.doc) else {
             return Ok(None);
         };
         Ok(in_document(n.doc, tree.rows.parent(n.node)))
     }
 
     fn kind(&self, n: Id) -> Result<Kind, NoFault> {
-        match self.trees.get(n.doc as usize) {
+        match tree_at(&self.trees, n.doc) {
             Some(tree) => Ok(tree.rows.kind(n.node)),
             None => Ok(Kind::Document),
         }
@@ -185,14 +192,14 @@ impl<'a> Nav for TreeNav<'a> {
     }
 
     fn name(&self, n: Id) -> Result<Str, NavEnd<NoFault>> {
-        match self.trees.get(n.doc as usize) {
+        match tree_at(&self.trees, n.doc) {
             Some(tree) => Ok(tree.rows.name(n.node)?),
             None => Ok(Str::new(*self.trees.allocator())),
         }
     }
 
     fn value(&self, n: Id) -> Result<Str, NavEnd<NoFault>> {
-        match self.trees.get(n.doc as usize) {
+        match tree_at(&self.trees, n.doc) {
             Some(tree) => Ok(tree.rows.value(n.node)?),
             None => Ok(Str::new(*self.trees.allocator())),
         }

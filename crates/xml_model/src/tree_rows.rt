@@ -1,10 +1,11 @@
 //! The nodes of one tree in a list, numbered in document order.
 ghost use Rattle.std.specs.Prelude.{◌≡◌, ℕ, ◌+◌, ◌-◌, ◌≤◌, ◌<◌, [], ◌++◌, map, length, ◌^◌, vec_len, IfSome, IfOk, OnOk};
-ghost use Rattle.std.specs.Option.{option_map};
+ghost use Rattle.std.specs.Option.{option_map, option_copied};
+ghost use Rattle.std.specs.List.{slice_get};
 ghost use Rattle.xml_model.specs.declared.limits.TheConstants.{NODES_MAX};
 ghost use Rattle.xml_model.specs.Nav.{told_of, told_at, standing, first_place, next_place, parent_place};
 ghost use Rattle.xml_model.specs.Trees.{count_node, count_of};
-ghost use Rattle.xml_model.specs.Numbering.{attr_rows, kid_rows, node_rows, tree_rows, place_of_number};
+ghost use Rattle.xml_model.specs.Numbering.{attr_rows, kid_rows, node_rows, tree_rows, tree_size, place_of_number};
 ghost use Rattle.xml_model.specs.Place.{the_document};
 ghost use Rattle.xml_model.specs.TreeRows.{placed_by, row_of};
 
@@ -145,10 +146,11 @@ pub struct TreeRows<'a> {
 }
 
 // The rows of a document, which is the first of them.
-fn document_rows<'a>(rows: &mut Entries<'a>, doc: &'a Doc) -> Result<(), NoMemory>
+fn add_document<'a>(rows: &mut Entries<'a>, doc: &'a Doc) -> Result<(), NoMemory>
     requires none { rows.old.items ≡ [] }
     requires few { count_of doc.now.kids ≤ NODES_MAX }
-    ensures { OnOk result (map row_of rows.new.items ≡ tree_rows (the_document doc.now)) }
+    ensures rows { OnOk result (map row_of rows.new.items ≡ tree_rows (the_document doc.now)) }
+    ensures len { OnOk result (vec_len rows.new ≡ 1 + count_of doc.now.kids) }
 {
     rows.push(Entry {
         it: PlacedRef::Document(doc),
@@ -165,31 +167,51 @@ fn document_rows<'a>(rows: &mut Entries<'a>, doc: &'a Doc) -> Result<(), NoMemor
     Ok(())
 }
 
-impl<'a> TreeRows<'a> {
-    /// The rows of a tree. Takes time and memory by the number of its nodes.
-    pub fn of(alloc: Global, root: PlacedRef<'a>) -> Result<TreeRows<'a>, NoMemory>
-        requires { length (tree_rows (placed_by root.entry)) ≤ NODES_MAX + 1 }
-        ensures { IfOk result (λ tree. placed_by tree.root ≡ placed_by root.entry) }
-    {
-        let mut rows = Vec::new(alloc);
-        match root {
-            PlacedRef::Document(doc) => document_rows(&mut rows, doc)?,
-            PlacedRef::Node(node) => add_node(&mut rows, node, 0)?,
-            PlacedRef::Attribute(_) => rows.push(Entry {
+fn add_tree<'a>(rows: &mut Entries<'a>, root: PlacedRef<'a>) -> Result<(), NoMemory>
+    requires none { rows.old.items ≡ [] }
+    requires few { tree_size (placed_by root) ≤ NODES_MAX + 1 }
+    ensures rows { OnOk result (map row_of rows.new.items ≡ tree_rows (placed_by root.entry)) }
+    ensures len { OnOk result (vec_len rows.new ≡ tree_size (placed_by root.entry)) }
+{
+    match root {
+        PlacedRef::Document(doc) => add_document(rows, doc),
+        PlacedRef::Node(node) => add_node(rows, node, 0),
+        PlacedRef::Attribute(_) => {
+            rows.push(Entry {
                 it: root,
                 back: 0,
                 size: 1,
-            })?,
+            })?;
+            Ok(())
         }
+    }
+}
+
+fn entry_of<'t, 'a>(rows: &'t [Entry<'a>], n: u32) -> Option<&'t Entry<'a>>
+    ensures { option_copied result ≡ slice_get rows.now n }
+{
+    rows.get(n as usize)
+}
+
+impl<'a> TreeRows<'a> {
+    /// The rows of a tree. Takes time and memory by the number of its nodes.
+    pub fn of(alloc: Global, root: PlacedRef<'a>) -> Result<TreeRows<'a>, NoMemory>
+        requires { tree_size (placed_by root) ≤ NODES_MAX + 1 }
+        ensures { IfOk result (λ tree. placed_by tree.root ≡ placed_by root.entry) }
+    {
+        let mut rows = Vec::new(alloc);
+        add_tree(&mut rows, root)?;
         Ok(TreeRows { root, rows })
     }
 
     /// The number of the first attribute, else of the first child.
     pub fn first(&self, n: u32) -> Option<u32>
         ensures gives { let root = placed_by self.now.root in option_map (place_of_number root) result ≡ first_place root (place_of_number root n) }
-        ensures behind { IfSome result (λ m. n < m) }
+        ensures behind { IfSome result (λ m. (n < m) × (m ≤ NODES_MAX)) }
     {
-        let entry = self.rows.get(n as usize)?;
+        let Some(entry) = entry_of(&self.rows, n) else {
+            return None;
+        };
         if entry.size <= 1 {
             return None;
         }
@@ -199,14 +221,18 @@ impl<'a> TreeRows<'a> {
     /// The number of the next of the same chain: attributes, then children.
     pub fn next(&self, n: u32) -> Option<u32>
         ensures gives { let root = placed_by self.now.root in option_map (place_of_number root) result ≡ next_place root (place_of_number root n) }
-        ensures behind { IfSome result (λ m. n < m) }
+        ensures behind { IfSome result (λ m. (n < m) × (m ≤ NODES_MAX)) }
     {
-        let entry = self.rows.get(n as usize)?;
+        let Some(entry) = entry_of(&self.rows, n) else {
+            return None;
+        };
         if n == 0 {
             return None;
         }
         let parent = n - entry.back;
-        let holder = self.rows.get(parent as usize)?;
+        let Some(holder) = entry_of(&self.rows, parent) else {
+            return None;
+        };
         let behind = n + entry.size;
         if behind >= parent + holder.size {
             return None;
@@ -216,9 +242,11 @@ impl<'a> TreeRows<'a> {
 
     pub fn parent(&self, n: u32) -> Option<u32>
         ensures gives { let root = placed_by self.now.root in option_map (place_of_number root) result ≡ parent_place root (place_of_number root n) }
-        ensures before { IfSome result (λ m. m < n) }
+        ensures before { IfSome result (λ m. (m < n) × (m ≤ NODES_MAX)) }
     {
-        let entry = self.rows.get(n as usize)?;
+        let Some(entry) = entry_of(&self.rows, n) else {
+            return None;
+        };
         if n == 0 {
             return None;
         }
@@ -228,7 +256,7 @@ impl<'a> TreeRows<'a> {
     pub fn kind(&self, n: u32) -> Kind
         ensures { let root = placed_by self.now.root in result ≡ (told_at (standing root (place_of_number root n))).kind }
     {
-        match self.rows.get(n as usize) {
+        match entry_of(&self.rows, n) {
             Some(entry) => kind_of(entry.it),
             None => Kind::Document,
         }
@@ -240,7 +268,7 @@ impl<'a> TreeRows<'a> {
         ensures { let root = placed_by self.now.root in IfOk result (λ s. s ≡ (told_at (standing root (place_of_number root n))).name) }
     {
         let alloc = *self.rows.allocator();
-        match self.rows.get(n as usize) {
+        match entry_of(&self.rows, n) {
             Some(entry) => name_in(alloc, entry.it),
             None => Ok(Str::new(alloc)),
         }
@@ -251,7 +279,7 @@ impl<'a> TreeRows<'a> {
         ensures { let root = placed_by self.now.root in IfOk result (λ s. s ≡ (told_at (standing root (place_of_number root n))).value) }
     {
         let alloc = *self.rows.allocator();
-        match self.rows.get(n as usize) {
+        match entry_of(&self.rows, n) {
             Some(entry) => value_in(alloc, entry.it),
             None => Ok(Str::new(alloc)),
         }
