@@ -150,14 +150,14 @@ module _ (F : Forest) (trees : List Tree) (s : StandFor F trees) where
   -- ---- the document of a name
 
   pub root_found : (id : Id) (name : List ℕ) → id.node ≡ 0 → tree_name trees id.doc ≡ name → id.doc < length trees → Some (node_of_id F id) ≡ root_of F name
-  root_found id name zero named less =
+  root_found id name first named less =
       let t = within_some trees id.doc less in
       let is = tree_is F trees id.doc t.0 s.are t.1 in
       let same : t.0.name ≡ name = ap (λ o. option_map_or (λ tree. tree.name) o []) (sym t.1) ∙ named in
       let found : fin_map.get F name ≡ Some is.doc = ap (fin_map.get F) (sym same) ∙ is.found in
       ap (λ name. Some (record { name = name; place = place_in (fin_map.get F name) id.node })) (names_same id.doc ∙ named)
       ∙ (ap (λ o. Some (record { name = name; place = place_in o id.node })) found
-      ∙ (ap (λ n. Some (record { name = name; place = place_of_number (the_document is.doc) n })) zero ∙ sym (ap (option_map (λ doc. record { name = name; place = [] })) found)))
+      ∙ (ap (λ n. Some (record { name = name; place = place_of_number (the_document is.doc) n })) first ∙ sym (ap (option_map (λ doc. record { name = name; place = [] })) found)))
 
   pub root_missing : (name : List ℕ) → ((k : ℕ) → k < length trees → tree_name trees k ≡ name → ⊥) → None ≡ root_of F name
   root_missing name none =
