@@ -5,7 +5,7 @@ use Rattle.std.proofs.Math.Seq.{set-append_seam}
 use Rattle.xml_model.specs.declared.node.Attr.{Attr}
 use Rattle.xml_model.specs.declared.node.Node.{Node, Text, Pi}
 use Rattle.xml_model.specs.declared.node.Node.TheVariants.{Element}
-use Rattle.xml_model.specs.declared.tree_nav.Entry.{Entry}
+use Rattle.xml_model.specs.declared.tree_rows.Entry.{Entry}
 use Rattle.xml_model.specs.Nav.{told_of}
 use Rattle.xml_model.specs.Numbering.{Row, headed, attr_rows, kid_rows, node_rows}
 use Rattle.xml_model.specs.Place.{a_node}

@@ -2,7 +2,6 @@ pub mod Bounded
 pub mod Computing
 pub mod Building
 pub mod Chains
-pub mod DocumentNumbers
 pub mod Entries
 pub mod Escapes
 pub mod Formed
@@ -21,6 +20,7 @@ pub mod NodeCases
 pub mod Numbered
 pub mod Numbers
 pub mod Reached
+pub mod RowCalls
 mod Rows
 pub mod Standing
 pub mod TextAgain
@@ -28,7 +28,7 @@ pub mod TextLines
 pub mod PlaceOrder
 pub mod Placing
 pub mod Sorting
-pub mod TreeFacts
+pub mod TreeNumbers
 pub mod TreeCalls
 pub mod TreesMade
 pub mod Validity

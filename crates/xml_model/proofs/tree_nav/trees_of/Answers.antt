@@ -13,5 +13,5 @@ loop-name-preserved c =
         c.loop-name.invariant.0 c.loop-name.invariant.1 (omega arith) c.name-item.is (ap (λ v. v.items) w.trees-is ∙ w.in_ok-push.ensures.items) is.0 is.1
     | in_default w ↦
         absurd (true≢false (sym (name_has_document c.args.docs.now c.as_slice-name-items.result.now c.loop-name.name-index c.name-item.result
-        (c.as_slice-name-items.ensures ∙ c.requires.names) (omega arith) c.name-item.is) ∙ (sym c.in_ok-tree.ensures.some ∙ ap is_some w.in_default.is)))
+        (c.as_slice-name-items.ensures ∙ c.requires) (omega arith) c.name-item.is) ∙ (sym c.in_ok-tree.ensures.some ∙ ap is_some w.in_default.is)))
     ]

@@ -1,0 +1,3 @@
+-- Chains of nodes.
+pub mod Chain
+pub mod Unions

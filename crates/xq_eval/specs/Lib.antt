@@ -1,0 +1,2 @@
+-- What evaluation says of the nodes of a `Nav`.
+pub mod Walks
