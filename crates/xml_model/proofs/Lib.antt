@@ -1,3 +1,8 @@
+pub mod Bounded
+pub mod Computing
+pub mod Building
+pub mod Chains
+pub mod DocumentNumbers
 pub mod Entries
 pub mod Escapes
 pub mod Formed
@@ -10,8 +15,20 @@ pub mod ReadAgain
 pub mod ReadIsValid
 pub mod ReadIsSpelled
 pub mod SpelledIsRead
+mod MeaningRows
+mod NavRows
+pub mod NodeCases
+pub mod Numbered
+pub mod Numbers
+pub mod Reached
 mod Rows
+pub mod Standing
 pub mod TextAgain
 pub mod TextLines
+pub mod PlaceOrder
+pub mod Placing
 pub mod Sorting
+pub mod TreeFacts
+pub mod TreeCalls
+pub mod TreesMade
 pub mod Validity

@@ -19,10 +19,13 @@ mod laws;
 mod layers;
 mod limits;
 mod measure;
+mod nav;
 mod node;
 mod place;
 mod text_lines;
+mod tree_nav;
 mod valid;
+mod value;
 
 pub use call_needs::needs;
 pub use changes::DocChanges;
@@ -31,9 +34,11 @@ pub use laws::{
     calls_keep_to_their_needs, canonical_text_is_read_again, pyx_is_read_again,
     read_just_where_spelled, statements_keep_forests, what_is_counted, what_is_read_is_valid,
 };
-pub use limits::{DEPTH_MAX, NODES_MAX, REPLY_BYTES_MAX, TEXT_BYTES_MAX};
+pub use limits::{DEPTH_MAX, ITEMS_MAX, NODES_MAX, REPLY_BYTES_MAX, TEXT_BYTES_MAX};
+pub use nav::{Id, Kind, NUMBER_MAX, Nav, NavEnd};
 pub use node::{Attr, AttrList, Doc, Measure, Node, NodeList, RefusedLine};
 pub use place::{Place, PlaceStep, place_order};
 pub use text_lines::{FirstLine, first_line};
 pub use valid::has_attribute;
+pub use value::{Atom, Key, KeyType, SharedText};
 pub use xq_ast::{NAME_BYTES_MAX, is_name};
