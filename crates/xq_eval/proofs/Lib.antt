@@ -1,3 +1,0 @@
--- Chains of nodes.
-pub mod Chain
-pub mod Unions

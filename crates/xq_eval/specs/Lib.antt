@@ -1,2 +1,0 @@
--- What evaluation says of the nodes of a `Nav`.
-pub mod Walks
