@@ -116,7 +116,7 @@ module _ (docs : Documents) (fold : (A : Type 0) → (Node-F A → A) → Node �
   abbrev pub tested : Made → Axis → Test → NodeAt → List NodeAt
   tested made way wanted n =
       filter (λ m. passes_at (is_attribute_axis way) wanted (node_at docs made m))
-        (option_map_or (λ root. map (λ place. record { tree = n.tree; place = place }) (axis_places way root n.place)) (tree_root docs made n.tree) [])
+      (option_map_or (λ root. map (λ place. record { tree = n.tree; place = place }) (axis_places way root n.place)) (tree_root docs made n.tree) [])
 
   -- a tree that keeps to the three limits
   abbrev pub limited : Node → Result Node Code
@@ -173,7 +173,7 @@ module _ (docs : Documents) (fold : (A : Type 0) → (Node-F A → A) → Node �
   keyed [] env cx types all = give all
   keyed (k ∷ ks) env cx types all =
       k.value env cx >>= (λ value. look (λ made. key_of (atomized made value))) >>= (λ key.
-        plain (joined_type (first_type types) (type_of key)) >>= (λ type. keyed ks env cx (other_types types) (with_key all key type)))
+      plain (joined_type (first_type types) (type_of key)) >>= (λ type. keyed ks env cx (other_types types) (with_key all key type)))
 
   -- one tuple more, where it stays
   abbrev pub tuple : Option Means → List KeyMeans → Bindings → Context → Tuples → Making Tuples
@@ -237,9 +237,9 @@ module _ (docs : Documents) (fold : (A : Type 0) → (Node-F A → A) → Node �
       >>= (λ value. construct (an_attribute (record { name = name; value = value })))
   value_of (Expr-F.TextNode content) env cx = content_or content env cx >>= new_text
     where
-    new_text : Items → Making Items
-    new_text [] = give []
-    new_text (item ∷ items) = look (λ made. limited_text (spaced (atomized made (item ∷ items)))) >>= (λ value. construct (a_node (Text value)))
+      new_text : Items → Making Items
+      new_text [] = give []
+      new_text (item ∷ items) = look (λ made. limited_text (spaced (atomized made (item ∷ items)))) >>= (λ value. construct (a_node (Text value)))
 
   -- and counted
   abbrev pub expr_step : Expr-F BindMeans Means Means (ProductMeans docs) KeyMeans StepMeans (SumMeans docs) → Means
@@ -252,8 +252,9 @@ module _ (docs : Documents) (fold : (A : Type 0) → (Node-F A → A) → Node �
   -- the nodes of the axis that pass the test, and then each predicate
   abbrev pub step_step : Step-F BindMeans Means Means (ProductMeans docs) KeyMeans StepMeans (SumMeans docs) → StepMeans
   step_step s = record {
-      deep = s.deep;
-      from_node = λ env n. look (λ made. Ok (tested made s.axis s.test n)) >>= filtered node s.preds env }
+    deep = s.deep;
+    from_node = λ env n. look (λ made. Ok (tested made s.axis s.test n)) >>= filtered node s.preds env;
+  }
 
   -- the canonical lines of a node
   abbrev pub pyx_node : Node → List Line
@@ -385,4 +386,3 @@ computes es sorted n e h =
 unfoldable pub seen : Type 0
 unfolding out-Bind out-Expr out-Start block.shown-the_row-Expr-0 block.shown-the_row-Bind-1 block.shown-the_row-Expr-2 block.shown-the_row-SortKey-3 block.shown-the_row-SumPart-4 block.shown-the_row-ProductPart-5 block.shown-the_row-Step-6 out-Node nodes.shown-the_row-Node-0 nodes.hidden-the_row-Node-0 denote.Hole.Carrier.out denote.Hole.Carrier.shown denote.Hole.Carrier.hidden digits char_count
 seen = ℕ
-

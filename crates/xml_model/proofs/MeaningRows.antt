@@ -293,75 +293,78 @@ at_eight = doc (Element (codes "r") [] (Element (codes "a") (attr (codes "at") (
 each_query_code :
     (answer [] (e.Path (st.First (step ax.Child (te.Name (Some (codes "b"))) [])) []) ≡ Err code.XPDY0002)
     × (answer [] (e.Path (st.Value (e.Int (pos 1))) (step ax.Child (te.Name (Some (codes "a"))) [] ∷ [])) ≡ Err
-      code.XPTY0019)
+    code.XPTY0019)
     × (answer [] (e.Filter (e.Int (pos 1)) ((e.Path (st.First (step ax.Child (te.Name (Some (codes "a"))) [])) []) ∷
-      [])) ≡ Err code.XPTY0020)
+    [])) ≡ Err code.XPTY0020)
     × (answer [] (e.Sum (e.Int (pos 1)) (plus (e.Text (codes "a")) ∷ [])) ≡ Err code.XPTY0004)
     × (answer [] (e.Product (e.Int (pos 7)) (divided (e.Int (pos 0)) ∷ [])) ≡ Err code.FOAR0001)
     × (answer [] (e.Sum (e.Int (pos 9223372036854775807)) (plus (e.Int (pos 1)) ∷ [])) ≡ Err code.FOAR0002)
     × (answer [] (e.Product (e.Signed (Minus ∷ []) (e.Int (pos 7))) (divided (e.Int (pos 2)) ∷ [])) ≡ Ok ((codes
-      "=-3") ∷ []))
+    "=-3") ∷ []))
     × (answer [] (e.Product (e.Signed (Minus ∷ []) (e.Int (pos 7))) (modulo (e.Int (pos 2)) ∷ [])) ≡ Ok ((codes
-      "=-1") ∷ []))
+    "=-1") ∷ []))
     × (answer [] (e.If (e.Seq ((e.Int (pos 1)) ∷ (e.Int (pos 2)) ∷ [])) (e.Int (pos 1)) (e.Int (pos 2))) ≡ Err
-      code.FORG0006)
+    code.FORG0006)
     × (answer [] (e.Element (codes "a") (Some (e.Seq ((e.Text (codes "x")) ∷ (e.Attribute (codes "b") (Some (e.Int
-      (pos 1)))) ∷ [])))) ≡ Err code.XQTY0024)
+    (pos 1)))) ∷ [])))) ≡ Err code.XQTY0024)
     × (answer [] (e.Element (codes "a") (Some (e.Seq ((e.Attribute (codes "b") (Some (e.Int (pos 1)))) ∷ (e.Attribute
-      (codes "b") (Some (e.Int (pos 2)))) ∷ [])))) ≡ Err code.XQDY0025)
+    (codes "b") (Some (e.Int (pos 2)))) ∷ [])))) ≡ Err code.XQDY0025)
     × (answer [] (e.Compare (e.Text (codes "b")) Lt (e.Text (codes "a"))) ≡ Ok ((codes "=false") ∷ []))
     × (answer [] (e.Compare (e.Seq ((e.Int (pos 2)) ∷ (e.Int (pos 3)) ∷ [])) Eq (e.Seq ((e.Int (pos 3)) ∷ (e.Int (pos
-      4)) ∷ []))) ≡ Ok ((codes "=true") ∷ []))
+    4)) ∷ []))) ≡ Ok ((codes "=true") ∷ []))
     × (answer [] (e.Flwor (b.For (codes "x") (Some (codes "i")) (e.Seq ((e.Text (codes "b")) ∷ (e.Text (codes "a")) ∷
-      [])) ∷ []) None (ascending (e.Var (codes "x")) ∷ []) (e.Var (codes "i"))) ≡ Ok ((codes "=2") ∷ (codes
-      "=1") ∷ []))
+    [])) ∷ []) None (ascending (e.Var (codes "x")) ∷ []) (e.Var (codes "i"))) ≡ Ok ((codes "=2") ∷ (codes
+    "=1") ∷ []))
     × (answer [] (e.Range (e.Int (pos 3)) (e.Int (pos 1))) ≡ Ok [])
     × (answer [] (e.Fun (codes "concat") ((e.Text (codes "a&")) ∷ (e.Int (pos 1)) ∷ [])) ≡ Ok ((codes "=a&1") ∷ []))
 unfolding seen
 each_query_code = (
-    computes [] tt 1 _ refl ∙ refl,
-    computes [] tt 2 _ refl ∙ refl,
-    computes [] tt 2 _ refl ∙ refl,
-    computes [] tt 2 _ refl ∙ refl,
-    computes [] tt 2 _ refl ∙ refl,
-    computes [] tt 2 _ refl ∙ refl,
-    computes [] tt 3 _ refl ∙ refl,
-    computes [] tt 3 _ refl ∙ refl,
-    computes [] tt 3 _ refl ∙ refl,
-    computes [] tt 4 _ refl ∙ refl,
-    computes [] tt 4 _ refl ∙ refl,
-    computes [] tt 2 _ refl ∙ refl,
-    computes [] tt 3 _ refl ∙ refl,
-    computes [] tt 3 _ refl ∙ refl,
-    computes [] tt 2 _ refl ∙ refl,
-    computes [] tt 2 _ refl ∙ refl)
+  computes [] tt 1 _ refl ∙ refl,
+  computes [] tt 2 _ refl ∙ refl,
+  computes [] tt 2 _ refl ∙ refl,
+  computes [] tt 2 _ refl ∙ refl,
+  computes [] tt 2 _ refl ∙ refl,
+  computes [] tt 2 _ refl ∙ refl,
+  computes [] tt 3 _ refl ∙ refl,
+  computes [] tt 3 _ refl ∙ refl,
+  computes [] tt 3 _ refl ∙ refl,
+  computes [] tt 4 _ refl ∙ refl,
+  computes [] tt 4 _ refl ∙ refl,
+  computes [] tt 2 _ refl ∙ refl,
+  computes [] tt 3 _ refl ∙ refl,
+  computes [] tt 3 _ refl ∙ refl,
+  computes [] tt 2 _ refl ∙ refl,
+  computes [] tt 2 _ refl ∙ refl,
+)
 
 -- a predicate of a step counts the nodes from one node; one of a list in brackets counts all
 --     doc('d')//x[1]
 --     (doc('d')//x)[1]
 position_per_step :
     (answer (only three_x) (e.Path (st.Value (e.Doc (codes "d"))) (deep_step ax.Child (te.Name (Some (codes "x")))
-      ((e.Int (pos 1)) ∷ []) ∷ [])) ≡ Ok ((codes "(x") ∷ (codes "-1") ∷ (codes ")x") ∷ (codes "(x") ∷ (codes
-      "-3") ∷ (codes ")x") ∷ []))
+    ((e.Int (pos 1)) ∷ []) ∷ [])) ≡ Ok ((codes "(x") ∷ (codes "-1") ∷ (codes ")x") ∷ (codes "(x") ∷ (codes
+    "-3") ∷ (codes ")x") ∷ []))
     × (answer (only three_x) (e.Filter (e.Path (st.Value (e.Doc (codes "d"))) (deep_step ax.Child (te.Name (Some
-      (codes "x"))) [] ∷ [])) ((e.Int (pos 1)) ∷ [])) ≡ Ok ((codes "(x") ∷ (codes "-1") ∷ (codes ")x") ∷ []))
+    (codes "x"))) [] ∷ [])) ((e.Int (pos 1)) ∷ [])) ≡ Ok ((codes "(x") ∷ (codes "-1") ∷ (codes ")x") ∷ []))
 unfolding seen
 position_per_step = (
-    computes (only three_x) tt 2 _ refl ∙ refl,
-    computes (only three_x) tt 3 _ refl ∙ refl)
+  computes (only three_x) tt 2 _ refl ∙ refl,
+  computes (only three_x) tt 3 _ refl ∙ refl,
+)
 
 -- a cast that fails ends its query, and not the next one
 --     doc('d')/a[b = 3]
 --     count(doc('d'))
 failed_cast :
     (answer (only three_in_words) (e.Path (st.Value (e.Doc (codes "d"))) (step ax.Child (te.Name (Some (codes
-      "a"))) ((e.Compare (e.Path (st.First (step ax.Child (te.Name (Some (codes "b"))) [])) []) Eq (e.Int (pos
-      3))) ∷ []) ∷ [])) ≡ Err code.FORG0001)
+    "a"))) ((e.Compare (e.Path (st.First (step ax.Child (te.Name (Some (codes "b"))) [])) []) Eq (e.Int (pos
+    3))) ∷ []) ∷ [])) ≡ Err code.FORG0001)
     × (answer (only three_in_words) (e.Fun (codes "count") ((e.Doc (codes "d")) ∷ [])) ≡ Ok ((codes "=1") ∷ []))
 unfolding seen
 failed_cast = (
-    computes (only three_in_words) tt 3 _ refl ∙ refl,
-    computes (only three_in_words) tt 2 _ refl ∙ refl)
+  computes (only three_in_words) tt 3 _ refl ∙ refl,
+  computes (only three_in_words) tt 2 _ refl ∙ refl,
+)
 
 -- a sum of nodes, a selection by a value below, and all nodes of a document
 --     sum(doc('orders')/order/item/qty)
@@ -369,20 +372,21 @@ failed_cast = (
 --     count(doc('orders')//node())
 orders :
     (answer (((codes "orders"), an_order) ∷ []) (e.Fun (codes "sum") ((e.Path (st.Value (e.Doc (codes "orders")))
-      (step ax.Child (te.Name (Some (codes "order"))) [] ∷ step ax.Child (te.Name (Some (codes "item"))) [] ∷
-      step ax.Child (te.Name (Some (codes "qty"))) [] ∷ [])) ∷ [])) ≡ Ok ((codes "=7") ∷ []))
+    (step ax.Child (te.Name (Some (codes "order"))) [] ∷ step ax.Child (te.Name (Some (codes "item"))) [] ∷
+    step ax.Child (te.Name (Some (codes "qty"))) [] ∷ [])) ∷ [])) ≡ Ok ((codes "=7") ∷ []))
     × (answer (((codes "orders"), an_order) ∷ []) (e.Flwor (b.For (codes "i") None (e.Path (st.Value (e.Doc (codes
-      "orders"))) (deep_step ax.Child (te.Name (Some (codes "item"))) [] ∷ [])) ∷ []) (Some (e.Compare (e.Path
-      (st.Value (e.Var (codes "i"))) (step ax.Child (te.Name (Some (codes "qty"))) [] ∷ [])) Gt (e.Int (pos
-      3)))) [] (e.Path (st.Value (e.Var (codes "i"))) (step ax.Attribute (te.Name (Some (codes "sku"))) [] ∷
-      []))) ≡ Ok ((codes "Asku B2") ∷ []))
+    "orders"))) (deep_step ax.Child (te.Name (Some (codes "item"))) [] ∷ [])) ∷ []) (Some (e.Compare (e.Path
+    (st.Value (e.Var (codes "i"))) (step ax.Child (te.Name (Some (codes "qty"))) [] ∷ [])) Gt (e.Int (pos
+    3)))) [] (e.Path (st.Value (e.Var (codes "i"))) (step ax.Attribute (te.Name (Some (codes "sku"))) [] ∷
+    []))) ≡ Ok ((codes "Asku B2") ∷ []))
     × (answer (((codes "orders"), an_order) ∷ []) (e.Fun (codes "count") ((e.Path (st.Value (e.Doc (codes "orders")))
-      (deep_step ax.Child te.AnyNode [] ∷ [])) ∷ [])) ≡ Ok ((codes "=8") ∷ []))
+    (deep_step ax.Child te.AnyNode [] ∷ [])) ∷ [])) ≡ Ok ((codes "=8") ∷ []))
 unfolding seen
 orders = (
-    computes (((codes "orders"), an_order) ∷ []) tt 3 _ refl ∙ refl,
-    computes (((codes "orders"), an_order) ∷ []) tt 4 _ refl ∙ refl,
-    computes (((codes "orders"), an_order) ∷ []) tt 3 _ refl ∙ refl)
+  computes (((codes "orders"), an_order) ∷ []) tt 3 _ refl ∙ refl,
+  computes (((codes "orders"), an_order) ∷ []) tt 4 _ refl ∙ refl,
+  computes (((codes "orders"), an_order) ∷ []) tt 3 _ refl ∙ refl,
+)
 
 -- ---- what is evaluated, in which order
 
@@ -641,8 +645,9 @@ nothing_is_false :
     × (answer [] (e.If (e.Seq []) (e.Int (pos 1)) (e.Int (pos 2))) ≡ Ok ((codes "=2") ∷ []))
 unfolding seen
 nothing_is_false = (
-    computes [] tt 3 _ refl ∙ refl,
-    computes [] tt 2 _ refl ∙ refl)
+  computes [] tt 3 _ refl ∙ refl,
+  computes [] tt 2 _ refl ∙ refl,
+)
 
 -- ---- comparison
 
@@ -1417,8 +1422,9 @@ length_of_string :
     × (answer [] (e.Fun (codes "string-length") ((e.Text (195 ∷ 169 ∷ [])) ∷ [])) ≡ Ok ((codes "=1") ∷ []))
 unfolding seen
 length_of_string = (
-    computes [] tt 2 _ refl ∙ refl,
-    computes [] tt 2 _ refl ∙ refl)
+  computes [] tt 2 _ refl ∙ refl,
+  computes [] tt 2 _ refl ∙ refl,
+)
 
 -- without an argument it takes the context item
 --     (doc( 'e' )) [ (string-length () ) ]
