@@ -2,7 +2,6 @@ pub mod Bounded
 pub mod Computing
 pub mod Building
 pub mod Chains
-pub mod DocumentNumbers
 pub mod Entries
 pub mod Escapes
 pub mod Formed
@@ -23,6 +22,7 @@ mod PathRows
 pub mod Numbered
 pub mod Numbers
 pub mod Reached
+pub mod RowCalls
 mod Rows
 pub mod Standing
 pub mod TextAgain
@@ -31,7 +31,7 @@ pub mod PlaceOrder
 pub mod Placing
 pub mod QueryForms
 pub mod Sorting
-pub mod TreeFacts
+pub mod TreeNumbers
 pub mod TreeCalls
 pub mod TreesMade
 mod TupleRows
