@@ -1,3 +1,4 @@
+pub mod Alike
 pub mod Bounded
 pub mod Computing
 pub mod Building
@@ -8,6 +9,7 @@ pub mod Formed
 pub mod Forests
 pub mod Framing
 mod FunctionRows
+pub mod Known
 pub mod Laying
 pub mod Lines
 pub mod Nodes
