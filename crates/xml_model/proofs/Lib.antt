@@ -1,4 +1,5 @@
 pub mod Alike
+pub mod AlikeParts
 pub mod Bounded
 pub mod Computing
 pub mod Building
