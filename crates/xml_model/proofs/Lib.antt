@@ -33,6 +33,7 @@ pub mod TextLines
 pub mod PlaceOrder
 pub mod Placing
 pub mod QueryForms
+pub mod QueryFrame
 pub mod Sorting
 pub mod TreeNumbers
 pub mod TreeCalls
