@@ -2,6 +2,7 @@ pub mod Alike
 pub mod AlikeParts
 pub mod Bounded
 pub mod Computing
+pub mod Depths
 pub mod Building
 pub mod Chains
 pub mod Entries

@@ -30,9 +30,13 @@ use Rattle.xml_model.specs.Nodes.{nodes_or, united_all, atomized, tested}
 use Rattle.xml_model.specs.Constructors.{content_of, element, limited_text, spaced}
 use Rattle.xml_model.specs.FunctionAnswers.{Context, context_item, call_function}
 use Rattle.xml_model.specs.Tuples.{Bindings, Means, BindMeans, KeyMeans, no_tuples, stays, tuples, sorted, returned}
-use Rattle.xml_model.specs.Evaluation.{counted, or_nothing, bound_value, boolean_value, truth, content_or, StepMeans, document_node, ProductMeans, SumMeans, bound_items, bind_step, value_of, expr_step, start_step, product_step, key_step, step_step, sum_step, meaning}
-use Rattle.xml_model.proofs.Alike.{Each, each_front, each_rest, each_map, Any, Fine, any_fine, fine_then, same_then, Alike, give_alike, fail_alike, plain_alike, look_alike, bind_alike}
-use Rattle.xml_model.proofs.Known.{KnownNode, KnownItem, KnownItems, KnownBindings, KnownContext, atoms_same, tested_same, tested_known, content_same, united_all_fine, nodes_as_items, context_fine, call_same}
+use Rattle.xml_model.specs.Evaluation.{counted, or_nothing, bound_value, boolean_value, truth, content_or, StepMeans, document_node, ProductMeans, SumMeans, bound_items, bind_step, value_of, expr_step, start_step, product_step, key_step, step_step, sum_step, meaning, eval}
+use Rattle.xml_model.specs.Forest.{Forest}
+use Rattle.xml_model.specs.ItemLines.{placed_lines, item_lines, lines_of}
+use Rattle.std.specs.FinMap as forests
+use Rattle.xml_model.proofs.Depths.{size, fits_at_size}
+use Rattle.xml_model.proofs.Alike.{Each, each_front, each_rest, each_map, Any, Fine, any_fine, fine_then, same_then, Good, Alike, give_alike, fail_alike, plain_alike, look_alike, bind_alike}
+use Rattle.xml_model.proofs.Known.{KnownNode, KnownItem, KnownItems, KnownBindings, KnownContext, node_same, atoms_same, tested_same, tested_known, content_same, united_all_fine, nodes_as_items, context_fine, call_same}
 use Rattle.xml_model.proofs.AlikeParts.{AlikeWhere, MeansAlike, bound_known, counted_alike, one_after_another_alike, values_alike, parts_alike, truth_alike, if_alike, any_of_alike, all_of_alike, filtered_alike, StepAlike, path_from_alike, first_step_alike, TuplesKnown, tuples_alike, sorted_same, sorted_known, returned_alike}
 use Rattle.xml_model.proofs.Bounded.{layer, bind_layer, start_layer, run, fits, bounded}
 
@@ -343,3 +347,25 @@ module _ (docs docs' : Documents) where
       let m' = bounded (λ env cx. fail NotBuilt) (bind_step docs') (expr_step docs') (start_step docs') (product_step docs') (key_step docs') (step_step docs') (sum_step docs') n e f in
       subst (λ x. MeansAlike docs docs' x (meaning docs' e)) m
         (subst (λ x. MeansAlike docs docs' (meaning_to docs n e) x) m' (alike_to n e (subst (Each (λ name. docs name ≡ docs' name)) (sym q) h)))
+
+  -- an expression by itself gives the same by both, and only nodes of trees that both have
+  pub framed : (e : Expr) → Each (λ name. docs name ≡ docs' name) (names.documents e)
+      → (meaning docs e [] None [] ≡ meaning docs' e [] None []) × Good (KnownItems docs docs') (meaning docs e [] None [])
+  framed e h = alike_within (size e) e (fits_at_size e) h [] None tt tt []
+
+  -- ---- lines
+
+  item_lines_same : (made : Made) (item : Item) → KnownItem docs docs' item → item_lines docs made item ≡ item_lines docs' made item
+  item_lines_same made (node n) k = ap placed_lines (node_same docs docs' made n k)
+  item_lines_same made (string text) k = refl
+  item_lines_same made (integer n) k = refl
+  item_lines_same made (boolean b) k = refl
+
+  -- known items have the same lines by both
+  pub lines_same : (made : Made) (items : Items) → KnownItems docs docs' items → lines_of docs made items ≡ lines_of docs' made items
+  lines_same made [] k = refl
+  lines_same made (item ∷ items) k = λ i. item_lines_same made item k.0 i ++ lines_same made items k.1 i
+
+-- forests that have the same documents, or none, at the names in an expression give it one value
+pub evaluated_same : (F G : Forest) (e : Expr) → Each (λ name. forests.get F name ≡ forests.get G name) (names.documents e) → eval F e ≡ eval G e
+evaluated_same F G e h = (framed (forests.get F) (forests.get G) e h).0
