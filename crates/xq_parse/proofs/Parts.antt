@@ -1,12 +1,12 @@
 -- What the methods of rows answer, from what their parts answer: over plain variables.
-use Rattle.std.proofs.Common.{◌≡◌, ◌<◌, ℕ, Bool, true, false, List, [], ◌∷◌, ◌++◌, length, Option, Some, None, Result, Ok, Err, refl, ap, sym, ◌∙◌, subst}
+use Rattle.std.proofs.Common.{◌≡◌, ◌<◌, ℕ, Bool, true, false, List, [], ◌∷◌, ◌++◌, length, Option, Some, None, Result, Ok, Err, refl, ap, sym, ◌∙◌, subst, arith}
 use Rattle.std.specs.Result.{IsErrAnd}
 use Rattle.xq_ast.specs.declared.token.Token.{Token}
-use Rattle.xq_ast.specs.declared.tree.Bind.{Bind}
 use Rattle.xq_ast.specs.declared.tree.Expr.{Expr}
 use Rattle.xq_ast.specs.declared.tree.Expr.TheVariants as expression
+use Rattle.xq_ast.specs.declared.call.Call.TheVariants as call
 use Rattle.xq_ast.specs.Tokens.{◌>>=◌}
-use Rattle.xq_ast.specs.Grammar.{group_of, plain, path_of, steps_of}
+use Rattle.xq_ast.specs.Grammar.{group_of, plain, path_of}
 use Rattle.xq_ast.specs.Readings as spec
 use Rattle.xq_ast.specs.Readings.{Reader, there, followed, content, content_at, arguments, arguments_at, list, expr, close_round, close_curly, clause, binds, lets, path, path_at, operand, filtered, step, steps, primary}
 use Rattle.xq_parse.specs.declared.answer.ParseEnd.{ParseEnd}
@@ -181,3 +181,13 @@ pub text_primary : (inner : Reader Expr) (ts left : List Token) (o : Option Expr
     → primary inner (spec.Operand.a_text_node ts) ≡ Some (expression.TextNode o, left)
 unfolding primary
 text_primary inner ts left o e = ap (λ o. o >>= (λ o. let x : Option (Expr × List Token) = Some (expression.TextNode o.0, o.1) in x)) e
+
+-- a query is an expression with nothing behind it
+pub query_alone : (inner : Reader Expr) (ts us seen left : List Token) (e : Expr) → us ≡ ts → expr inner us ≡ Some (e, left) → seen ≡ left → length seen < 1 → spec.query inner ts ≡ Some (call.Query e)
+query_alone inner ts us seen left e same reads looked short =
+    ap (λ o. o >>= spec.alone_at >>= (λ x. Some (call.Query x))) (ap (expr inner) (sym same) ∙ reads)
+    ∙ (ap (λ l. spec.alone_at (e, l) >>= (λ x. Some (call.Query x))) (sym looked) ∙ by_rest seen short)
+  where
+    by_rest : (l : List Token) → length l < 1 → (spec.alone_at (e, l) >>= (λ x. Some (call.Query x))) ≡ Some (call.Query e)
+    by_rest [] h = refl
+    by_rest (t ∷ l) h = absurd (omega arith)
