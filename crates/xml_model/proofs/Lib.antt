@@ -2,12 +2,12 @@ pub mod Bounded
 pub mod Computing
 pub mod Building
 pub mod Chains
-pub mod DocumentNumbers
 pub mod Entries
 pub mod Escapes
 pub mod Formed
 pub mod Forests
 pub mod Framing
+mod FunctionRows
 pub mod Laying
 pub mod Lines
 pub mod Nodes
@@ -18,17 +18,21 @@ pub mod SpelledIsRead
 mod MeaningRows
 mod NavRows
 pub mod NodeCases
+mod PathRows
 pub mod Numbered
 pub mod Numbers
 pub mod Reached
+pub mod RowCalls
 mod Rows
 pub mod Standing
 pub mod TextAgain
 pub mod TextLines
 pub mod PlaceOrder
 pub mod Placing
+pub mod QueryForms
 pub mod Sorting
-pub mod TreeFacts
+pub mod TreeNumbers
 pub mod TreeCalls
 pub mod TreesMade
+mod TupleRows
 pub mod Validity

@@ -1,4 +1,6 @@
 //! Atomic values (XQuery 1.0 and XPath 2.0 Data Model, section 2.6), and the keys of `order by`.
+ghost use Rattle.std.specs.Prelude.{◌≡◌, IfOk};
+
 use std::alloc::{AllocError, Global};
 use std::marker::Model;
 use std::sync::Arc;
@@ -20,6 +22,42 @@ impl Model for SharedText {
     ghost view = { λ s. arc_value s.text };
 }
 
+impl SharedText {
+    /// The text, to be shared.
+    pub fn of(alloc: Global, text: Str) -> Result<SharedText, NoMemory>
+        ensures { IfOk result (λ s. s ≡ text) }
+    {
+        match Arc::new(alloc, text) {
+            Ok(text) => Ok(SharedText { text }),
+            Err(_) => Err(NoMemory),
+        }
+    }
+
+    pub fn as_str(&self) -> &str
+        ensures { result.now ≡ self.now }
+    {
+        let text: &Str = &self.text;
+        text.as_str()
+    }
+
+    pub fn as_bytes(&self) -> &[u8]
+        ensures { result.now ≡ self.now }
+    {
+        let text: &Str = &self.text;
+        text.as_bytes()
+    }
+
+    /// The same text. Its bytes are shared, and not copied.
+    pub fn copy(&self) -> Result<SharedText, NoMemory>
+        ensures { IfOk result (λ s. s ≡ self.now) }
+    {
+        match Arc::try_clone(&self.text) {
+            Ok(text) => Ok(SharedText { text }),
+            Err(_) => Err(NoMemory),
+        }
+    }
+}
+
 /// An atomic value.
 #[derive(Debug, Drop)]
 pub enum Atom {
@@ -33,6 +71,20 @@ pub enum Atom {
     Truth { value: bool },
 }
 
+impl Atom {
+    /// The same value. A text is shared.
+    pub fn copy(&self) -> Result<Atom, NoMemory>
+        ensures { IfOk result (λ a. a ≡ self.now) }
+    {
+        match self {
+            Atom::Untyped { text } => Ok(Atom::Untyped { text: text.copy()? }),
+            Atom::Text { text } => Ok(Atom::Text { text: text.copy()? }),
+            Atom::Int { value } => Ok(Atom::Int { value: *value }),
+            Atom::Truth { value } => Ok(Atom::Truth { value: *value }),
+        }
+    }
+}
+
 /// What a tuple is ordered by at one place.
 #[derive(Debug, Drop)]
 pub enum Key {
@@ -44,6 +96,20 @@ pub enum Key {
     Int { value: i64 },
     /// A truth value.
     Truth { value: bool },
+}
+
+impl Key {
+    /// The same key. A text is shared.
+    pub fn copy(&self) -> Result<Key, NoMemory>
+        ensures { IfOk result (λ k. k ≡ self.now) }
+    {
+        match self {
+            Key::Empty => Ok(Key::Empty),
+            Key::Text { text } => Ok(Key::Text { text: text.copy()? }),
+            Key::Int { value } => Ok(Key::Int { value: *value }),
+            Key::Truth { value } => Ok(Key::Truth { value: *value }),
+        }
+    }
 }
 
 /// The type of the keys at one place.
