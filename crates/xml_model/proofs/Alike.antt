@@ -31,6 +31,7 @@ module _ {A : Type 0} (P : A → Type 0) where
   each_front [] ys h = tt
   each_front (x ∷ xs) ys h = (h.0, each_front xs ys h.1)
 
+  -- the second of them
   pub each_rest : (xs ys : List A) → Each P (xs ++ ys) → Each P ys
   each_rest [] ys h = h
   each_rest (x ∷ xs) ys h = each_rest xs ys h.1
@@ -40,6 +41,7 @@ module _ {A : Type 0} (P : A → Type 0) where
   each_if true x xs g h = (g, h)
   each_if false x xs g h = h
 
+  -- those that pass a test
   pub each_filter : (test : A → Bool) (xs : List A) → Each P xs → Each P (filter test xs)
   each_filter test [] h = tt
   each_filter test (x ∷ xs) h = each_if (test x) x (filter test xs) h.0 (each_filter test xs h.1)
@@ -87,6 +89,7 @@ abbrev pub Fine : {A : Type 0} → (A → Type 0) → Result A Code → Type 0
 Fine G (Ok x) = G x
 Fine G (Err code) = Unit {0}
 
+-- each value has it
 pub any_fine : {A : Type 0} (r : Result A Code) → Fine Any r
 any_fine (Ok x) = tt
 any_fine (Err code) = tt
@@ -114,9 +117,11 @@ abbrev pub Alike : {A : Type 0} → (A → Type 0) → Making A → Making A →
 Alike G m m' = (made : Made) → (m made ≡ m' made) × Good G (m made)
 
 module _ {A : Type 0} (G : A → Type 0) where
+  -- a value that has the property
   pub give_alike : (x : A) → G x → Alike G (give x) (give x)
   give_alike x g made = (refl, g)
 
+  -- a code
   pub fail_alike : (code : Code) → Alike G (fail code) (fail code)
   fail_alike code made = (refl, tt)
 
@@ -124,9 +129,11 @@ module _ {A : Type 0} (G : A → Type 0) where
   plain_good (Ok x) made g = g
   plain_good (Err code) made g = tt
 
+  -- a result
   pub plain_alike : (r : Result A Code) → Fine G r → Alike G (plain r) (plain r)
   plain_alike r g made = (refl, plain_good r made g)
 
+  -- what only looks at the trees
   pub look_alike : (f f' : Made → Result A Code) → ((made : Made) → (f made ≡ f' made) × Fine G (f made)) → Alike G (look f) (look f')
   look_alike f f' h made = (ap (λ r. plain r made) (h made).0, plain_good (f made) made (h made).1)
 

@@ -72,6 +72,7 @@ expr_size l = suc (parts_size l)
 abbrev size_bind : Bind → ℕ
 size_bind = fold-Bind ℕ ℕ ℕ ℕ ℕ ℕ ℕ bind_size expr_size start_size product_size key_size step_size sum_size
 
+-- of an expression
 abbrev pub size : Expr → ℕ
 size = fold-Expr ℕ ℕ ℕ ℕ ℕ ℕ ℕ bind_size expr_size start_size product_size key_size step_size sum_size
 
@@ -130,7 +131,7 @@ module _ (n : ℕ) (test : Expr → Bool) (holds : (e : Expr) → size e ≤ n �
   one_step_passes : (s : Step) → size_step s ≤ n → step_passes test s ≡ true
   one_step_passes s h = all_pass s.preds (subst (λ m. m ≤ n)
       (fold_out-Step ℕ ℕ ℕ ℕ ℕ ℕ ℕ bind_size expr_size start_size product_size key_size step_size sum_size s
-        ∙ ap (λ l. step_size (map-Step _ _ _ _ _ _ _ _ _ _ _ _ _ _ size_bind size size_start size_product size_key size_step size_sum l)) (outs-Step' s)) h)
+      ∙ ap (λ l. step_size (map-Step _ _ _ _ _ _ _ _ _ _ _ _ _ _ size_bind size size_start size_product size_key size_step size_sum l)) (outs-Step' s)) h)
 
   start_layer_passes : (l : Start-F Bind Expr Start ProductPart SortKey Step SumPart)
       → start_size (map-Start _ _ _ _ _ _ _ _ _ _ _ _ _ _ size_bind size size_start size_product size_key size_step size_sum l) ≤ n → start_passes test l ≡ true
@@ -144,17 +145,17 @@ module _ (n : ℕ) (test : Expr → Bool) (holds : (e : Expr) → size e ≤ n �
   product_passes : (p : ProductPart) → size_product p ≤ n → test p.expr ≡ true
   product_passes p h = holds p.expr (subst (λ m. m ≤ n)
       (fold_out-ProductPart ℕ ℕ ℕ ℕ ℕ ℕ ℕ bind_size expr_size start_size product_size key_size step_size sum_size p
-        ∙ ap (λ l. product_size (map-ProductPart _ _ _ _ _ _ _ _ _ _ _ _ _ _ size_bind size size_start size_product size_key size_step size_sum l)) (outs-ProductPart' p)) h)
+      ∙ ap (λ l. product_size (map-ProductPart _ _ _ _ _ _ _ _ _ _ _ _ _ _ size_bind size size_start size_product size_key size_step size_sum l)) (outs-ProductPart' p)) h)
 
   key_passes : (k : SortKey) → size_key k ≤ n → test k.expr ≡ true
   key_passes k h = holds k.expr (subst (λ m. m ≤ n)
       (fold_out-SortKey ℕ ℕ ℕ ℕ ℕ ℕ ℕ bind_size expr_size start_size product_size key_size step_size sum_size k
-        ∙ ap (λ l. key_size (map-SortKey _ _ _ _ _ _ _ _ _ _ _ _ _ _ size_bind size size_start size_product size_key size_step size_sum l)) (outs-SortKey' k)) h)
+      ∙ ap (λ l. key_size (map-SortKey _ _ _ _ _ _ _ _ _ _ _ _ _ _ size_bind size size_start size_product size_key size_step size_sum l)) (outs-SortKey' k)) h)
 
   sum_passes : (p : SumPart) → size_sum p ≤ n → test p.expr ≡ true
   sum_passes p h = holds p.expr (subst (λ m. m ≤ n)
       (fold_out-SumPart ℕ ℕ ℕ ℕ ℕ ℕ ℕ bind_size expr_size start_size product_size key_size step_size sum_size p
-        ∙ ap (λ l. sum_size (map-SumPart _ _ _ _ _ _ _ _ _ _ _ _ _ _ size_bind size size_start size_product size_key size_step size_sum l)) (outs-SumPart' p)) h)
+      ∙ ap (λ l. sum_size (map-SumPart _ _ _ _ _ _ _ _ _ _ _ _ _ _ size_bind size size_start size_product size_key size_step size_sum l)) (outs-SumPart' p)) h)
 
   layer_passes : (l : Expr-F Bind Expr Start ProductPart SortKey Step SumPart)
       → parts_size (map-Expr _ _ _ _ _ _ _ _ _ _ _ _ _ _ size_bind size size_start size_product size_key size_step size_sum l) ≤ n → passes test l ≡ true
@@ -166,34 +167,34 @@ module _ (n : ℕ) (test : Expr → Bool) (holds : (e : Expr) → size e ≤ n �
   layer_passes (Expr-F.Flwor binds None keys result) h =
       let rest = right_part 0 (total (map size_key keys) + size result) n (right_part (total (map size_bind binds)) (0 + (total (map size_key keys) + size result)) n h) in
       both _ _ (each_passes size_bind (λ b. bind_passes test (out-Bind b)) binding_passes binds (left_part (total (map size_bind binds)) (0 + (total (map size_key keys) + size result)) n h))
-        (both _ _ (each_passes size_key (λ k. test k.expr) key_passes keys (left_part (total (map size_key keys)) (size result) n rest))
-          (holds result (right_part (total (map size_key keys)) (size result) n rest)))
+      (both _ _ (each_passes size_key (λ k. test k.expr) key_passes keys (left_part (total (map size_key keys)) (size result) n rest))
+      (holds result (right_part (total (map size_key keys)) (size result) n rest)))
   layer_passes (Expr-F.Flwor binds (Some filter) keys result) h =
       let rest = right_part (total (map size_bind binds)) (size filter + (total (map size_key keys) + size result)) n h in
       let last = right_part (size filter) (total (map size_key keys) + size result) n rest in
       both _ _ (each_passes size_bind (λ b. bind_passes test (out-Bind b)) binding_passes binds (left_part (total (map size_bind binds)) (size filter + (total (map size_key keys) + size result)) n h))
-        (both _ _ (holds filter (left_part (size filter) (total (map size_key keys) + size result) n rest))
-          (both _ _ (each_passes size_key (λ k. test k.expr) key_passes keys (left_part (total (map size_key keys)) (size result) n last))
-            (holds result (right_part (total (map size_key keys)) (size result) n last))))
+      (both _ _ (holds filter (left_part (size filter) (total (map size_key keys) + size result) n rest))
+      (both _ _ (each_passes size_key (λ k. test k.expr) key_passes keys (left_part (total (map size_key keys)) (size result) n last))
+      (holds result (right_part (total (map size_key keys)) (size result) n last))))
   layer_passes (Expr-F.If condition good other) h =
       let rest = right_part (size condition) (size good + size other) n h in
       both _ _ (holds condition (left_part (size condition) (size good + size other) n h))
-        (both _ _ (holds good (left_part (size good) (size other) n rest)) (holds other (right_part (size good) (size other) n rest)))
+      (both _ _ (holds good (left_part (size good) (size other) n rest)) (holds other (right_part (size good) (size other) n rest)))
   layer_passes (Expr-F.Or parts) h = all_pass parts h
   layer_passes (Expr-F.And parts) h = all_pass parts h
   layer_passes (Expr-F.Compare left op right) h = both _ _ (holds left (left_part (size left) (size right) n h)) (holds right (right_part (size left) (size right) n h))
   layer_passes (Expr-F.Range low high) h = both _ _ (holds low (left_part (size low) (size high) n h)) (holds high (right_part (size low) (size high) n h))
   layer_passes (Expr-F.Sum first rest) h =
       both _ _ (holds first (left_part (size first) (total (map size_sum rest)) n h))
-        (each_passes size_sum (λ p. test p.expr) sum_passes rest (right_part (size first) (total (map size_sum rest)) n h))
+      (each_passes size_sum (λ p. test p.expr) sum_passes rest (right_part (size first) (total (map size_sum rest)) n h))
   layer_passes (Expr-F.Product first rest) h =
       both _ _ (holds first (left_part (size first) (total (map size_product rest)) n h))
-        (each_passes size_product (λ p. test p.expr) product_passes rest (right_part (size first) (total (map size_product rest)) n h))
+      (each_passes size_product (λ p. test p.expr) product_passes rest (right_part (size first) (total (map size_product rest)) n h))
   layer_passes (Expr-F.Union parts) h = all_pass parts h
   layer_passes (Expr-F.Signed signs inner) h = holds inner h
   layer_passes (Expr-F.Path start rest) h =
       both _ _ (one_start_passes start (left_part (size_start start) (total (map size_step rest)) n h))
-        (each_passes size_step (step_passes test) one_step_passes rest (right_part (size_start start) (total (map size_step rest)) n h))
+      (each_passes size_step (step_passes test) one_step_passes rest (right_part (size_start start) (total (map size_step rest)) n h))
   layer_passes (Expr-F.Filter inner preds) h =
       both _ _ (holds inner (left_part (size inner) (total (map size preds)) n h)) (all_pass preds (right_part (size inner) (total (map size preds)) n h))
   layer_passes (Expr-F.Fun name args) h = all_pass args h
@@ -211,7 +212,7 @@ fits_within zero e h =
     none_less _ (fits zero e) (subst (λ m. m ≤ 0) (fold_out-Expr ℕ ℕ ℕ ℕ ℕ ℕ ℕ bind_size expr_size start_size product_size key_size step_size sum_size e) h)
 fits_within (suc n) e h =
     layer_passes n (fits n) (fits_within n) (out-Expr e)
-      (one_less _ n (subst (λ m. m ≤ suc n) (fold_out-Expr ℕ ℕ ℕ ℕ ℕ ℕ ℕ bind_size expr_size start_size product_size key_size step_size sum_size e) h))
+    (one_less _ n (subst (λ m. m ≤ suc n) (fold_out-Expr ℕ ℕ ℕ ℕ ℕ ℕ ℕ bind_size expr_size start_size product_size key_size step_size sum_size e) h))
 
 -- nor than its own
 pub fits_at_size : (e : Expr) → fits (size e) e ≡ true

@@ -27,6 +27,7 @@ module _ (docs docs' : Documents) where
   Known (stored name) = docs name ≡ docs' name
   Known (constructed number) = Unit {0}
 
+  -- a node in such a tree
   abbrev pub KnownNode : NodeAt → Type 0
   KnownNode n = Known n.tree
 
@@ -37,6 +38,7 @@ module _ (docs docs' : Documents) where
   KnownItem (integer n) = Unit {0}
   KnownItem (boolean b) = Unit {0}
 
+  -- each item is known
   abbrev pub KnownItems : Items → Type 0
   KnownItems = Each KnownItem
 
@@ -55,15 +57,18 @@ module _ (docs docs' : Documents) where
   root_same made (stored name) k = ap (option_map the_document) k
   root_same made (constructed number) k = refl
 
+  -- the same stands at the node
   pub node_same : (made : Made) (n : NodeAt) → KnownNode n → node_at docs made n ≡ node_at docs' made n
   node_same made n k = ap (placed_from n.place) (root_same made n.tree k)
 
+  -- an item gives the same atomic value
   pub atom_same : (made : Made) (item : Item) → KnownItem item → atomized_item docs made item ≡ atomized_item docs' made item
   atom_same made (node n) k = ap (λ there. atom.Untyped (value_at there)) (node_same made n k)
   atom_same made (string text) k = refl
   atom_same made (integer n) k = refl
   atom_same made (boolean b) k = refl
 
+  -- so does each of a list
   pub atoms_same : (made : Made) (items : Items) → KnownItems items → atomized docs made items ≡ atomized docs' made items
   atoms_same made [] k = refl
   atoms_same made (item ∷ items) k = λ i. atom_same made item k.0 i ∷ atoms_same made items k.1 i
@@ -86,9 +91,9 @@ module _ (docs docs' : Documents) where
   pub tested_same : (made : Made) (way : Axis) (wanted : Test) (n : NodeAt) → KnownNode n → tested docs made way wanted n ≡ tested docs' made way wanted n
   tested_same made way wanted n k =
       filter_same (λ m. passes_at (is_attribute_axis way) wanted (node_at docs made m)) (λ m. passes_at (is_attribute_axis way) wanted (node_at docs' made m))
-        (found way n (tree_root docs made n.tree))
-        (each_gives KnownNode (λ m. passes_at (is_attribute_axis way) wanted (node_at docs made m) ≡ passes_at (is_attribute_axis way) wanted (node_at docs' made m))
-          (λ m g. ap (passes_at (is_attribute_axis way) wanted) (node_same made m g)) _ (found_known way n (tree_root docs made n.tree) k))
+      (found way n (tree_root docs made n.tree))
+      (each_gives KnownNode (λ m. passes_at (is_attribute_axis way) wanted (node_at docs made m) ≡ passes_at (is_attribute_axis way) wanted (node_at docs' made m))
+      (λ m g. ap (passes_at (is_attribute_axis way) wanted) (node_same made m g)) _ (found_known way n (tree_root docs made n.tree) k))
       ∙ ap (λ root. filter (λ m. passes_at (is_attribute_axis way) wanted (node_at docs' made m)) (found way n root)) (root_same made n.tree k)
 
   -- in the same tree
@@ -105,11 +110,13 @@ module _ (docs docs' : Documents) where
   pieces_same made before (integer n ∷ items) k = pieces_same made (before ++ atom_text (atom.Int n) ∷ []) items k.1
   pieces_same made before (boolean b ∷ items) k = pieces_same made (before ++ atom_text (atom.Truth b) ∷ []) items k.1
 
+  -- items make the same content
   pub content_same : (made : Made) (items : Items) → KnownItems items → content_of docs made items ≡ content_of docs' made items
   content_same made items k = ap (λ ps. filter (λ p. not (is_empty_text (piece_text p))) (joined_texts ps)) (pieces_same made [] items k)
 
   -- ---- lists of nodes
 
+  -- the nodes of known items are known
   pub nodes_fine : (code : Code) (items : Items) → KnownItems items → Fine (Each KnownNode) (nodes_or code items)
   nodes_fine code [] k = tt
   nodes_fine code (node n ∷ items) k = fine_then (Each KnownNode) (Each KnownNode) (λ ns. Ok (n ∷ ns)) (λ ns g. (k.0, g)) (nodes_or code items) (nodes_fine code items k.1)
@@ -120,13 +127,15 @@ module _ (docs docs' : Documents) where
   united_fine : (left : List NodeAt) (right : Items) → Each KnownNode left → KnownItems right → Fine (Each KnownNode) (united left right)
   united_fine left right g k =
       fine_then (Each KnownNode) (Each KnownNode) (λ ns. Ok (union node_cmp left (in_order node_cmp ns)))
-        (λ ns h. each_union KnownNode node_cmp left (in_order node_cmp ns) g (each_in_order KnownNode node_cmp ns h)) (nodes_or XPTY0004 right) (nodes_fine XPTY0004 right k)
+      (λ ns h. each_union KnownNode node_cmp left (in_order node_cmp ns) g (each_in_order KnownNode node_cmp ns h)) (nodes_or XPTY0004 right) (nodes_fine XPTY0004 right k)
 
+  -- and so are those of their union
   pub united_all_fine : (left : List NodeAt) (lists : List Items) → Each KnownNode left → Each KnownItems lists → Fine (Each KnownNode) (united_all left lists)
   united_all_fine left [] g k = g
   united_all_fine left (right ∷ lists) g k =
       fine_then (Each KnownNode) (Each KnownNode) (λ ns. united_all ns lists) (λ ns h. united_all_fine ns lists h k.1) (united left right) (united_fine left right g k.0)
 
+  -- known nodes are known items
   pub nodes_as_items : (ns : List NodeAt) → Each KnownNode ns → KnownItems (map node ns)
   nodes_as_items [] k = tt
   nodes_as_items (n ∷ ns) k = (k.0, nodes_as_items ns k.1)
@@ -137,6 +146,7 @@ module _ (docs docs' : Documents) where
   abbrev Answers : Result Items Code → Result Items Code → Type 0
   Answers r r' = (r ≡ r') × Fine KnownItems r
 
+  -- the context item is known
   pub context_fine : (cx : Context) → KnownContext cx → Fine KnownItems (context_item cx)
   context_fine None k = tt
   context_fine (Some focus) k = (k, tt)
@@ -201,27 +211,34 @@ module _ (docs docs' : Documents) where
       one_row (bytes_eq name (codes "not")) _ _ _ _ (refl, integer_fine (λ b. boolean_answer (not b)) (λ b. (tt, tt)) (effective_boolean (first_of args))) (
       one_row (bytes_eq name (codes "true")) _ _ _ _ (refl, (tt, tt)) (
       one_row (bytes_eq name (codes "false")) _ _ _ _ (refl, (tt, tt)) (
-      one_row (bytes_eq name (codes "string")) _ _ _ _
-        (ap (λ r. r >>? string_answer) (same_then KnownItems Any (string_of docs made) (string_of docs' made) (string_same made) (or_context cx args) (or_context_fine cx args k g)),
-          string_fine (or_context cx args >>? string_of docs made)) (
-      one_row (bytes_eq name (codes "name")) _ _ _ _
-        (ap (λ r. r >>? string_answer) (same_then KnownItems Any (name_of_one docs made) (name_of_one docs' made) (name_same made) (or_context cx args) (or_context_fine cx args k g)),
-          string_fine (or_context cx args >>? name_of_one docs made)) (
-      one_row (bytes_eq name (codes "contains")) _ _ _ _
-        ((λ i. tested_texts has_within (atoms_same made (first_of args) (first_known args g) i) (atoms_same made (second_of args) (second_known args g) i)),
-          texts_fine has_within (atomized docs made (first_of args)) (atomized docs made (second_of args))) (
-      one_row (bytes_eq name (codes "starts-with")) _ _ _ _
-        ((λ i. tested_texts begins_with (atoms_same made (first_of args) (first_known args g) i) (atoms_same made (second_of args) (second_known args g) i)),
-          texts_fine begins_with (atomized docs made (first_of args)) (atomized docs made (second_of args))) (
-      one_row (bytes_eq name (codes "string-length")) _ _ _ _
-        (ap (λ r. r >>? (λ text. integer_answer (pos (char_count text)))) (measured_same made cx args k g),
-          integer_fine (λ text. integer_answer (pos (char_count text))) (λ text. (tt, tt)) (measured docs made cx args)) (
-      one_row (bytes_eq name (codes "concat")) _ _ _ _
-        (ap (λ lists. concat_arguments lists >>? (λ texts. string_answer (concat texts))) (lists_same made args g),
-          integer_fine (λ texts. string_answer (concat texts))
-            (λ texts. integer_fine (λ t. Ok (string t ∷ [])) (λ t. (tt, tt)) (limited_text (concat texts))) (concat_arguments (map (atomized docs made) args))) (
-      one_row (bytes_eq name (codes "sum")) _ _ _ _
-        (ap (λ values. sum_of values >>? integer_answer) (atoms_same made (first_of args) (first_known args g)),
-          integer_fine integer_answer (λ n. (tt, tt)) (sum_of (atomized docs made (first_of args)))) (
+      one_row (bytes_eq name (codes "string")) _ _ _ _ (
+        ap (λ r. r >>? string_answer) (same_then KnownItems Any (string_of docs made) (string_of docs' made) (string_same made) (or_context cx args) (or_context_fine cx args k g)),
+        string_fine (or_context cx args >>? string_of docs made),
+      ) (
+      one_row (bytes_eq name (codes "name")) _ _ _ _ (
+        ap (λ r. r >>? string_answer) (same_then KnownItems Any (name_of_one docs made) (name_of_one docs' made) (name_same made) (or_context cx args) (or_context_fine cx args k g)),
+        string_fine (or_context cx args >>? name_of_one docs made),
+      ) (
+      one_row (bytes_eq name (codes "contains")) _ _ _ _ (
+        (λ i. tested_texts has_within (atoms_same made (first_of args) (first_known args g) i) (atoms_same made (second_of args) (second_known args g) i)),
+        texts_fine has_within (atomized docs made (first_of args)) (atomized docs made (second_of args)),
+      ) (
+      one_row (bytes_eq name (codes "starts-with")) _ _ _ _ (
+        (λ i. tested_texts begins_with (atoms_same made (first_of args) (first_known args g) i) (atoms_same made (second_of args) (second_known args g) i)),
+        texts_fine begins_with (atomized docs made (first_of args)) (atomized docs made (second_of args)),
+      ) (
+      one_row (bytes_eq name (codes "string-length")) _ _ _ _ (
+        ap (λ r. r >>? (λ text. integer_answer (pos (char_count text)))) (measured_same made cx args k g),
+        integer_fine (λ text. integer_answer (pos (char_count text))) (λ text. (tt, tt)) (measured docs made cx args),
+      ) (
+      one_row (bytes_eq name (codes "concat")) _ _ _ _ (
+        ap (λ lists. concat_arguments lists >>? (λ texts. string_answer (concat texts))) (lists_same made args g),
+        integer_fine (λ texts. string_answer (concat texts))
+            (λ texts. integer_fine (λ t. Ok (string t ∷ [])) (λ t. (tt, tt)) (limited_text (concat texts))) (concat_arguments (map (atomized docs made) args)),
+      ) (
+      one_row (bytes_eq name (codes "sum")) _ _ _ _ (
+        ap (λ values. sum_of values >>? integer_answer) (atoms_same made (first_of args) (first_known args g)),
+        integer_fine integer_answer (λ n. (tt, tt)) (sum_of (atomized docs made (first_of args))),
+      ) (
       one_row (bytes_eq name (codes "position")) _ _ _ _ (refl, of_focus_fine (λ focus. focus.position) cx) (
       one_row (bytes_eq name (codes "last")) _ _ _ _ (refl, of_focus_fine (λ focus. focus.size) cx) (refl, tt)))))))))))))))

@@ -35,6 +35,7 @@ pub mod PlaceOrder
 pub mod Placing
 pub mod QueryForms
 pub mod QueryFrame
+pub mod QueryNeeds
 pub mod Sorting
 pub mod TreeNumbers
 pub mod TreeCalls

@@ -67,8 +67,8 @@ module _ (docs docs' : Documents) where
       let all : Items = map (λ k. integer (n +ℤ pos k)) (range_with_len 0 (unsigned_abs (m -ℤ n) + 1)) in
       let too_many = int_le (pos ITEMS_MAX) (m -ℤ n) in
       if_fine (int_lt m n) (Ok []) (if too_many then Err TooManyItems else Ok all) tt
-        (if_fine too_many (Err TooManyItems) (Ok all) tt
-          (each_map (KnownItem docs docs') (λ k. integer (n +ℤ pos k)) (λ k. tt) (range_with_len 0 (unsigned_abs (m -ℤ n) + 1))))
+      (if_fine too_many (Err TooManyItems) (Ok all) tt
+      (each_map (KnownItem docs docs') (λ k. integer (n +ℤ pos k)) (λ k. tt) (range_with_len 0 (unsigned_abs (m -ℤ n) + 1))))
 
   operated_fine : (op : ℤ → ℤ → Result Items Code) → ((n m : ℤ) → Fine K (op n m)) → (left right : Atoms) → Fine K (operated op left right)
   operated_fine op h [] bs = tt
@@ -83,30 +83,30 @@ module _ (docs docs' : Documents) where
     chained_fine left [] g = g
     chained_fine left (p ∷ ps) g =
         fine_then K K (λ found. chained (atomized docs made) op found ps) (λ found k. chained_fine found ps k)
-          (operated (op p.0) (atomized docs made left) (atomized docs made p.1)) (operated_fine (op p.0) (h p.0) (atomized docs made left) (atomized docs made p.1))
+        (operated (op p.0) (atomized docs made left) (atomized docs made p.1)) (operated_fine (op p.0) (h p.0) (atomized docs made left) (atomized docs made p.1))
 
     chained_same : (left : Items) (ps : List (O × Items)) → K left → Each (λ p. K p.1) ps → chained (atomized docs made) op left ps ≡ chained (atomized docs' made) op left ps
     chained_same left [] g k = refl
     chained_same left (p ∷ ps) g k =
         same_then K K (λ found. chained (atomized docs made) op found ps) (λ found. chained (atomized docs' made) op found ps)
-          (λ found q. chained_same found ps q k.1)
-          (operated (op p.0) (atomized docs made left) (atomized docs made p.1)) (operated_fine (op p.0) (h p.0) (atomized docs made left) (atomized docs made p.1))
+        (λ found q. chained_same found ps q k.1)
+        (operated (op p.0) (atomized docs made left) (atomized docs made p.1)) (operated_fine (op p.0) (h p.0) (atomized docs made left) (atomized docs made p.1))
         ∙ (λ i. operated (op p.0) (atoms_same docs docs' made left g i) (atoms_same docs docs' made p.1 k.0 i) >>? (λ found. chained (atomized docs' made) op found ps))
 
   signed_fine : (made : Made) (signs : List Sign) (value : Items) → K value → Fine K (signed_by (atomized docs made) signs value)
   signed_fine made [] value g = g
   signed_fine made (sign ∷ signs) value g =
       fine_then K K (λ found. operated (sum_op (is_minus sign)) (atom.Int (pos 0) ∷ []) (atomized docs made found))
-        (λ found _. operated_fine (sum_op (is_minus sign)) (sum_fine (is_minus sign)) (atom.Int (pos 0) ∷ []) (atomized docs made found))
-        (signed_by (atomized docs made) signs value) (signed_fine made signs value g)
+      (λ found _. operated_fine (sum_op (is_minus sign)) (sum_fine (is_minus sign)) (atom.Int (pos 0) ∷ []) (atomized docs made found))
+      (signed_by (atomized docs made) signs value) (signed_fine made signs value g)
 
   signed_same : (made : Made) (signs : List Sign) (value : Items) → K value → signed_by (atomized docs made) signs value ≡ signed_by (atomized docs' made) signs value
   signed_same made [] value g = refl
   signed_same made (sign ∷ signs) value g =
       same_then K K (λ found. operated (sum_op (is_minus sign)) (atom.Int (pos 0) ∷ []) (atomized docs made found))
-        (λ found. operated (sum_op (is_minus sign)) (atom.Int (pos 0) ∷ []) (atomized docs' made found))
-        (λ found k. ap (operated (sum_op (is_minus sign)) (atom.Int (pos 0) ∷ [])) (atoms_same docs docs' made found k))
-        (signed_by (atomized docs made) signs value) (signed_fine made signs value g)
+      (λ found. operated (sum_op (is_minus sign)) (atom.Int (pos 0) ∷ []) (atomized docs' made found))
+      (λ found k. ap (operated (sum_op (is_minus sign)) (atom.Int (pos 0) ∷ [])) (atoms_same docs docs' made found k))
+      (signed_by (atomized docs made) signs value) (signed_fine made signs value g)
       ∙ ap (λ r. r >>? (λ found. operated (sum_op (is_minus sign)) (atom.Int (pos 0) ∷ []) (atomized docs' made found))) (signed_same made signs value g)
 
   -- ---- bindings
@@ -170,14 +170,14 @@ module _ (docs docs' : Documents) (go go' : Expr → Means) (gn : Expr → names
     bind_layer_alike : (l : Bind-F Bind Expr Start ProductPart SortKey Step SumPart)
         → Each KnownName (names.bind_step (bind_layer [] names.bind_step names.expr_step names.start_step names.product_step names.key_step names.step_step names.sum_step gn l))
         → AlikeWhere docs docs' (Each (KnownBindings docs docs'))
-          (bind_step docs (bind_layer (λ env cx. fail NotBuilt) (bind_step docs) (expr_step docs) (start_step docs) (product_step docs) (key_step docs) (step_step docs) (sum_step docs) go l))
-          (bind_step docs' (bind_layer (λ env cx. fail NotBuilt) (bind_step docs') (expr_step docs') (start_step docs') (product_step docs') (key_step docs') (step_step docs') (sum_step docs') go' l))
+        (bind_step docs (bind_layer (λ env cx. fail NotBuilt) (bind_step docs) (expr_step docs) (start_step docs) (product_step docs) (key_step docs) (step_step docs) (sum_step docs) go l))
+        (bind_step docs' (bind_layer (λ env cx. fail NotBuilt) (bind_step docs') (expr_step docs') (start_step docs') (product_step docs') (key_step docs') (step_step docs') (sum_step docs') go' l))
     bind_layer_alike (Bind-F.For name at source) h env cx v c =
         bind_alike KI (Each (KnownBindings docs docs')) _ _ _ _ (same source h env cx v c) (λ items g.
-          give_alike (Each (KnownBindings docs docs')) (bound_items docs name at 1 items) (bound_items_known docs docs' name at 1 items g))
+        give_alike (Each (KnownBindings docs docs')) (bound_items docs name at 1 items) (bound_items_known docs docs' name at 1 items g))
     bind_layer_alike (Bind-F.Let name value) h env cx v c =
         bind_alike KI (Each (KnownBindings docs docs')) _ _ _ _ (same value h env cx v c) (λ items g.
-          give_alike (Each (KnownBindings docs docs')) _ ((g, tt), tt))
+        give_alike (Each (KnownBindings docs docs')) _ ((g, tt), tt))
 
     -- where a step leads from one node
     abbrev from_node : Documents → (Expr → Means) → Step → Bindings → NodeAt → Making (List NodeAt)
@@ -186,15 +186,15 @@ module _ (docs docs' : Documents) (go go' : Expr → Means) (gn : Expr → names
     step_alike : (s : Step) → Each KnownName (names.joined (map gn s.preds)) → StepAlike docs docs' (from_node docs go s) (from_node docs' go' s)
     step_alike s h env n v k =
         bind_alike (Each (KnownNode docs docs')) (Each (KnownNode docs docs')) _ _ _ _
-          (look_alike (Each (KnownNode docs docs')) (λ made. Ok (tested docs made s.axis s.test n)) (λ made. Ok (tested docs' made s.axis s.test n))
-            (λ made. (ap (λ ns. Ok ns) (tested_same docs docs' made s.axis s.test n k), tested_known docs docs' made s.axis s.test n k)))
-          (λ ns g. filtered_alike docs docs' (KnownNode docs docs') node (λ m q. q) go go' s.preds (all_alike s.preds h) env v ns g)
+        (look_alike (Each (KnownNode docs docs')) (λ made. Ok (tested docs made s.axis s.test n)) (λ made. Ok (tested docs' made s.axis s.test n))
+        (λ made. (ap (λ ns. Ok ns) (tested_same docs docs' made s.axis s.test n k), tested_known docs docs' made s.axis s.test n k)))
+        (λ ns g. filtered_alike docs docs' (KnownNode docs docs') node (λ m q. q) go go' s.preds (all_alike s.preds h) env v ns g)
 
     start_layer_alike : (l : Start-F Bind Expr Start ProductPart SortKey Step SumPart)
         → Each KnownName (names.start_step (start_layer [] names.bind_step names.expr_step names.start_step names.product_step names.key_step names.step_step names.sum_step gn l))
         → MeansAlike docs docs'
-          (start_step docs (start_layer (λ env cx. fail NotBuilt) (bind_step docs) (expr_step docs) (start_step docs) (product_step docs) (key_step docs) (step_step docs) (sum_step docs) go l))
-          (start_step docs' (start_layer (λ env cx. fail NotBuilt) (bind_step docs') (expr_step docs') (start_step docs') (product_step docs') (key_step docs') (step_step docs') (sum_step docs') go' l))
+        (start_step docs (start_layer (λ env cx. fail NotBuilt) (bind_step docs) (expr_step docs) (start_step docs) (product_step docs) (key_step docs) (step_step docs) (sum_step docs) go l))
+        (start_step docs' (start_layer (λ env cx. fail NotBuilt) (bind_step docs') (expr_step docs') (start_step docs') (product_step docs') (key_step docs') (step_step docs') (sum_step docs') go' l))
     start_layer_alike (Start-F.Value inner) h = same inner h
     start_layer_alike (Start-F.First s) h = first_step_alike docs docs' s.deep (from_node docs go s) (from_node docs' go' s) (step_alike s h)
 
@@ -203,46 +203,48 @@ module _ (docs docs' : Documents) (go go' : Expr → Means) (gn : Expr → names
 
     element_alike : (name : List ℕ) (m m' : Means) → MeansAlike docs docs' m m'
         → MeansAlike docs docs' (λ env cx. m env cx >>= (λ items. look (λ made. element name (content_of docs made items))) >>= (λ n. construct (a_node n)))
-          (λ env cx. m' env cx >>= (λ items. look (λ made. element name (content_of docs' made items))) >>= (λ n. construct (a_node n)))
+        (λ env cx. m' env cx >>= (λ items. look (λ made. element name (content_of docs' made items))) >>= (λ n. construct (a_node n)))
     element_alike name m m' h env cx v c =
         bind_alike Any KI _ _ _ _
-          (bind_alike KI Any _ _ _ _ (h env cx v c) (λ items g. look_alike Any _ _ (λ made.
-            (ap (element name) (content_same docs docs' made items g), any_fine (element name (content_of docs made items))))))
-          (λ n _. construct_alike docs docs' (a_node n))
+        (bind_alike KI Any _ _ _ _ (h env cx v c) (λ items g. look_alike Any _ _ (λ made.
+        (ap (element name) (content_same docs docs' made items g), any_fine (element name (content_of docs made items))))))
+        (λ n _. construct_alike docs docs' (a_node n))
 
     attribute_alike : (name : List ℕ) (m m' : Means) → MeansAlike docs docs' m m'
         → MeansAlike docs docs' (λ env cx. m env cx >>= (λ items. look (λ made. limited_text (spaced (atomized docs made items)))) >>= (λ value. construct (an_attribute (record { name = name; value = value }))))
-          (λ env cx. m' env cx >>= (λ items. look (λ made. limited_text (spaced (atomized docs' made items)))) >>= (λ value. construct (an_attribute (record { name = name; value = value }))))
+        (λ env cx. m' env cx >>= (λ items. look (λ made. limited_text (spaced (atomized docs' made items)))) >>= (λ value. construct (an_attribute (record { name = name; value = value }))))
     attribute_alike name m m' h env cx v c =
         bind_alike Any KI _ _ _ _ (bind_alike KI Any _ _ _ _ (h env cx v c) (λ items g. spaced_alike docs docs' items g))
-          (λ value _. construct_alike docs docs' (an_attribute (record { name = name; value = value })))
+        (λ value _. construct_alike docs docs' (an_attribute (record { name = name; value = value })))
 
     flwor_alike : (binds : List Bind) (keys : List SortKey) (result : Expr) (filter filter' : Option Means)
         → ((env : Bindings) (cx : Context) → KnownBindings docs docs' env → KnownContext docs docs' cx → Alike Any (stays docs filter env cx) (stays docs' filter' env cx))
         → Each KnownName (names.joined (map (names_of_bind gn) binds)) → Each KnownName (names.joined (map (λ k. gn k.expr) keys)) → Each KnownName (gn result)
         → MeansAlike docs docs'
-          (λ env cx. tuples docs (map (λ b. bind_step docs (bind_layer (λ env cx. fail NotBuilt) (bind_step docs) (expr_step docs) (start_step docs) (product_step docs) (key_step docs) (step_step docs) (sum_step docs) go (out-Bind b))) binds)
-            filter (map (λ k. record { value = go k.expr; descending = k.descending }) keys) env cx no_tuples
-            >>= (λ all. returned (go result) cx (sorted (map (λ k. record { value = go k.expr; descending = k.descending }) keys) all.rows)))
-          (λ env cx. tuples docs' (map (λ b. bind_step docs' (bind_layer (λ env cx. fail NotBuilt) (bind_step docs') (expr_step docs') (start_step docs') (product_step docs') (key_step docs') (step_step docs') (sum_step docs') go' (out-Bind b))) binds)
-            filter' (map (λ k. record { value = go' k.expr; descending = k.descending }) keys) env cx no_tuples
-            >>= (λ all. returned (go' result) cx (sorted (map (λ k. record { value = go' k.expr; descending = k.descending }) keys) all.rows)))
+        (λ env cx. tuples docs (map (λ b. bind_step docs (bind_layer (λ env cx. fail NotBuilt) (bind_step docs) (expr_step docs) (start_step docs) (product_step docs) (key_step docs) (step_step docs) (sum_step docs) go (out-Bind b))) binds)
+        filter (map (λ k. record { value = go k.expr; descending = k.descending }) keys) env cx no_tuples
+        >>= (λ all. returned (go result) cx (sorted (map (λ k. record { value = go k.expr; descending = k.descending }) keys) all.rows)))
+        (λ env cx. tuples docs' (map (λ b. bind_step docs' (bind_layer (λ env cx. fail NotBuilt) (bind_step docs') (expr_step docs') (start_step docs') (product_step docs') (key_step docs') (step_step docs') (sum_step docs') go' (out-Bind b))) binds)
+        filter' (map (λ k. record { value = go' k.expr; descending = k.descending }) keys) env cx no_tuples
+        >>= (λ all. returned (go' result) cx (sorted (map (λ k. record { value = go' k.expr; descending = k.descending }) keys) all.rows)))
     flwor_alike binds keys result filter filter' filters hb hk hr env cx v c =
         bind_alike (TuplesKnown docs docs') KI _ _ _ _
-          (tuples_alike docs docs' (λ k. go k.expr) (λ k. go' k.expr) (λ k. k.descending) filter filter' filters keys
-            (each_of (λ k. MeansAlike docs docs' (go k.expr) (go' k.expr)) (λ k. gn k.expr) (λ k q. same k.expr q) keys hk)
-            _ _ binds
-            (each_of (λ b. AlikeWhere docs docs' (Each (KnownBindings docs docs'))
-                (bind_step docs (bind_layer (λ env cx. fail NotBuilt) (bind_step docs) (expr_step docs) (start_step docs) (product_step docs) (key_step docs) (step_step docs) (sum_step docs) go (out-Bind b)))
-                (bind_step docs' (bind_layer (λ env cx. fail NotBuilt) (bind_step docs') (expr_step docs') (start_step docs') (product_step docs') (key_step docs') (step_step docs') (sum_step docs') go' (out-Bind b))))
-              (names_of_bind gn) (λ b q. bind_layer_alike (out-Bind b) q) binds hb)
-            env cx v c no_tuples tt)
-          (λ all g made.
-            let t = returned_alike docs docs' (go result) (go' result) (same result hr) cx c
-                  (sorted (map (λ k. record { value = go k.expr; descending = k.descending }) keys) all.rows)
-                  (sorted_known docs docs' (map (λ k. record { value = go k.expr; descending = k.descending }) keys) all.rows g) made in
-            (t.0 ∙ ap (λ rows. returned (go' result) cx rows made)
-                (sorted_same docs docs' (λ k. go k.expr) (λ k. go' k.expr) (λ k. k.descending) keys all.rows), t.1))
+        (tuples_alike docs docs' (λ k. go k.expr) (λ k. go' k.expr) (λ k. k.descending) filter filter' filters keys
+        (each_of (λ k. MeansAlike docs docs' (go k.expr) (go' k.expr)) (λ k. gn k.expr) (λ k q. same k.expr q) keys hk)
+        _ _ binds
+        (each_of (λ b. AlikeWhere docs docs' (Each (KnownBindings docs docs'))
+        (bind_step docs (bind_layer (λ env cx. fail NotBuilt) (bind_step docs) (expr_step docs) (start_step docs) (product_step docs) (key_step docs) (step_step docs) (sum_step docs) go (out-Bind b)))
+        (bind_step docs' (bind_layer (λ env cx. fail NotBuilt) (bind_step docs') (expr_step docs') (start_step docs') (product_step docs') (key_step docs') (step_step docs') (sum_step docs') go' (out-Bind b))))
+        (names_of_bind gn) (λ b q. bind_layer_alike (out-Bind b) q) binds hb)
+        env cx v c no_tuples tt)
+        (λ all g made.
+        let t = returned_alike docs docs' (go result) (go' result) (same result hr) cx c
+        (sorted (map (λ k. record { value = go k.expr; descending = k.descending }) keys) all.rows)
+        (sorted_known docs docs' (map (λ k. record { value = go k.expr; descending = k.descending }) keys) all.rows g) made in (
+          t.0 ∙ ap (λ rows. returned (go' result) cx rows made)
+              (sorted_same docs docs' (λ k. go k.expr) (λ k. go' k.expr) (λ k. k.descending) keys all.rows),
+          t.1,
+        ))
 
     value_alike : (l : Expr-F Bind Expr Start ProductPart SortKey Step SumPart) → Each KnownName (names.expr_step (names_layer gn l))
         → MeansAlike docs docs' (value_of docs (layer_of docs go l)) (value_of docs' (layer_of docs' go' l))
@@ -254,64 +256,66 @@ module _ (docs docs' : Documents) (go go' : Expr → Means) (gn : Expr → names
     value_alike (Expr-F.Flwor binds None keys result) h env cx v c =
         let rest = each_rest KnownName (names.joined (map (names_of_bind gn) binds)) (names.joined (map (λ k. gn k.expr) keys) ++ gn result) h in
         flwor_alike binds keys result None None (λ env1 cx1 v1 c1. give_alike Any true tt)
-          (each_front KnownName (names.joined (map (names_of_bind gn) binds)) (names.joined (map (λ k. gn k.expr) keys) ++ gn result) h)
-          (each_front KnownName (names.joined (map (λ k. gn k.expr) keys)) (gn result) rest) (each_rest KnownName (names.joined (map (λ k. gn k.expr) keys)) (gn result) rest) env cx v c
+        (each_front KnownName (names.joined (map (names_of_bind gn) binds)) (names.joined (map (λ k. gn k.expr) keys) ++ gn result) h)
+        (each_front KnownName (names.joined (map (λ k. gn k.expr) keys)) (gn result) rest) (each_rest KnownName (names.joined (map (λ k. gn k.expr) keys)) (gn result) rest) env cx v c
     value_alike (Expr-F.Flwor binds (Some filter) keys result) h env cx v c =
         let rest = each_rest KnownName (names.joined (map (names_of_bind gn) binds)) (gn filter ++ (names.joined (map (λ k. gn k.expr) keys) ++ gn result)) h in
         let last = each_rest KnownName (gn filter) (names.joined (map (λ k. gn k.expr) keys) ++ gn result) rest in
         flwor_alike binds keys result (Some (go filter)) (Some (go' filter))
-          (λ env1 cx1 v1 c1. truth_alike docs docs' (go filter) (go' filter) (same filter (each_front KnownName (gn filter) (names.joined (map (λ k. gn k.expr) keys) ++ gn result) rest)) env1 cx1 v1 c1)
-          (each_front KnownName (names.joined (map (names_of_bind gn) binds)) (gn filter ++ (names.joined (map (λ k. gn k.expr) keys) ++ gn result)) h)
-          (each_front KnownName (names.joined (map (λ k. gn k.expr) keys)) (gn result) last) (each_rest KnownName (names.joined (map (λ k. gn k.expr) keys)) (gn result) last) env cx v c
+        (λ env1 cx1 v1 c1. truth_alike docs docs' (go filter) (go' filter) (same filter (each_front KnownName (gn filter) (names.joined (map (λ k. gn k.expr) keys) ++ gn result) rest)) env1 cx1 v1 c1)
+        (each_front KnownName (names.joined (map (names_of_bind gn) binds)) (gn filter ++ (names.joined (map (λ k. gn k.expr) keys) ++ gn result)) h)
+        (each_front KnownName (names.joined (map (λ k. gn k.expr) keys)) (gn result) last) (each_rest KnownName (names.joined (map (λ k. gn k.expr) keys)) (gn result) last) env cx v c
     value_alike (Expr-F.If test good other) h env cx v c =
         let rest = each_rest KnownName (gn test) (gn good ++ gn other) h in
         bind_alike Any KI _ _ _ _ (truth_alike docs docs' (go test) (go' test) (same test (each_front KnownName (gn test) (gn good ++ gn other) h)) env cx v c) (λ b _.
-          if_alike docs docs' KI b _ _ _ _ (same good (each_front KnownName (gn good) (gn other) rest) env cx v c) (same other (each_rest KnownName (gn good) (gn other) rest) env cx v c))
+        if_alike docs docs' KI b _ _ _ _ (same good (each_front KnownName (gn good) (gn other) rest) env cx v c) (same other (each_rest KnownName (gn good) (gn other) rest) env cx v c))
     value_alike (Expr-F.Or parts) h env cx v c =
         bind_alike Any KI _ _ _ _ (any_of_alike docs docs' go go' parts (all_alike parts h) env cx v c) (λ b _. give_alike KI (boolean_value b) (tt, tt))
     value_alike (Expr-F.And parts) h env cx v c =
         bind_alike Any KI _ _ _ _ (all_of_alike docs docs' go go' parts (all_alike parts h) env cx v c) (λ b _. give_alike KI (boolean_value b) (tt, tt))
     value_alike (Expr-F.Compare left op right) h env cx v c =
         bind_alike KI KI _ _ _ _ (same left (each_front KnownName (gn left) (gn right) h) env cx v c) (λ a g.
-          bind_alike KI KI _ _ _ _ (same right (each_rest KnownName (gn left) (gn right) h) env cx v c) (λ b k.
-            bind_alike Any KI _ _ _ _
-              (look_alike Any _ _ (λ made. ((λ i. compares op (atoms_same docs docs' made a g i) (atoms_same docs docs' made b k i)), any_fine (compares op (atomized docs made a) (atomized docs made b)))))
-              (λ t _. give_alike KI (boolean_value t) (tt, tt))))
+        bind_alike KI KI _ _ _ _ (same right (each_rest KnownName (gn left) (gn right) h) env cx v c) (λ b k.
+        bind_alike Any KI _ _ _ _
+        (look_alike Any _ _ (λ made. ((λ i. compares op (atoms_same docs docs' made a g i) (atoms_same docs docs' made b k i)), any_fine (compares op (atomized docs made a) (atomized docs made b)))))
+        (λ t _. give_alike KI (boolean_value t) (tt, tt))))
     value_alike (Expr-F.Range low high) h env cx v c =
         bind_alike KI KI _ _ _ _ (same low (each_front KnownName (gn low) (gn high) h) env cx v c) (λ a g.
-          bind_alike KI KI _ _ _ _ (same high (each_rest KnownName (gn low) (gn high) h) env cx v c) (λ b k.
-            look_alike KI _ _ (λ made. ((λ i. operated range_of (atoms_same docs docs' made a g i) (atoms_same docs docs' made b k i)),
-              operated_fine docs docs' range_of (range_fine docs docs') (atomized docs made a) (atomized docs made b)))))
+        bind_alike KI KI _ _ _ _ (same high (each_rest KnownName (gn low) (gn high) h) env cx v c) (λ b k.
+        look_alike KI _ _ (λ made. (
+          (λ i. operated range_of (atoms_same docs docs' made a g i) (atoms_same docs docs' made b k i)),
+          operated_fine docs docs' range_of (range_fine docs docs') (atomized docs made a) (atomized docs made b),
+        ))))
     value_alike (Expr-F.Sum start rest) h env cx v c =
         bind_alike KI KI _ _ _ _ (same start (each_front KnownName (gn start) (names.joined (map (λ p. gn p.expr) rest)) h) env cx v c) (λ a g.
-          bind_alike (Each (λ p. KI p.1)) KI _ _ _ _
-            (parts_alike docs docs' (λ p. go p.expr) (λ p. go' p.expr) (λ p. p.minus) rest
-              (each_of (λ p. MeansAlike docs docs' (go p.expr) (go' p.expr)) (λ p. gn p.expr) (λ p q. same p.expr q) rest (each_rest KnownName (gn start) (names.joined (map (λ p. gn p.expr) rest)) h)) env cx v c)
-            (λ more k. look_alike KI _ _ (λ made. (chained_same docs docs' sum_op (sum_fine docs docs') made a more g k, chained_fine docs docs' sum_op (sum_fine docs docs') made a more g))))
+        bind_alike (Each (λ p. KI p.1)) KI _ _ _ _
+        (parts_alike docs docs' (λ p. go p.expr) (λ p. go' p.expr) (λ p. p.minus) rest
+        (each_of (λ p. MeansAlike docs docs' (go p.expr) (go' p.expr)) (λ p. gn p.expr) (λ p q. same p.expr q) rest (each_rest KnownName (gn start) (names.joined (map (λ p. gn p.expr) rest)) h)) env cx v c)
+        (λ more k. look_alike KI _ _ (λ made. (chained_same docs docs' sum_op (sum_fine docs docs') made a more g k, chained_fine docs docs' sum_op (sum_fine docs docs') made a more g))))
     value_alike (Expr-F.Product start rest) h env cx v c =
         bind_alike KI KI _ _ _ _ (same start (each_front KnownName (gn start) (names.joined (map (λ p. gn p.expr) rest)) h) env cx v c) (λ a g.
-          bind_alike (Each (λ p. KI p.1)) KI _ _ _ _
-            (parts_alike docs docs' (λ p. go p.expr) (λ p. go' p.expr) (λ p. p.op) rest
-              (each_of (λ p. MeansAlike docs docs' (go p.expr) (go' p.expr)) (λ p. gn p.expr) (λ p q. same p.expr q) rest (each_rest KnownName (gn start) (names.joined (map (λ p. gn p.expr) rest)) h)) env cx v c)
-            (λ more k. look_alike KI _ _ (λ made. (chained_same docs docs' product_op (product_fine docs docs') made a more g k, chained_fine docs docs' product_op (product_fine docs docs') made a more g))))
+        bind_alike (Each (λ p. KI p.1)) KI _ _ _ _
+        (parts_alike docs docs' (λ p. go p.expr) (λ p. go' p.expr) (λ p. p.op) rest
+        (each_of (λ p. MeansAlike docs docs' (go p.expr) (go' p.expr)) (λ p. gn p.expr) (λ p q. same p.expr q) rest (each_rest KnownName (gn start) (names.joined (map (λ p. gn p.expr) rest)) h)) env cx v c)
+        (λ more k. look_alike KI _ _ (λ made. (chained_same docs docs' product_op (product_fine docs docs') made a more g k, chained_fine docs docs' product_op (product_fine docs docs') made a more g))))
     value_alike (Expr-F.Union parts) h env cx v c =
         bind_alike (Each (KnownNode docs docs')) KI _ _ _ _
-          (bind_alike (Each KI) (Each (KnownNode docs docs')) _ _ _ _ (values_alike docs docs' go go' parts (all_alike parts h) env cx v c)
-            (λ lists g. plain_alike (Each (KnownNode docs docs')) (united_all [] lists) (united_all_fine docs docs' [] lists tt g)))
-          (λ ns k. give_alike KI (map node ns) (nodes_as_items docs docs' ns k))
+        (bind_alike (Each KI) (Each (KnownNode docs docs')) _ _ _ _ (values_alike docs docs' go go' parts (all_alike parts h) env cx v c)
+        (λ lists g. plain_alike (Each (KnownNode docs docs')) (united_all [] lists) (united_all_fine docs docs' [] lists tt g)))
+        (λ ns k. give_alike KI (map node ns) (nodes_as_items docs docs' ns k))
     value_alike (Expr-F.Signed signs inner) h env cx v c =
         bind_alike KI KI _ _ _ _ (same inner h env cx v c) (λ a g. look_alike KI _ _ (λ made. (signed_same docs docs' made signs a g, signed_fine docs docs' made signs a g)))
     value_alike (Expr-F.Path start rest) h env cx v c =
         bind_alike KI KI _ _ _ _ (start_layer_alike (out-Start start) (each_front KnownName _ (names.joined (map (λ s. names.joined (map gn s.preds)) rest)) h) env cx v c)
-          (λ items g. path_from_alike docs docs' (λ s. s.deep) (from_node docs go) (from_node docs' go') rest
-            (each_of (λ s. StepAlike docs docs' (from_node docs go s) (from_node docs' go' s)) (λ s. names.joined (map gn s.preds)) step_alike rest
-              (each_rest KnownName _ (names.joined (map (λ s. names.joined (map gn s.preds)) rest)) h)) env v items g)
+        (λ items g. path_from_alike docs docs' (λ s. s.deep) (from_node docs go) (from_node docs' go') rest
+        (each_of (λ s. StepAlike docs docs' (from_node docs go s) (from_node docs' go' s)) (λ s. names.joined (map gn s.preds)) step_alike rest
+        (each_rest KnownName _ (names.joined (map (λ s. names.joined (map gn s.preds)) rest)) h)) env v items g)
     value_alike (Expr-F.Filter inner preds) h env cx v c =
         bind_alike KI KI _ _ _ _ (same inner (each_front KnownName (gn inner) (names.joined (map gn preds)) h) env cx v c)
-          (λ items g. filtered_alike docs docs' (KnownItem docs docs') (λ x. x) (λ x q. q) go go' preds (all_alike preds (each_rest KnownName (gn inner) (names.joined (map gn preds)) h)) env v items g)
+        (λ items g. filtered_alike docs docs' (KnownItem docs docs') (λ x. x) (λ x q. q) go go' preds (all_alike preds (each_rest KnownName (gn inner) (names.joined (map gn preds)) h)) env v items g)
     value_alike (Expr-F.Fun name args) h env cx v c =
         bind_alike (Each KI) KI _ _ _ _ (values_alike docs docs' go go' args (all_alike args h) env cx v c)
-          (λ lists g. look_alike KI (λ made. call_function docs made cx name lists) (λ made. call_function docs' made cx name lists) (λ made. call_same docs docs' made cx name lists c g))
+        (λ lists g. look_alike KI (λ made. call_function docs made cx name lists) (λ made. call_function docs' made cx name lists) (λ made. call_same docs docs' made cx name lists c g))
     value_alike (Expr-F.Doc name) h env cx v c =
         λ made. (ap (λ o. plain (document_node docs o name) made) h.0, (plain_alike KI (document_node docs (docs name) name) (document_fine docs docs' name (docs name) h.0) made).1)
     value_alike (Expr-F.Element name None) h env cx v c = element_alike name (content_or None) (content_or None) nothing_alike env cx v c
@@ -346,7 +350,7 @@ module _ (docs docs' : Documents) where
       let m = bounded (λ env cx. fail NotBuilt) (bind_step docs) (expr_step docs) (start_step docs) (product_step docs) (key_step docs) (step_step docs) (sum_step docs) n e f in
       let m' = bounded (λ env cx. fail NotBuilt) (bind_step docs') (expr_step docs') (start_step docs') (product_step docs') (key_step docs') (step_step docs') (sum_step docs') n e f in
       subst (λ x. MeansAlike docs docs' x (meaning docs' e)) m
-        (subst (λ x. MeansAlike docs docs' (meaning_to docs n e) x) m' (alike_to n e (subst (Each (λ name. docs name ≡ docs' name)) (sym q) h)))
+      (subst (λ x. MeansAlike docs docs' (meaning_to docs n e) x) m' (alike_to n e (subst (Each (λ name. docs name ≡ docs' name)) (sym q) h)))
 
   -- an expression by itself gives the same by both, and only nodes of trees that both have
   pub framed : (e : Expr) → Each (λ name. docs name ≡ docs' name) (names.documents e)
