@@ -8,3 +8,4 @@ mod UpTo
 mod Standing
 mod Others
 mod Put
+mod TextLines

@@ -212,3 +212,10 @@ stands pages doc valid utf8 has = record {
   has = has;
   spells = record { utf8 = utf8; reads = ap read (text_again doc valid) ∙ read_again doc valid };
 }
+
+-- so where it was put
+pub document_put : {T E : Type 0} (r : Result T E) (new : Work) (space : Space) (doc : Doc) → IsValid doc → IsUtf8 (text_of (pyx doc))
+    → OnOk r ((all : PageId → Option (List ℕ)) → HasText (seen new.now all space) (text_of (pyx doc)))
+    → OnOk r ((all : PageId → Option (List ℕ)) → StandsForFlat (seen new.now all space) doc)
+document_put (Ok x) new space doc valid utf8 has = λ all. stands (seen new.now all space) doc valid utf8 (has all)
+document_put (Err e) new space doc valid utf8 has = tt

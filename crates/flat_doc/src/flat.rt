@@ -14,6 +14,7 @@ ghost use Rattle.flat_doc.specs.Meaning.{HasText, StandsForFlat};
 use crate::pieces::text_length;
 use crate::putting::{pages_of, put_pages};
 use crate::reading::read_text;
+use crate::typed::document;
 use page_bytes::{NoMemory, PageEnd, Pages, Space, Workspace};
 use std::alloc::Global;
 use xml_model::Doc;
@@ -26,6 +27,7 @@ pub fn put_flat(alloc: Global, doc: &Doc, space: Space, work: &mut Workspace) ->
     ensures text { OnOk result ((all : PageId → Option (List ℕ)) → HasText (seen work.new.now all space) (text_of (pyx doc.now))) }
     ensures meaning { IsValid doc.now → OnOk result ((all : PageId → Option (List ℕ)) → StandsForFlat (seen work.new.now all space) doc.now) }
 {
+    document(doc);
     match pages_of(alloc, doc) {
         Ok(pages) => put_pages(work, space, pages),
         Err(NoMemory) => Err(PageEnd::NoMemory),

@@ -16,6 +16,7 @@ mod pieces;
 mod putting;
 mod reading;
 mod sink;
+mod typed;
 #[cfg(test)]
 mod tries;
 
