@@ -35,8 +35,7 @@ around_utf8 front b rest small is =
     let here : get_or whole i 0 ≡ b = get_or_at front b rest 0 i refl in
     let ascii : get_or whole i 0 < 128 = subst (λ x. x < 128) (sym here) small in
     let count : length (front ++ b ∷ []) ≡ i + 1 = length-append front (b ∷ []) in
-    let behind : drop (i + 1) whole ≡ rest = ap (drop (i + 1)) (sym (append_assoc front (b ∷ []) rest)) ∙ drop_at (front ++ b ∷ []) rest (i + 1) count in
-    (
+    let behind : drop (i + 1) whole ≡ rest = ap (drop (i + 1)) (sym (append_assoc front (b ∷ []) rest)) ∙ drop_at (front ++ b ∷ []) rest (i + 1) count in (
       subst IsUtf8 (take_at front (b ∷ rest) i refl) (IsUtf8-take whole i is (IsCharBoundary-before_ascii whole i (omega (arith, long)) ascii)),
       subst IsUtf8 behind (IsUtf8-drop whole (i + 1) is (IsCharBoundary-after_ascii whole i is (omega (arith, long)) ascii)),
     )
@@ -125,7 +124,7 @@ pub attributes_more : (attrs : List Attr) (i : ℕ) (d a : Attr) → i < length 
 attributes_more attrs i d a within at is next =
     let front = attributes_text (take i attrs) in
     subst IsUtf8 (ap (λ x. front ++ text_of (attribute_line x ∷ [])) at ∙ sym (attributes_text-append (take i attrs) (get_or attrs i d ∷ []))
-        ∙ ap attributes_text (sym (take_more attrs i d within)))
+    ∙ ap attributes_text (sym (take_more attrs i d within)))
     (IsUtf8-append front (text_of (attribute_line a ∷ [])) is next)
 
 -- one node more
@@ -134,5 +133,5 @@ pub nodes_more : (nodes : List Node) (i : ℕ) (d n : Node) → i < length nodes
 nodes_more nodes i d n within at is next =
     let front = nodes_text (take i nodes) in
     subst IsUtf8 (ap (λ x. front ++ text_of (pyx_node x)) at ∙ ap (λ l. front ++ l) (sym (nodes_text-one (get_or nodes i d)))
-        ∙ sym (nodes_text-append (take i nodes) (get_or nodes i d ∷ [])) ∙ ap nodes_text (sym (take_more nodes i d within)))
+    ∙ sym (nodes_text-append (take i nodes) (get_or nodes i d ∷ [])) ∙ ap nodes_text (sym (take_more nodes i d within)))
     (IsUtf8-append front (text_of (pyx_node n)) is next)

@@ -17,8 +17,6 @@ mod putting;
 mod reading;
 mod sink;
 mod typed;
-#[cfg(test)]
-mod tries;
 
 pub use flat::{get_flat, put_flat};
 pub use laws::flat_laws;
