@@ -1,5 +1,5 @@
 //! Plain trees behind `Nav`: the documents of a map, each as the rows of its nodes.
-ghost use Rattle.std.specs.Prelude.{◌≡◌, ℕ, ◌<◌, map as list_map, is_some, length, ◌^◌, IfSome, IfNone, IfOk};
+ghost use Rattle.std.specs.Prelude.{◌≡◌, ℕ, ◌-◌, ◌<◌, map as list_map, is_some, length, ◌^◌, IfSome, IfNone, IfOk};
 ghost use Rattle.std.specs.FinMap as map;
 ghost use Rattle.std.specs.Option.{option_map, option_copied};
 ghost use Rattle.std.specs.List.{slice_get};

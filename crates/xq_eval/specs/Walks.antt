@@ -1,7 +1,19 @@
--- Nodes and their numbers.
-use Rattle.std.specs.Prelude.{ℕ, ◌<◌, List, [], ◌∷◌}
+-- Attributes and other nodes.
+use Rattle.std.specs.Prelude.{Bool, true, false, not}
+use Rattle.xq_ast.specs.declared.kind.Kind.{Kind}
+use Rattle.xq_ast.specs.declared.kind.Kind.TheVariants as kind
+use Rattle.xml_model.specs.Forest.{Forest}
+use Rattle.xml_model.specs.Nav.{Stored, stored_at, told_at}
 
--- each is less
-abbrev pub AreBelow : {I : Type 0} → (I → ℕ) → ℕ → List I → Type 0
-AreBelow number n [] = Unit {0}
-AreBelow number n (m ∷ more) = (number m < n) × AreBelow number n more
+abbrev pub is_of_attributes : Kind → Bool
+is_of_attributes kind.Document = false
+is_of_attributes kind.Element = false
+is_of_attributes kind.Attribute = true
+is_of_attributes kind.Text = false
+is_of_attributes kind.Pi = false
+
+abbrev pub is_attribute : Forest → Stored → Bool
+is_attribute F node = is_of_attributes (told_at (stored_at F node)).kind
+
+abbrev pub is_child : Forest → Stored → Bool
+is_child F node = not (is_attribute F node)

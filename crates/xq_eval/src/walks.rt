@@ -1,20 +1,29 @@
-//! What stands in a node, and its text.
+//! What stands in a node.
 ghost use Rattle.std.specs.Prelude.{◌≡◌, ◌++◌, map, IfOk, IfErr, OnOk};
-ghost use Rattle.xml_model.specs.Axes.{held_nodes, nodes_at, child_places, attribute_places, descendant_places, string_of_node};
+ghost use Rattle.xml_model.specs.Axes.{held_nodes, nodes_at, child_places, attribute_places, descendant_places};
 ghost use Rattle.xml_model.specs.NavFaults.{Passes};
-ghost use Rattle.xq_eval.specs.Walks.{AreBelow};
+ghost use Rattle.xq_eval.specs.Walks.{is_attribute};
 
 use std::alloc::Global;
 use xml_model::{Id, Nav, NavEnd};
-use xq_ast::{Kind, NoMemory, Sequence, Str};
+use xq_ast::{Kind, Sequence};
 
 /// Nodes.
 pub type IdList = Sequence<Id>;
 
+pub(crate) fn is_attribute<N: Nav>(nav: &N, n: Id) -> Result<bool, NavEnd<N::Fault>>
+    ensures gives { IfOk result (λ b. N.honest nav.now → b ≡ is_attribute (N.forest nav.now) (N.place nav.now n)) }
+    ensures fault { IfErr result (Passes (N.passes nav.now)) }
+{
+    match nav.kind(n) {
+        Ok(kind) => Ok(kind == Kind::Attribute),
+        Err(fault) => Err(NavEnd::Nav(fault)),
+    }
+}
+
 /// What stands in a node: its attributes, then its children.
 pub fn held<N: Nav>(alloc: Global, nav: &N, n: Id) -> Result<IdList, NavEnd<N::Fault>>
     ensures gives { IfOk result (λ all. N.honest nav.now → map (N.place nav.now) all ≡ held_nodes (N.forest nav.now) (N.place nav.now n)) }
-    ensures falls { IfOk result (AreBelow (N.number nav.now) (N.number nav.now n)) }
     ensures fault { IfErr result (Passes (N.passes nav.now)) }
 {
     let mut all = Sequence::new(alloc);
@@ -30,4 +39,56 @@ pub fn held<N: Nav>(alloc: Global, nav: &N, n: Id) -> Result<IdList, NavEnd<N::F
         };
     }
     Ok(all)
+}
+
+/// The attributes of a node.
+pub fn attributes<N: Nav>(alloc: Global, nav: &N, n: Id) -> Result<IdList, NavEnd<N::Fault>>
+    ensures gives { IfOk result (λ all. N.honest nav.now → map (N.place nav.now) all ≡ nodes_at attribute_places (N.forest nav.now) (N.place nav.now n)) }
+    ensures fault { IfErr result (Passes (N.passes nav.now)) }
+{
+    let nodes = held(alloc, nav, n)?;
+    let mut all = Sequence::new(alloc);
+    for m in nodes.as_slice() {
+        if is_attribute(nav, *m)? {
+            all.push(*m)?;
+        }
+    }
+    Ok(all)
+}
+
+/// The children of a node.
+pub fn children<N: Nav>(alloc: Global, nav: &N, n: Id) -> Result<IdList, NavEnd<N::Fault>>
+    ensures gives { IfOk result (λ all. N.honest nav.now → map (N.place nav.now) all ≡ nodes_at child_places (N.forest nav.now) (N.place nav.now n)) }
+    ensures fault { IfErr result (Passes (N.passes nav.now)) }
+{
+    let nodes = held(alloc, nav, n)?;
+    let mut all = Sequence::new(alloc);
+    for m in nodes.as_slice() {
+        if !is_attribute(nav, *m)? {
+            all.push(*m)?;
+        }
+    }
+    Ok(all)
+}
+
+// Adds all nodes below a node, attributes aside, in document order.
+pub(crate) fn add_below<N: Nav>(all: &mut IdList, nav: &N, n: Id) -> Result<(), NavEnd<N::Fault>>
+    ensures gives { OnOk result (N.honest nav.now → map (N.place nav.now) all.new ≡ map (N.place nav.now) all.old ++ nodes_at descendant_places (N.forest nav.now) (N.place nav.now n)) }
+    ensures fault { IfErr result (Passes (N.passes nav.now)) }
+{
+    let mut at = match nav.first(n) {
+        Ok(first) => first,
+        Err(fault) => return Err(NavEnd::Nav(fault)),
+    };
+    while let Some(m) = at {
+        if !is_attribute(nav, m)? {
+            all.push(m)?;
+            add_below(all, nav, m)?;
+        }
+        at = match nav.next(m) {
+            Ok(next) => next,
+            Err(fault) => return Err(NavEnd::Nav(fault)),
+        };
+    }
+    Ok(())
 }

@@ -1,7 +1,6 @@
 use Rattle.std.proofs.Common.{◌≡◌, ℕ, ◌+◌, ◌<◌, ◌++◌, map, Option, Some, None, IfSome}
 use Rattle.std.specs.Option.{option_map}
 use Rattle.xml_model.specs.Axes.{held_nodes}
-use Rattle.xq_eval.specs.Walks.{AreBelow}
 use Rattle.xq_eval.proofs.Chain.{seen_nodes}
 use Rattle.xq_eval.proofs.walks.held.Given as goal
 
@@ -12,7 +11,6 @@ left number (Some n) = number n + 1
 abbrev pub invariant-loop-at : goal.invariant-loop-at
 invariant-loop-at g l =
     (g.N.Nav.honest l.nav → map (g.N.Nav.place l.nav) l.all ++ seen_nodes (g.N.Nav.forest l.nav) (option_map (g.N.Nav.place l.nav) l.at) ≡ held_nodes (g.N.Nav.forest l.nav) (g.N.Nav.place l.nav l.n))
-    × AreBelow (g.N.Nav.number l.nav) (g.N.Nav.number l.nav l.n) l.all
     × IfSome l.at (λ m. g.N.Nav.number l.nav m < g.N.Nav.number l.nav l.n)
 
 abbrev pub decreases-loop-at : goal.decreases-loop-at
