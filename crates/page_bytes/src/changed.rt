@@ -42,6 +42,13 @@ impl Changed {
         }
     }
 
+    /// Puts the bytes of a draft of its own into the page, so that copies share them.
+    pub fn settle(&mut self, alloc: Global) -> Result<(), NoMemory>
+        ensures { self.new ≡ self.old }
+    {
+        settle(alloc, &mut self.own, &mut self.page)
+    }
+
     /// The bytes, to write to. They are copied first where another page shares them.
     pub fn edit(&mut self, alloc: Global) -> Result<&mut Draft, NoMemory>
         ensures* writes_back { sem 𝓛 (lends_changed self.entry result) }

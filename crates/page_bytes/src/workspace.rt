@@ -27,7 +27,7 @@ use std::alloc::Global;
 use std::marker::Model;
 
 /// Pages below, and over them what has changed since: drafts of pages, pages that are gone, and spaces of which only
-/// the drafts are there.
+/// the drafts are there. The page that an edit made last has its name, since its bytes may stand in a draft of its own.
 #[derive(Drop)]
 pub struct Workspace {
     alloc: Global,
@@ -35,6 +35,7 @@ pub struct Workspace {
     drafts: PageTable<Changed>,
     gone: PageTable<()>,
     whole: SpaceSet,
+    made: Option<PageId>,
 }
 
 impl Model for Workspace {
@@ -92,6 +93,7 @@ impl Workspace {
             drafts: PageTable::new(alloc),
             gone: PageTable::new(alloc),
             whole: SpaceSet::new(alloc),
+            made: None,
         }
     }
 
@@ -146,7 +148,9 @@ impl Workspace {
             };
         }
         let draft = Draft::copy_of(alloc, page.bytes())?;
+        settle(alloc, &mut self.drafts, self.made)?;
         self.drafts.insert(id, Changed::of(page))?;
+        self.made = Some(id);
         Ok(self.drafts.lend(id).renew(draft))
     }
 
@@ -241,9 +245,9 @@ impl Workspace {
         Ok(number)
     }
 
-    /// The same workspace. All its pages are shared, those that have changed too, so this takes the time and memory of the
-    /// tables' entries, and no page's bytes are copied. The first edit of a changed page in either workspace after this
-    /// copies that page's bytes.
+    /// The same workspace. Its pages are shared, those that have changed too, so this takes the time and memory of the tables'
+    /// entries; of one page at most, the last that an edit made where none was, the bytes are copied. The first edit of a
+    /// changed page in either workspace after this copies that page's bytes.
     pub fn copy(&self) -> Result<Workspace, NoMemory>
         ensures { IfOk result (λ copy. copy ≡ self.now) }
     {
@@ -253,6 +257,7 @@ impl Workspace {
             drafts: self.drafts.copy()?,
             gone: self.gone.copy()?,
             whole: self.whole.copy()?,
+            made: self.made,
         })
     }
 
@@ -270,6 +275,7 @@ impl Workspace {
             drafts,
             gone,
             whole,
+            made: _,
         } = self;
         let left = Left {
             below,
@@ -294,4 +300,20 @@ fn own(drafts: &mut PageTable<Changed>, below: &PageTable<Page>, id: PageId) -> 
     }
     let page = below.get(id).unwrap();
     drafts.insert(id, Changed::of(page.copy()?))
+}
+
+// Puts the bytes of this page's own draft into a page that copies share.
+fn settle(
+    alloc: Global,
+    drafts: &mut PageTable<Changed>,
+    made: Option<PageId>,
+) -> Result<(), NoMemory>
+    ensures { drafts.new ≡ drafts.old }
+{
+    if let Some(id) = made
+        && drafts.has(id)
+    {
+        drafts.lend(id).settle(alloc)?;
+    }
+    Ok(())
 }

@@ -1,5 +1,5 @@
 -- The names in a call's needs stand in the call, so they are plain where the call's names are good.
-use Rattle.std.proofs.Common.{◌≡◌, ℕ, true, IsTrue, ◌&&◌, List, [], ◌∷◌, ◌++◌, map, refl, sym, subst}
+use Rattle.std.proofs.Common.{◌≡◌, ℕ, true, IsTrue, ◌&&◌, List, [], ◌∷◌, ◌++◌, length, map, refl, sym, ap, subst, ◌∙◌, arith}
 use Rattle.std.specs.List.{list_all}
 use Rattle.std.specs.Ordering.{nat_cmp}
 use Rattle.std.specs.Cmp.Lexicographic.{slice_cmp, nat_list_cmp_total}
@@ -61,9 +61,13 @@ all_plain : (asked : List Need) (names : Names) → HavePlainNames asked → Are
 all_plain [] names asked all = all
 all_plain (n ∷ ns) names asked all = all_plain ns (with_need names n) asked.1 (added_plain names n asked.0 all)
 
+no_entries : (es : List Entry) → length es ≡ 0 → ArePlainEntries es
+no_entries [] none = tt
+no_entries (e ∷ es) none = absurd (omega arith)
+
 none_plain : (names : Names) → names ≡ empty → ArePlainEntries (entries names)
-unfolding entries empty
-none_plain names is = subst (λ (m : Names). ArePlainEntries (entries m)) (sym is) tt
+none_plain names is =
+    no_entries (entries names) (sym (fin.len-entries names) ∙ (ap (λ (m : Names). fin.len m) is ∙ fin.len-empty (slice_cmp nat_cmp) LockMode))
 
 listed_plain : (es : List Entry) → ArePlainEntries es → HavePlainNames (map need_of es)
 listed_plain [] all = tt

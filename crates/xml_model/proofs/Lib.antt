@@ -1,3 +1,5 @@
+pub mod Bounded
+pub mod Computing
 pub mod Building
 pub mod Chains
 pub mod Entries
@@ -12,6 +14,7 @@ pub mod ReadAgain
 pub mod ReadIsValid
 pub mod ReadIsSpelled
 pub mod SpelledIsRead
+mod MeaningRows
 mod NavRows
 pub mod NodeCases
 pub mod Numbered

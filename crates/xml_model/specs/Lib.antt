@@ -15,5 +15,13 @@ pub mod Axes
 pub mod DocumentOrder
 pub mod Numbering
 pub mod NavFaults
+pub mod Items
+pub mod Atoms
+pub mod Nodes
+pub mod Constructors
+pub mod FunctionAnswers
+pub mod Tuples
+pub mod Evaluation
+pub mod ItemLines
 pub mod TreeRows
 pub mod TreeNodes

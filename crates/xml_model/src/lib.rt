@@ -26,6 +26,7 @@ mod text_lines;
 mod tree_nav;
 mod tree_rows;
 mod valid;
+mod value;
 
 pub use call_needs::needs;
 pub use changes::DocChanges;
@@ -34,7 +35,7 @@ pub use laws::{
     calls_keep_to_their_needs, canonical_text_is_read_again, pyx_is_read_again,
     read_just_where_spelled, statements_keep_forests, what_is_counted, what_is_read_is_valid,
 };
-pub use limits::{DEPTH_MAX, NODES_MAX, REPLY_BYTES_MAX, TEXT_BYTES_MAX};
+pub use limits::{DEPTH_MAX, ITEMS_MAX, NODES_MAX, REPLY_BYTES_MAX, TEXT_BYTES_MAX};
 pub use nav::{Id, NUMBER_MAX, Nav, NavEnd};
 pub use node::{Attr, AttrList, Doc, Measure, Node, NodeList, RefusedLine};
 pub use place::{Place, PlaceStep, place_order};
@@ -42,4 +43,5 @@ pub use text_lines::{FirstLine, first_line};
 pub use tree_nav::{NoFault, TreeNav};
 pub use tree_rows::{PlacedRef, TreeRows};
 pub use valid::has_attribute;
+pub use value::{Atom, Key, KeyType, SharedText};
 pub use xq_ast::{NAME_BYTES_MAX, is_name};

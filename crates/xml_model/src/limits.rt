@@ -10,3 +10,6 @@ pub const TEXT_BYTES_MAX: u64 = 268_435_456;
 
 /// The most bytes of an answer's lines with their newlines.
 pub const REPLY_BYTES_MAX: u64 = 67_108_864;
+
+/// The most items of an expression's value.
+pub const ITEMS_MAX: u64 = 8_388_608;

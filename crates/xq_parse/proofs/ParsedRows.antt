@@ -1,10 +1,8 @@
 -- Worked rows of tokens and of calls. Each computes.
-use Rattle.std.specs.Prelude.{◌≡◌, ℕ, Bool, true, false, List, [], ◌∷◌, ◌++◌, map, Option, None, Some, Result, Ok, Err, refl, pos, codes, replicate}
+use Rattle.std.specs.Prelude.{◌≡◌, ℕ, true, false, List, [], ◌∷◌, ◌++◌, map, Option, None, Some, Ok, Err, refl, pos, codes, replicate}
 use Rattle.xq_ast.specs.declared.token.Symbol.TheVariants.{OpenRound, CloseRound, SlashSlash, Slash, DotDot, Dot, ColonColon, Assign, LessOrEqual, Minus, Dollar}
 use Rattle.xq_ast.specs.declared.token.Token.TheVariants.{Name, Text, Int, Symbol}
-use Rattle.xq_ast.specs.declared.step.Axis.{Axis}
 use Rattle.xq_ast.specs.declared.step.Axis.TheVariants as axis
-use Rattle.xq_ast.specs.declared.step.Test.{Test}
 use Rattle.xq_ast.specs.declared.step.Test.TheVariants as kind
 use Rattle.xq_ast.specs.declared.tree.CompareOp.TheVariants as compare
 use Rattle.xq_ast.specs.declared.tree.ProductOp.TheVariants.{Times, Idiv, Mod}
@@ -18,8 +16,7 @@ use Rattle.xq_ast.specs.declared.update.Update.TheVariants as updates
 use Rattle.xq_ast.specs.declared.call.Call.{Call}
 use Rattle.xq_ast.specs.declared.call.Call.TheVariants as call
 use Rattle.xq_ast.specs.declared.call.CallText.{CallText}
-use Rattle.xq_ast.specs.declared.code.Code.{Code}
-use Rattle.xq_ast.specs.declared.code.Code.TheVariants.{XPST0003, NestedTooDeep, BadName, XPST0017, XPST0008}
+use Rattle.xq_ast.specs.declared.code.Code.TheVariants.{XPST0003, NestedTooDeep, BadName}
 use Rattle.xq_ast.specs.Tokens.{◌>>=◌, tokens, token_lengths}
 use Rattle.xq_ast.specs.Grammar.{key, sum_part, product_part, step, step_behind}
 use Rattle.xq_ast.specs.Parsed.{most_open}

@@ -1,6 +1,7 @@
 // All workers at once.
 ghost use Rattle.std.specs.Prelude.{All, ◌≡◌, ◌≤◌, ◌+◌, ◌<◌, [], map, length, vec_len, vec_capacity, IfOk, false};
 ghost use Rattle.hist_lock.specs.Crew.{hand, AllReady, AtLock, Ready, kept_by, Tells};
+ghost use Rattle.hist_lock.specs.Passes.{most_passes};
 ghost use Rattle.store_tests.specs.declared.hist_lock_calls.journal.Entry.{Entry};
 ghost use Rattle.store_tests.specs.declared.hist_lock_calls.worker.Page.{Page};
 ghost use Rattle.store_tests.specs.declared.hist_lock_calls.worker.Worker.{Worker};
@@ -23,7 +24,7 @@ fn hire(
 )
     requires lock { opener.old.lock ≡ lock.now }
     requires opener { (opener.old.id ≡ 0) × (opener.old.inside ≡ false) × (opener.old.made ≡ 0) }
-    requires room { (vec_len workers.old ≡ 0) × (count ≤ vec_capacity workers.old) × (count < 4294967295) }
+    requires room { (vec_len workers.old ≡ 0) × (count ≤ vec_capacity workers.old) × (count < most_passes) }
     ensures opener { opener.new ≡ record opener.old { made = count } }
     ensures workers { AllReady (λ (w : Worker). hand w.number w.pass w.page.said.items w.page.saw.items) lock.now workers.new.items }
     ensures count { length workers.new.items ≡ count }
@@ -102,7 +103,7 @@ pub fn run_all<R: Threads + Wait + Sync>(
     count: usize,
     sections: u32,
 ) -> Result<(Journal, Vec<Page>), (Journal, NoMemory)>
-    requires room { count < 4294967295 }
+    requires room { count < most_passes }
     requires empty { journal.entries.items ≡ [] }
     ensures count { IfOk result (λ r. length r.1.items ≡ count) }
     ensures tells { IfOk result (λ r. Tells (λ (p : Page). p.said.items) (λ (p : Page). p.saw.items) (λ (e : Entry). e.session) r.0.entries.items r.1.items) }

@@ -77,7 +77,7 @@ lend-requires-then-is_some c = ap (λ d. is_some (map.get d c.args.id)) c.in_ok-
 
 pub lend-requires-2 : goal.lend-requires-2
 lend-requires-2 c =
-    ap (λ d. is_some (map.get d c.args.id)) c.in_ok-insert-2.ensures.ok ∙ ap is_some (get-inserted c.self.inside.drafts c.args.id c.of-2.result)
+    ap (λ d. is_some (map.get d c.args.id)) c.in_ok-insert-2.ensures.ok ∙ ap is_some (get-inserted c.settle.new.drafts c.args.id c.of-2.result)
 
 pub returns : goal.returns
 returns c =
@@ -85,7 +85,8 @@ returns c =
       (λ j. inl (
         c.renew.result.ghost_name,
         λ w. (ap (λ d. work_of i.below (map.insert d id w) i.gone i.whole) c.in_ok-insert-2.ensures.ok
-            ∙ ap (λ d. work_of i.below d i.gone i.whole) (insert-inserted i.drafts id d w)
+            ∙ ap (λ d. work_of i.below d i.gone i.whole) (insert-inserted c.settle.new.drafts id d w)
+            ∙ ap (λ d. work_of i.below (map.insert d id w) i.gone i.whole) c.settle.ensures
             ∙ work_of-draft i.below i.drafts i.gone i.whole id w ∙ ap (λ z. with_page z id w) c.self.view_is) j,
       )),
       record {
