@@ -65,7 +65,7 @@ root_of_element name attrs kids = record {
   where
     rows_there : (b : ℕ) → node_rows (Element name attrs kids) b
         ≡ record { told = told_in {X = Node} (Node-F.Element name attrs kids); back = b; size = count_node (Element name attrs kids) }
-          ∷ (attr_rows 1 attrs ++ kid_rows (1 + length attrs) (map node_rows kids))
+        ∷ (attr_rows 1 attrs ++ kid_rows (1 + length attrs) (map node_rows kids))
     rows_there b =
         let inside = attr_rows 1 attrs ++ kid_rows (1 + length attrs) (map node_rows kids) in
         ap (λ f. f b) (fold-Element (ℕ → List Row) rows_step name attrs kids)

@@ -29,8 +29,8 @@ module _ (root : Placed) (rows : List Entry) (s : map row_of rows ≡ tree_rows 
   past : (n : ℕ) → slice_get rows n ≡ None → size root ≤ n
   past n h =
       elim (slice_get_cases (tree_rows root) n).1 [
-        inl w ↦ absurd (none-some w.0 (sym (ap (option_map row_of) h) ∙ row_back n w.0 w.2))
-      | inr w ↦ omega (arith, w.0, length_tree_rows root)
+        | inl w ↦ absurd (none-some w.0 (sym (ap (option_map row_of) h) ∙ row_back n w.0 w.2))
+        | inr w ↦ omega (arith, w.0, length_tree_rows root)
       ]
 
   nowhere : (n : ℕ) → slice_get rows n ≡ None → standing root (place_of_number root n) ≡ None

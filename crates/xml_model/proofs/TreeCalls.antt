@@ -139,7 +139,7 @@ module _ (F : Forest) (trees : List Tree) (s : StandFor F trees) where
   pub order_apart : (a b : Id) (r : Ordering) → r ≡ slice_cmp nat_cmp (tree_name trees a.doc) (tree_name trees b.doc) → (r ≡ Equal → ⊥) → r ≡ node_cmp (node_of_id F a) (node_of_id F b)
   order_apart a b r e apart =
       let there : r ≡ slice_cmp nat_cmp (name_at F a.doc) (name_at F b.doc) =
-          e ∙ sym (ap (λ x. slice_cmp nat_cmp x (name_at F b.doc)) (names_same a.doc) ∙ ap (slice_cmp nat_cmp (tree_name trees a.doc)) (names_same b.doc)) in
+      e ∙ sym (ap (λ x. slice_cmp nat_cmp x (name_at F b.doc)) (names_same a.doc) ∙ ap (slice_cmp nat_cmp (tree_name trees a.doc)) (names_same b.doc)) in
       go r apart ∙ ap (λ r. ordering_then r (place_cmp (node_of_id F a).place (node_of_id F b).place)) there
     where
       go : (r : Ordering) → (r ≡ Equal → ⊥) → r ≡ ordering_then r (place_cmp (node_of_id F a).place (node_of_id F b).place)

@@ -144,7 +144,7 @@ pub first_is : (root : Placed) (n : ℕ) (a : At root n)
     × ((size a.it ≤ 1) → first_place root a.place ≡ None)
 first_is root n a =
     let there : first_place root a.place ≡ option_map (λ s. a.place ++ s ∷ []) (first_step a.it) =
-        ap (λ o. option_and_then (λ from. option_map (λ s. a.place ++ s ∷ []) (first_step from)) o) a.stands in
+    ap (λ o. option_and_then (λ from. option_map (λ s. a.place ++ s ∷ []) (first_step from)) o) a.stands in
     let one = go (first_step a.it) (first_goes_on a.it) in
     (λ h. there ∙ one.0 h, λ h. there ∙ one.1 h)
   where
@@ -222,9 +222,9 @@ pub next_is : (root : Placed) (n : ℕ) (a : At root n) (u : Above root n a.plac
     × ((number u.above (Some root) + size u.from ≤ n + size a.it) → next_place root a.place ≡ None)
 next_is root n a u =
     let there : next_place root a.place ≡ option_map (λ s. u.above ++ s ∷ []) (next_step u.from u.last) =
-        ap (λ o. option_and o (option_and_then (behind_ending root) (ending a.place))) a.stands
-        ∙ (ap (option_and_then (behind_ending root)) u.ends
-        ∙ ap (λ o. option_and_then (λ from. option_map (λ s. u.above ++ s ∷ []) (next_step from u.last)) o) u.stands) in
+    ap (λ o. option_and o (option_and_then (behind_ending root) (ending a.place))) a.stands
+    ∙ (ap (option_and_then (behind_ending root)) u.ends
+    ∙ ap (λ o. option_and_then (λ from. option_map (λ s. u.above ++ s ∷ []) (next_step from u.last)) o) u.stands) in
     let one = go (next_step u.from u.last) (next_goes_on u.from a.it u.last u.leads) in
     (λ h. there ∙ one.0 h, λ h. there ∙ one.1 h)
   where

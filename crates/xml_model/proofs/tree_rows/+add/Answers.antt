@@ -22,7 +22,7 @@ add_node-returns-in_ok-add_kids-in-Element-clause-rows t c =
     c.in-Element.is (omega arith) c.in_ok-push.ensures.items (omega (arith, c.in_ok-add_attrs-in-Element.ensures.len, c.in_ok-push.ensures.len)) c.in_ok-add_attrs-in-Element.ensures.rows c.in_ok-add_kids-in-Element.ensures.rows
     (ap (λ n. record { told = told; back = n - c.args.parent; size = c.len.result - at }) c.len-at.ensures
     ∙ ap (λ n. record { told = told; back = vec_len c.args.rows.now - c.args.parent; size = n })
-      (omega (arith, length-all_kid_rows kids m, c.in_ok-add_kids-in-Element.ensures.len, c.in_ok-add_attrs-in-Element.ensures.len, c.in_ok-push.ensures.len)))
+    (omega (arith, length-all_kid_rows kids m, c.in_ok-add_kids-in-Element.ensures.len, c.in_ok-add_attrs-in-Element.ensures.len, c.in_ok-push.ensures.len)))
 
 pub add_node-returns-in-Text-clause-rows : goal.add_node-returns-in-Text-clause-rows
 add_node-returns-in-Text-clause-rows t c =
