@@ -1,8 +1,8 @@
 -- The chain of a node, as `first` and `next` walk it: all that stands in a node is its first and what follows that, and
 -- what follows a node in its chain is the next and what follows that.
-use Rattle.std.proofs.Common.{◌≡◌, ℕ, zero, suc, ◌+◌, ◌<◌, ◌≤◌, Bool, true, false, cond, List, [], ◌∷◌, ◌++◌, map, drop, length, Option, Some, None, refl, sym, ap, ◌∙◌, arith}
+use Rattle.std.proofs.Common.{◌≡◌, ℕ, zero, suc, ◌+◌, ◌<◌, ◌≤◌, Bool, true, false, cond, List, [], ◌∷◌, ◌++◌, map, drop, length, Option, Some, None, refl, sym, ap, ◌∙◌, append_assoc, arith}
 use Rattle.std.specs.Prelude.{nat_lt}
-use Rattle.std.specs.List.{slice_get}
+use Rattle.std.specs.List.{slice_get, flat_map}
 use Rattle.std.specs.Option.{option_map, option_map_or, option_or, option_and, option_and_then}
 use Rattle.std.proofs.lemmas.Bool.{ltb-true, ltb-false}
 use Rattle.std.proofs.lemmas.List.{map-append}
@@ -26,7 +26,7 @@ drop_some (x ∷ xs) (suc i) h =
     let same : suc (i + 1) ≡ suc i + 1 = omega arith in
     (it.0, it.1 ∙ ap (λ n. it.0 ∷ drop n (x ∷ xs)) same)
 
-drop_none : {A : Type 0} (xs : List A) (i : ℕ) → length xs ≤ i → drop i xs ≡ []
+pub drop_none : {A : Type 0} (xs : List A) (i : ℕ) → length xs ≤ i → drop i xs ≡ []
 drop_none [] zero h = refl
 drop_none [] (suc i) h = refl
 drop_none (x ∷ xs) zero h = absurd (omega arith)
@@ -194,3 +194,28 @@ module _ (F : Forest) (node : Stored) where
           → option_map_or (λ root. map (at_place node) (later_places root node.place)) o [] ≡ seen_nodes F (option_and_then (λ root. option_map (at_place node) (next_place root node.place)) o)
       go None e = refl
       go (Some root) e = ap (map (at_place node)) (later_on root node.place) ∙ seen_here root (next_place root node.place) e
+
+-- ---- a turn of a walk
+
+module _ {I : Type 0} (F : Forest) (place : I → Stored) (m : I) (o next : Option I) (e : o ≡ Some m) (gives : option_map place next ≡ next_of_node F (place m)) where
+  onward : seen_nodes F (option_map place o) ≡ place m ∷ seen_nodes F (option_map place next)
+  onward =
+      ap (λ o. seen_nodes F (option_map place o)) e
+      ∙ ap (λ rest. place m ∷ rest) (later_seen F (place m) ∙ ap (seen_nodes F) (sym gives))
+
+  -- the node goes to those that are done
+  pub turned : (all more : List I) (t : List Stored) → more ≡ all ++ m ∷ [] → map place all ++ seen_nodes F (option_map place o) ≡ t
+      → map place more ++ seen_nodes F (option_map place next) ≡ t
+  turned all more t p h =
+      ap (λ xs. map place xs ++ seen_nodes F (option_map place next)) p
+      ∙ (ap (λ xs. xs ++ seen_nodes F (option_map place next)) (map-append place all (m ∷ []))
+      ∙ (append_assoc (map place all) (place m ∷ []) (seen_nodes F (option_map place next))
+      ∙ (ap (λ rest. map place all ++ rest) (sym onward) ∙ h)))
+
+  -- what comes of the node goes to what is done
+  pub turned_into : (f : Stored → List Stored) (x y t : List Stored) → y ≡ x ++ f (place m) → x ++ flat_map f (seen_nodes F (option_map place o)) ≡ t
+      → y ++ flat_map f (seen_nodes F (option_map place next)) ≡ t
+  turned_into f x y t p h =
+      ap (λ xs. xs ++ flat_map f (seen_nodes F (option_map place next))) p
+      ∙ (append_assoc x (f (place m)) (flat_map f (seen_nodes F (option_map place next)))
+      ∙ (ap (λ nodes. x ++ flat_map f nodes) (sym onward) ∙ h))

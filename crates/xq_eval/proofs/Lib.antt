@@ -1,5 +1,5 @@
 -- Chains of nodes.
 pub mod Chain
 pub mod Parts
-pub mod Texts
+pub mod StringValues
 pub mod Unions

@@ -1,9 +1,10 @@
 -- The attributes and the children among all that stands in a node, and what is below it by the nodes of its chain.
-use Rattle.std.proofs.Common.{◌≡◌, ℕ, zero, suc, ◌+◌, Bool, true, false, not, cond, List, [], ◌∷◌, ◌++◌, map, drop, length, Option, Some, None, refl, sym, ap, subst, ◌∙◌, append_assoc, append-nil, arith}
+use Rattle.std.proofs.Common.{◌≡◌, ℕ, zero, suc, ◌+◌, Bool, true, false, not, cond, List, [], ◌∷◌, ◌++◌, map, drop, length, ◌≤◌, Option, Some, None, refl, sym, ap, subst, ◌∙◌, append_assoc, append-nil, arith}
 use Rattle.std.specs.List.{slice_get, filter, flat_map}
 use Rattle.std.specs.Option.{option_map, option_map_or, option_and_then}
 use Rattle.std.proofs.lemmas.List.{map-append}
 use Rattle.std.proofs.lemmas.List.Concat.{flat_map-append}
+use Rattle.std.proofs.lemmas.List.Elements.{filter-append}
 use Rattle.xml_model.specs.declared.node.Attr.{Attr}
 use Rattle.xml_model.specs.declared.node.Node.{Node, Text, Pi, out-Node}
 use Rattle.xml_model.specs.declared.node.Node.TheVariants.{Element, outs-Element, outs-Text, outs-Pi}
@@ -16,6 +17,7 @@ use Rattle.xml_model.specs.Place.{Placed, a_node, an_attribute, attrs_of, kids_o
 use Rattle.xml_model.proofs.NodeCases.{node_has}
 use Rattle.xml_model.proofs.Nodes.{fold-Element, fold-Text, fold-Pi}
 use Rattle.xml_model.proofs.Numbered.{placed_more}
+use Rattle.xq_eval.proofs.Chain.{drop_none}
 use Rattle.xq_eval.specs.Walks.{is_attribute, is_of_attributes, is_child}
 
 -- a node of a chain with all below it, or nothing for an attribute
@@ -52,12 +54,11 @@ drop_first (y ∷ xs) (suc i) x rest e =
 -- ---- a node and a place in its tree
 
 module _ (F : Forest) (node : Stored) (root : Placed) (e : tree_of F node ≡ Some root) (p : List PlaceStep) (from : Placed) (h : standing root p ≡ Some from) where
-  at_way : List PlaceStep → Stored
+  abbrev at_way : List PlaceStep → Stored
   at_way way = at_place node (p ++ way)
 
   -- what stands one step on
   stands_there : (s : PlaceStep) (w : Placed) → step_from from s ≡ Some w → stored_at F (at_way (s ∷ [])) ≡ Some w
-  unfolding at_way
   stands_there s w q = ap (option_and_then (λ root. standing root (p ++ s ∷ []))) e ∙ (placed_more p s (Some root) from h ∙ q)
 
   attrs_are : (i : ℕ) (left : List Attr) → drop i (attrs_of from) ≡ left
@@ -165,3 +166,9 @@ module _ (F : Forest) (node : Stored) where
                 ∙ (ap (λ x. x ++ flat_map (with_below F) kids) (below_attrs F node root e node.place from h 0 (attrs_of from) refl) ∙ below_kids F node root e node.place from h 0 (kids_of from) refl))
                 ∙ sym (by descendant_places (Some root) e ∙ ap (map (at_place node)) (led_by descendant_ways (Some from) h)),
               )
+
+-- at the end of a list that was gone over, those that pass are those of the list
+pub finish : {I : Type 0} (place : I → Stored) (test : Stored → Bool) (all items : List I) (i : ℕ) (nodes : List Stored) → length items ≤ i
+    → map place all ++ filter test (map place (drop i items)) ≡ filter test (map place items) → map place items ≡ nodes → map place all ≡ filter test nodes
+finish place test all items i nodes past h same =
+    sym (append-nil (map place all)) ∙ (ap (λ rest. map place all ++ filter test (map place rest)) (sym (drop_none items i past)) ∙ (h ∙ ap (filter test) same))

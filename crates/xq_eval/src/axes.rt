@@ -3,6 +3,7 @@ ghost use Rattle.std.specs.Prelude.{◌≡◌, ◌++◌, [], ◌∷◌, map, IfO
 ghost use Rattle.xml_model.specs.Axes.{axis_nodes, nodes_at, parent_places};
 ghost use Rattle.xml_model.specs.NavFaults.{Passes};
 
+use crate::calls::parent_of;
 use crate::walks::{IdList, add_below, attributes, children};
 use std::alloc::Global;
 use xml_model::{Id, Nav, NavEnd};
@@ -20,10 +21,9 @@ fn parents<N: Nav>(alloc: Global, nav: &N, n: Id) -> Result<IdList, NavEnd<N::Fa
     ensures gives { IfOk result (λ all. N.honest nav.now → map (N.place nav.now) all ≡ nodes_at parent_places (N.forest nav.now) (N.place nav.now n)) }
     ensures fault { IfErr result (Passes (N.passes nav.now)) }
 {
-    match nav.parent(n) {
-        Ok(Some(parent)) => Ok(one(alloc, parent)?),
-        Ok(None) => Ok(Sequence::new(alloc)),
-        Err(fault) => Err(NavEnd::Nav(fault)),
+    match parent_of(nav, n)? {
+        Some(parent) => Ok(one(alloc, parent)?),
+        None => Ok(Sequence::new(alloc)),
     }
 }
 

@@ -8,6 +8,7 @@
 #![tactic(auto)]
 
 mod axes;
+mod calls;
 mod merging;
 mod texts;
 mod walks;

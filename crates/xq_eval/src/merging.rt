@@ -3,6 +3,7 @@ ghost use Rattle.std.specs.Prelude.{◌≡◌, ◌++◌, map, IfOk, IfErr, OnOk}
 ghost use Rattle.xml_model.specs.DocumentOrder.{node_cmp, union};
 ghost use Rattle.xml_model.specs.NavFaults.{Passes};
 
+use crate::calls::order_of;
 use crate::walks::IdList;
 use std::alloc::Global;
 use std::cmp::Ordering;
@@ -36,10 +37,7 @@ pub fn merge<N: Nav>(
             add_all(&mut all, left)?;
             return Ok(all);
         };
-        let order = match nav.order(*x, *y) {
-            Ok(order) => order,
-            Err(fault) => return Err(NavEnd::Nav(fault)),
-        };
+        let order = order_of(nav, *x, *y)?;
         match order {
             Ordering::Less => {
                 all.push(*x)?;

@@ -5,6 +5,7 @@ ghost use Rattle.xml_model.specs.Nav.{stored_at, told_at};
 ghost use Rattle.xml_model.specs.NavFaults.{Passes};
 ghost use Rattle.xq_eval.specs.Walks.{text_of, below_text};
 
+use crate::calls::kind_of;
 use crate::walks::add_below;
 use std::alloc::Global;
 use xml_model::{Id, Nav, NavEnd};
@@ -22,11 +23,7 @@ fn add_text<N: Nav>(text: &mut String, nav: &N, n: Id) -> Result<(), NavEnd<N::F
     ensures gives { OnOk result (N.honest nav.now → string_bytes text.new ≡ string_bytes text.old ++ text_of (told_at (stored_at (N.forest nav.now) (N.place nav.now n)))) }
     ensures fault { IfErr result (Passes (N.passes nav.now)) }
 {
-    let kind = match nav.kind(n) {
-        Ok(kind) => kind,
-        Err(fault) => return Err(NavEnd::Nav(fault)),
-    };
-    match kind {
+    match kind_of(nav, n)? {
         Kind::Text => Ok(append(text, &nav.value(n)?)?),
         Kind::Document => Ok(()),
         Kind::Element => Ok(()),
@@ -54,11 +51,7 @@ pub fn string_value<N: Nav>(alloc: Global, nav: &N, n: Id) -> Result<Str, NavEnd
     ensures gives { IfOk result (λ s. N.honest nav.now → s ≡ string_of_node (N.forest nav.now) (N.place nav.now n)) }
     ensures fault { IfErr result (Passes (N.passes nav.now)) }
 {
-    let kind = match nav.kind(n) {
-        Ok(kind) => kind,
-        Err(fault) => return Err(NavEnd::Nav(fault)),
-    };
-    match kind {
+    match kind_of(nav, n)? {
         Kind::Document => texts_below(alloc, nav, n),
         Kind::Element => texts_below(alloc, nav, n),
         Kind::Attribute => nav.value(n),

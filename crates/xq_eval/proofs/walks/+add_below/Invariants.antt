@@ -16,8 +16,8 @@ decreases-add_below g l = g.N.Nav.number l.nav.now l.n
 abbrev pub invariant-loop-at : goal.invariant-loop-at
 invariant-loop-at g l =
     (g.N.Nav.honest l.nav → map (g.N.Nav.place l.nav) l.all ++ flat_map (with_below (g.N.Nav.forest l.nav)) (seen_nodes (g.N.Nav.forest l.nav) (option_map (g.N.Nav.place l.nav) l.at))
-    ≡ map (g.N.Nav.place l.nav) l.initial.all ++ flat_map (with_below (g.N.Nav.forest l.nav)) (held_nodes (g.N.Nav.forest l.nav) (g.N.Nav.place l.nav l.n)))
-    × IfSome l.at (λ m. g.N.Nav.number l.nav m < g.N.Nav.number l.nav l.n)
+    ≡ map (g.N.Nav.place l.nav) l.initial.all ++ flat_map (with_below (g.N.Nav.forest l.nav)) (held_nodes (g.N.Nav.forest l.nav) (g.N.Nav.place l.nav l.fn.n)))
+    × IfSome l.at (λ m. g.N.Nav.number l.nav m < g.N.Nav.number l.nav l.fn.n)
 
 abbrev pub decreases-loop-at : goal.decreases-loop-at
 decreases-loop-at g l = left (g.N.Nav.number l.nav) l.at

@@ -10,8 +10,8 @@ left number (Some n) = number n + 1
 
 abbrev pub invariant-loop-at : goal.invariant-loop-at
 invariant-loop-at g l =
-    (g.N.Nav.honest l.nav → map (g.N.Nav.place l.nav) l.all ++ seen_nodes (g.N.Nav.forest l.nav) (option_map (g.N.Nav.place l.nav) l.at) ≡ held_nodes (g.N.Nav.forest l.nav) (g.N.Nav.place l.nav l.n))
-    × IfSome l.at (λ m. g.N.Nav.number l.nav m < g.N.Nav.number l.nav l.n)
+    (g.N.Nav.honest l.nav → map (g.N.Nav.place l.nav) l.all ++ seen_nodes (g.N.Nav.forest l.nav) (option_map (g.N.Nav.place l.nav) l.at) ≡ held_nodes (g.N.Nav.forest l.nav) (g.N.Nav.place l.nav l.fn.n))
+    × IfSome l.at (λ m. g.N.Nav.number l.nav m < g.N.Nav.number l.nav l.fn.n)
 
 abbrev pub decreases-loop-at : goal.decreases-loop-at
 decreases-loop-at g l = left (g.N.Nav.number l.nav) l.at

@@ -1,8 +1,10 @@
 -- The string value of a node is the texts among the nodes below it, one after another.
-use Rattle.std.proofs.Common.{◌≡◌, ℕ, zero, suc, ◌+◌, Bool, true, false, cond, List, [], ◌∷◌, ◌++◌, map, drop, Option, Some, None, refl, sym, ap, ◌∙◌, append_assoc, append-nil, arith}
+use Rattle.std.proofs.Common.{◌≡◌, ℕ, zero, suc, ◌+◌, Bool, true, false, cond, List, [], ◌∷◌, ◌++◌, map, drop, Option, Some, None, Result, Ok, Err, IfOk, refl, sym, ap, ◌∙◌, append_assoc, append-nil, arith}
 use Rattle.std.specs.List.{slice_get, flat_map}
 use Rattle.std.specs.Option.{option_map, option_map_or, option_and_then}
 use Rattle.std.proofs.lemmas.List.Concat.{flat_map-append}
+use Rattle.xq_ast.specs.declared.kind.Kind.{Kind}
+use Rattle.xq_ast.specs.declared.kind.Kind.TheVariants as kind
 use Rattle.xml_model.specs.declared.node.Attr.{Attr}
 use Rattle.xml_model.specs.declared.node.Node.{Node, Text, Pi, out-Node}
 use Rattle.xml_model.specs.declared.node.Node.TheVariants.{Element, outs-Element, outs-Text, outs-Pi}
@@ -42,18 +44,44 @@ kids_texts from i (k ∷ left) d h =
     ∙ (ap (λ rest. flat_map (text_from from) (map (λ way. steps.Kid i ∷ way) (ways_down k)) ++ rest) (kids_texts from (i + 1) left one.1 h.1)
     ∙ sym (flat_map-append (text_from from) (map (λ way. steps.Kid i ∷ way) (ways_down k)) (into_each (i + 1) (map ways_down left))))
 
-texts_are : (n : Node) → TextsAre n
+told-Element : (name : List ℕ) (attrs : List Attr) (kids : List Node) → told_of (a_node (Element name attrs kids)) ≡ record { kind = kind.Element; name = name; value = [] }
+told-Element name attrs kids = rw (outs-Element name attrs kids) refl
+
+told-Text : (value : List ℕ) → told_of (a_node (Text value)) ≡ record { kind = kind.Text; name = []; value = value }
+told-Text value = rw (outs-Text value) refl
+
+told-Pi : (target value : List ℕ) → told_of (a_node (Pi target value)) ≡ record { kind = kind.Pi; name = target; value = value }
+told-Pi target value = rw (outs-Pi target value) refl
+
+kids-Element : (name : List ℕ) (attrs : List Attr) (kids : List Node) → kids_of (a_node (Element name attrs kids)) ≡ kids
+kids-Element name attrs kids = rw (outs-Element name attrs kids) refl
+
+element_texts : (name : List ℕ) (attrs : List Attr) (kids : List Node) → Each TextsAre kids → TextsAre (Element name attrs kids)
 unfolding TextsAre
-texts_are n =
-    node_has TextsAre
-    (λ name attrs kids h. fold-Element (List ℕ) texts_step name attrs kids
-    ∙ (kids_texts (a_node (Element name attrs kids)) 0 kids (rw (outs-Element name attrs kids) refl) h
-    ∙ sym (ap (flat_map (text_from (a_node (Element name attrs kids)))) (fold-Element (List (List PlaceStep)) down_step name attrs kids)
-    ∙ ap (λ t. text_of t ++ flat_map (text_from (a_node (Element name attrs kids))) (into_each 0 (map ways_down kids))) (rw (outs-Element name attrs kids) refl))))
-    (λ value. fold-Text (List ℕ) texts_step value
-    ∙ sym (ap (flat_map (text_from (a_node (Text value)))) (fold-Text (List (List PlaceStep)) down_step value) ∙ rw (outs-Text value) (append-nil value)))
-    (λ target value. fold-Pi (List ℕ) texts_step target value
-    ∙ sym (ap (flat_map (text_from (a_node (Pi target value)))) (fold-Pi (List (List PlaceStep)) down_step target value) ∙ rw (outs-Pi target value) refl)) n
+element_texts name attrs kids h =
+    let from = a_node (Element name attrs kids) in
+    fold-Element (List ℕ) texts_step name attrs kids
+    ∙ (kids_texts from 0 kids (kids-Element name attrs kids) h
+    ∙ (ap (λ t. text_of t ++ flat_map (text_from from) (into_each 0 (map ways_down kids))) (sym (told-Element name attrs kids))
+    ∙ sym (ap (flat_map (text_from from)) (fold-Element (List (List PlaceStep)) down_step name attrs kids))))
+
+text_texts : (value : List ℕ) → TextsAre (Text value)
+unfolding TextsAre
+text_texts value =
+    fold-Text (List ℕ) texts_step value
+    ∙ (sym (append-nil value)
+    ∙ (ap (λ t. text_of t ++ []) (sym (told-Text value))
+    ∙ sym (ap (flat_map (text_from (a_node (Text value)))) (fold-Text (List (List PlaceStep)) down_step value))))
+
+instruction_texts : (target value : List ℕ) → TextsAre (Pi target value)
+unfolding TextsAre
+instruction_texts target value =
+    fold-Pi (List ℕ) texts_step target value
+    ∙ (ap (λ t. text_of t ++ []) (sym (told-Pi target value))
+    ∙ sym (ap (flat_map (text_from (a_node (Pi target value)))) (fold-Pi (List (List PlaceStep)) down_step target value)))
+
+texts_are : (n : Node) → TextsAre n
+texts_are n = node_has TextsAre element_texts text_texts instruction_texts n
 
 all_texts : (nodes : List Node) → Each TextsAre nodes
 all_texts [] = tt
@@ -119,3 +147,12 @@ string_is F node =
     go : (o : Option Placed) → option_map_or string_value o [] ≡ cond (is_whole (told_at o).kind) (option_map_or (λ it. joined (map texts_in (kids_of it))) o []) (told_at o).value
     go None = refl
     go (Some it) = sym (string_by it)
+
+pub string_whole : (F : Forest) (node : Stored) (k : Kind) → k ≡ (told_at (stored_at F node)).kind → is_whole k ≡ true → string_of_node F node ≡ below_text F node
+string_whole F node k e whole =
+    string_is F node ∙ ap (λ b. cond b (below_text F node) (told_at (stored_at F node)).value) (ap is_whole (sym e) ∙ whole)
+
+-- an answer that equals something equals what that is
+pub answered : {E : Type 0} (h : Type 0) (r : Result (List ℕ) E) (a b : List ℕ) → (h → b ≡ a) → IfOk r (λ s. h → s ≡ a) → IfOk r (λ s. h → s ≡ b)
+answered h (Ok s) a b e k = λ x. k x ∙ sym (e x)
+answered h (Err f) a b e k = tt
