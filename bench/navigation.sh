@@ -23,7 +23,7 @@ use std::env;
 use std::io;
 use std::time::Instant;
 use xml_model::{Attr, AttrList, Doc, DocMap, Id, Nav, NoFault, Node, NodeList, TreeNav};
-use xq_ast::{Items, NoMemory, Sequence, Str};
+use xq_ast::{Items, NoMemory, Sequence, Str, is_document_name};
 
 const ELEMENTS: u32 = 250_000;
 const NESTED: u32 = 500;
@@ -132,8 +132,9 @@ fn measure(rt: &HostRuntime, docs: &DocMap, name: &Str) -> io::Result<()> {
 fn kept(alloc: Global, how: &str) -> Result<DocMap, NoMemory> {
     let mut docs = DocMap::new(alloc);
     let doc = document(alloc, how)?;
-    if doc.is_valid() {
-        docs.insert(Str::of(alloc, "d")?, doc)?;
+    let name = Str::of(alloc, "d")?;
+    if is_document_name(name.as_str()) && doc.is_valid() {
+        docs.insert(name, doc)?;
     }
     Ok(docs)
 }

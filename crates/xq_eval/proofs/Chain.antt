@@ -1,6 +1,6 @@
 -- The chain of a node, as `first` and `next` walk it: all that stands in a node is its first and what follows that, and
 -- what follows a node in its chain is the next and what follows that.
-use Rattle.std.proofs.Common.{◌≡◌, ℕ, zero, suc, ◌+◌, ◌<◌, ◌≤◌, Bool, true, false, cond, List, [], ◌∷◌, ◌++◌, map, drop, length, Option, Some, None, refl, sym, ap, ◌∙◌, append_assoc, arith}
+use Rattle.std.proofs.Common.{◌≡◌, ℕ, zero, suc, ◌+◌, ◌<◌, ◌≤◌, Bool, true, false, cond, List, [], ◌∷◌, ◌++◌, map, drop, length, Option, Some, None, refl, sym, ap, ◌∙◌, append_assoc, append-nil, subst, IfSome, arith}
 use Rattle.std.specs.Prelude.{nat_lt}
 use Rattle.std.specs.List.{slice_get, flat_map}
 use Rattle.std.specs.Option.{option_map, option_map_or, option_or, option_and, option_and_then}
@@ -219,3 +219,15 @@ module _ {I : Type 0} (F : Forest) (place : I → Stored) (m : I) (o next : Opti
       ap (λ xs. xs ++ flat_map f (seen_nodes F (option_map place next))) p
       ∙ (append_assoc x (f (place m)) (flat_map f (seen_nodes F (option_map place next)))
       ∙ (ap (λ nodes. x ++ flat_map f nodes) (sym onward) ∙ h))
+
+-- at the end of a chain all is done
+pub ended : {I : Type 0} (F : Forest) (place : I → Stored) (f : Stored → List Stored) (o : Option I) (x t : List Stored) → o ≡ None
+    → x ++ flat_map f (seen_nodes F (option_map place o)) ≡ t → x ≡ t
+ended F place f o x t e h = sym (append-nil x) ∙ (ap (λ o. x ++ flat_map f (seen_nodes F (option_map place o))) (sym e) ∙ h)
+
+-- numbers fall along a chain
+pub lower : {I : Type 0} (number : I → ℕ) (m : I) (o next : Option I) (b : ℕ) → o ≡ Some m → IfSome o (λ m. number m < b) → IfSome next (λ n. number n < number m) → IfSome next (λ n. number n < b)
+lower number m o None b e h k = tt
+lower number m o (Some n) b e h k =
+    let less : number m < b = subst (λ o. IfSome o (λ m. number m < b)) e h in
+    omega (arith, k)

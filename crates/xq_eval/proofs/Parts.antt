@@ -68,7 +68,7 @@ module _ (F : Forest) (node : Stored) (root : Placed) (e : tree_of F node ≡ So
   attrs_are i (a ∷ left) d =
       let one = drop_first (attrs_of from) i a left d in
       let is : is_attribute F (at_place node (p ++ steps.Attr i ∷ [])) ≡ true =
-          ap (λ o. is_of_attributes (told_at o).kind) (stands_there (steps.Attr i) (an_attribute a) (ap (option_map an_attribute) one.0)) in
+      ap (λ o. is_of_attributes (told_at o).kind) (stands_there (steps.Attr i) (an_attribute a) (ap (option_map an_attribute) one.0)) in
       let more = attrs_are (i + 1) left one.1 in
       (rw is (ap (λ rest. at_place node (p ++ steps.Attr i ∷ []) ∷ rest) more.0), rw is more.1)
 
@@ -79,7 +79,7 @@ module _ (F : Forest) (node : Stored) (root : Placed) (e : tree_of F node ≡ So
   kids_are i (k ∷ left) d =
       let one = drop_first (kids_of from) i k left d in
       let is : is_attribute F (at_place node (p ++ steps.Kid i ∷ [])) ≡ false =
-          ap (λ o. is_of_attributes (told_at o).kind) (stands_there (steps.Kid i) (a_node k) (ap (option_map a_node) one.0)) ∙ child_kind k in
+      ap (λ o. is_of_attributes (told_at o).kind) (stands_there (steps.Kid i) (a_node k) (ap (option_map a_node) one.0)) ∙ child_kind k in
       let more = kids_are (i + 1) left one.1 in
       (rw is more.0, rw is (ap (λ rest. at_place node (p ++ steps.Kid i ∷ []) ∷ rest) more.1))
 
@@ -94,17 +94,17 @@ module _ (F : Forest) (node : Stored) (root : Placed) (e : tree_of F node ≡ So
   below_attrs i (a ∷ left) d =
       let one = drop_first (attrs_of from) i a left d in
       let is : is_attribute F (at_place node (p ++ steps.Attr i ∷ [])) ≡ true =
-          ap (λ o. is_of_attributes (told_at o).kind) (stands_there (steps.Attr i) (an_attribute a) (ap (option_map an_attribute) one.0)) in
+      ap (λ o. is_of_attributes (told_at o).kind) (stands_there (steps.Attr i) (an_attribute a) (ap (option_map an_attribute) one.0)) in
       rw is (below_attrs (i + 1) left one.1)
 
   below_one : (i : ℕ) (k : Node) → step_from from (steps.Kid i) ≡ Some (a_node k)
       → with_below F (at_place node (p ++ steps.Kid i ∷ [])) ≡ map (at_place node) (map (λ way. p ++ way) (map (λ way. steps.Kid i ∷ way) (ways_down k)))
   below_one i k q =
       let is : is_attribute F (at_place node (p ++ steps.Kid i ∷ [])) ≡ false =
-          ap (λ o. is_of_attributes (told_at o).kind) (stands_there (steps.Kid i) (a_node k) q) ∙ child_kind k in
+      ap (λ o. is_of_attributes (told_at o).kind) (stands_there (steps.Kid i) (a_node k) q) ∙ child_kind k in
       let inside : nodes_at descendant_places F (at_place node (p ++ steps.Kid i ∷ [])) ≡ map (at_place node) (map (λ way. (p ++ steps.Kid i ∷ []) ++ way) (descendant_ways (a_node k))) =
-          ap (λ o. option_map_or (λ root. map (at_place node) (descendant_places root (p ++ steps.Kid i ∷ []))) o []) e
-          ∙ ap (λ o. map (at_place node) (option_map_or (λ from. map (λ way. (p ++ steps.Kid i ∷ []) ++ way) (descendant_ways from)) o [])) (placed_more p (steps.Kid i) (Some root) from h ∙ q) in
+      ap (λ o. option_map_or (λ root. map (at_place node) (descendant_places root (p ++ steps.Kid i ∷ []))) o []) e
+      ∙ ap (λ o. map (at_place node) (option_map_or (λ from. map (λ way. (p ++ steps.Kid i ∷ []) ++ way) (descendant_ways from)) o [])) (placed_more p (steps.Kid i) (Some root) from h ∙ q) in
       ap (λ b. cond b [] (at_place node (p ++ steps.Kid i ∷ []) ∷ nodes_at descendant_places F (at_place node (p ++ steps.Kid i ∷ [])))) is
       ∙ (ap (λ rest. at_place node (p ++ steps.Kid i ∷ []) ∷ rest) (inside ∙ ap (map (at_place node)) (sym (ways_longer (steps.Kid i) (descendant_ways (a_node k)))))
       ∙ ap (λ ways. map (at_place node) (map (λ way. p ++ way) (map (λ way. steps.Kid i ∷ way) ways))) (sym (ways_down_are k)))
@@ -153,18 +153,18 @@ module _ (F : Forest) (node : Stored) where
               let attrs = map (at_place node) (map (λ way. node.place ++ way) (attribute_ways from)) in
               let kids = map (at_place node) (map (λ way. node.place ++ way) (child_ways from)) in
               let all : held_nodes F node ≡ attrs ++ kids =
-                  by held_places (Some root) e
-                  ∙ (ap (map (at_place node)) (ap (λ a. a ++ child_places root node.place) (led_by attribute_ways (Some from) h) ∙ ap (λ c. map (λ way. node.place ++ way) (attribute_ways from) ++ c) (led_by child_ways (Some from) h))
-                  ∙ map-append (at_place node) (map (λ way. node.place ++ way) (attribute_ways from)) (map (λ way. node.place ++ way) (child_ways from))) in
+              by held_places (Some root) e
+              ∙ (ap (map (at_place node)) (ap (λ a. a ++ child_places root node.place) (led_by attribute_ways (Some from) h) ∙ ap (λ c. map (λ way. node.place ++ way) (attribute_ways from) ++ c) (led_by child_ways (Some from) h))
+              ∙ map-append (at_place node) (map (λ way. node.place ++ way) (attribute_ways from)) (map (λ way. node.place ++ way) (child_ways from))) in
               let a = attrs_are F node root e node.place from h 0 (attrs_of from) refl in
               let k = kids_are F node root e node.place from h 0 (kids_of from) refl in (
                 ap (filter (is_attribute F)) all ∙ (filter-append (is_attribute F) attrs kids ∙ (ap (λ x. x ++ filter (is_attribute F) kids) a.0 ∙ (ap (λ x. attrs ++ x) k.0 ∙ append-nil attrs)))
-                ∙ sym (by attribute_places (Some root) e ∙ ap (map (at_place node)) (led_by attribute_ways (Some from) h)),
+                    ∙ sym (by attribute_places (Some root) e ∙ ap (map (at_place node)) (led_by attribute_ways (Some from) h)),
                 ap (filter (is_child F)) all ∙ (filter-append (is_child F) attrs kids ∙ (ap (λ x. x ++ filter (is_child F) kids) a.1 ∙ k.1))
-                ∙ sym (by child_places (Some root) e ∙ ap (map (at_place node)) (led_by child_ways (Some from) h)),
+                    ∙ sym (by child_places (Some root) e ∙ ap (map (at_place node)) (led_by child_ways (Some from) h)),
                 ap (flat_map (with_below F)) all ∙ (flat_map-append (with_below F) attrs kids
-                ∙ (ap (λ x. x ++ flat_map (with_below F) kids) (below_attrs F node root e node.place from h 0 (attrs_of from) refl) ∙ below_kids F node root e node.place from h 0 (kids_of from) refl))
-                ∙ sym (by descendant_places (Some root) e ∙ ap (map (at_place node)) (led_by descendant_ways (Some from) h)),
+                    ∙ (ap (λ x. x ++ flat_map (with_below F) kids) (below_attrs F node root e node.place from h 0 (attrs_of from) refl) ∙ below_kids F node root e node.place from h 0 (kids_of from) refl))
+                    ∙ sym (by descendant_places (Some root) e ∙ ap (map (at_place node)) (led_by descendant_ways (Some from) h)),
               )
 
 -- at the end of a list that was gone over, those that pass are those of the list
@@ -172,3 +172,18 @@ pub finish : {I : Type 0} (place : I → Stored) (test : Stored → Bool) (all i
     → map place all ++ filter test (map place (drop i items)) ≡ filter test (map place items) → map place items ≡ nodes → map place all ≡ filter test nodes
 finish place test all items i nodes past h same =
     sym (append-nil (map place all)) ∙ (ap (λ rest. map place all ++ filter test (map place rest)) (sym (drop_none items i past)) ∙ (h ∙ ap (filter test) same))
+
+-- one more node of a chain, with all below it, or none for an attribute
+pub child_turn : {I : Type 0} (F : Forest) (place : I → Stored) (m : I) (old pushed new : List I) (b : Bool) → b ≡ is_attribute F (place m) → b ≡ false → pushed ≡ old ++ m ∷ []
+    → map place new ≡ map place pushed ++ nodes_at descendant_places F (place m) → map place new ≡ map place old ++ with_below F (place m)
+child_turn F place m old pushed new b e is p h =
+    h
+    ∙ (ap (λ xs. map place xs ++ nodes_at descendant_places F (place m)) p
+    ∙ (ap (λ xs. xs ++ nodes_at descendant_places F (place m)) (map-append place old (m ∷ []))
+    ∙ (append_assoc (map place old) (place m ∷ []) (nodes_at descendant_places F (place m))
+    ∙ ap (λ b. map place old ++ cond b [] (place m ∷ nodes_at descendant_places F (place m))) (sym is ∙ e))))
+
+pub attribute_turn : {I : Type 0} (F : Forest) (place : I → Stored) (m : I) (old : List I) (b : Bool) → b ≡ is_attribute F (place m) → b ≡ true
+    → map place old ≡ map place old ++ with_below F (place m)
+attribute_turn F place m old b e is =
+    sym (append-nil (map place old)) ∙ ap (λ b. map place old ++ cond b [] (place m ∷ nodes_at descendant_places F (place m))) (sym is ∙ e)

@@ -19,12 +19,12 @@ module _ {A : Type 0} (cmp : A → A → Ordering) where
 
   -- where one of the two is at its end, the other follows
   pub finish_left : {N : Type 0} (f : N → A) (all left right more : List N) (t : List A) → length left < 1 → map f all ++ union cmp (map f left) (map f right) ≡ t
-    → more ≡ all ++ right → map f more ≡ t
+      → more ≡ all ++ right → map f more ≡ t
   finish_left f all [] right more t e h p = ap (map f) p ∙ (map-append f all right ∙ h)
   finish_left f all (x ∷ xs) right more t e h p = absurd (omega arith)
 
   pub finish_right : {N : Type 0} (f : N → A) (all left right more : List N) (t : List A) → length right < 1 → map f all ++ union cmp (map f left) (map f right) ≡ t
-    → more ≡ all ++ left → map f more ≡ t
+      → more ≡ all ++ left → map f more ≡ t
   finish_right f all left [] more t e h p =
       ap (map f) p ∙ (map-append f all left ∙ (ap (λ l. map f all ++ l) (sym (union-nil (map f left))) ∙ h))
   finish_right f all left (x ∷ xs) more t e h p = absurd (omega arith)
@@ -56,6 +56,7 @@ module _ {A : Type 0} (cmp : A → A → Ordering) where
         go Less later = (e, rest (y ∷ ys) b)
         go Equal later = (e, rest ys b.1)
         go Greater later = (b.0, later)
+
     below_union : (w : A) (xs ys : List A) → Below w xs → Below w ys → Below w (union cmp xs ys)
     below_union w [] ys a b = b
     below_union w (x ∷ xs) ys a b = below_into w x xs ys a.0 (λ vs. below_union w xs vs a.1) b

@@ -20,12 +20,7 @@ fn add_all(all: &mut IdList, more: &[Id]) -> Result<(), NoMemory>
 }
 
 /// Two lists in document order as one, without duplicates.
-pub fn merge<N: Nav>(
-    alloc: Global,
-    nav: &N,
-    a: &[Id],
-    b: &[Id],
-) -> Result<IdList, NavEnd<N::Fault>>
+pub fn merge<N: Nav>(alloc: Global, nav: &N, a: &[Id], b: &[Id]) -> Result<IdList, NavEnd<N::Fault>>
     ensures gives { IfOk result (λ all. N.honest nav.now → map (N.place nav.now) all ≡ union node_cmp (map (N.place nav.now) a.now) (map (N.place nav.now) b.now)) }
     ensures fault { IfErr result (Passes (N.passes nav.now)) }
 {

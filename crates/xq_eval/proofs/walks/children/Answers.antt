@@ -10,5 +10,5 @@ returns-clause-gives g c = λ h.
     let place = g.N.Nav.place c.args.nav.now in
     let node = place c.args.n in
     finish place (is_child F) c.loop-m.all c.as_slice-m-items.result.now c.loop-m.m-index (held_nodes F node) (omega arith) (c.loop-m.invariant h)
-        (ap (map place) c.as_slice-m-items.ensures ∙ c.in_ok-nodes.ensures.gives h)
+    (ap (map place) c.as_slice-m-items.ensures ∙ c.in_ok-nodes.ensures.gives h)
     ∙ (parts F node).1
