@@ -83,7 +83,6 @@ module _ {B E S P K T Q : Type 0} (none : E)
     (bind_step : Bind-F B E S P K T Q → B) (expr_step : Expr-F B E S P K T Q → E) (start_step : Start-F B E S P K T Q → S)
     (product_step : ProductPart-F B E S P K T Q → P) (key_step : SortKey-F B E S P K T Q → K) (step_step : Step-F B E S P K T Q → T)
     (sum_step : SumPart-F B E S P K T Q → Q) where
-
   -- the parts of a layer, by what their expressions are
   module _ (go : Expr → E) where
     abbrev pub bind_layer : Bind-F Bind Expr Start ProductPart SortKey Step SumPart → Bind-F B E S P K T Q
@@ -195,12 +194,12 @@ module _ {B E S P K T Q : Type 0} (none : E)
     layer_same (Expr-F.Flwor binds None keys result) h =
         let r = second (list_all (λ b. bind_passes test (out-Bind b)) binds) _ h in
         λ i. Expr-F.Flwor (binds_same binds (first (list_all (λ b. bind_passes test (out-Bind b)) binds) _ h) i) None
-          (keys_same keys (first (list_all (λ k. test k.expr) keys) _ r) i) (same result (second (list_all (λ k. test k.expr) keys) _ r) i)
+        (keys_same keys (first (list_all (λ k. test k.expr) keys) _ r) i) (same result (second (list_all (λ k. test k.expr) keys) _ r) i)
     layer_same (Expr-F.Flwor binds (Some filter) keys result) h =
         let r = second (list_all (λ b. bind_passes test (out-Bind b)) binds) _ h in
         let s = second (test filter) _ r in
         λ i. Expr-F.Flwor (binds_same binds (first (list_all (λ b. bind_passes test (out-Bind b)) binds) _ h) i) (Some (same filter (first (test filter) _ r) i))
-          (keys_same keys (first (list_all (λ k. test k.expr) keys) _ s) i) (same result (second (list_all (λ k. test k.expr) keys) _ s) i)
+        (keys_same keys (first (list_all (λ k. test k.expr) keys) _ s) i) (same result (second (list_all (λ k. test k.expr) keys) _ s) i)
     layer_same (Expr-F.If condition good other) h =
         let r = second (test condition) _ h in
         λ i. Expr-F.If (same condition (first (test condition) _ h) i) (same good (first (test good) _ r) i) (same other (second (test good) _ r) i)

@@ -116,7 +116,7 @@ module _ (docs : Documents) (fold : (A : Type 0) → (Node-F A → A) → Node �
   abbrev pub tested : Made → Axis → Test → NodeAt → List NodeAt
   tested made way wanted n =
       filter (λ m. passes_at (is_attribute_axis way) wanted (node_at docs made m))
-        (option_map_or (λ root. map (λ place. record { tree = n.tree; place = place }) (axis_places way root n.place)) (tree_root docs made n.tree) [])
+      (option_map_or (λ root. map (λ place. record { tree = n.tree; place = place }) (axis_places way root n.place)) (tree_root docs made n.tree) [])
 
   -- a tree that keeps to the three limits
   abbrev pub limited : Node → Result Node Code
@@ -173,7 +173,7 @@ module _ (docs : Documents) (fold : (A : Type 0) → (Node-F A → A) → Node �
   keyed [] env cx types all = give all
   keyed (k ∷ ks) env cx types all =
       k.value env cx >>= (λ value. look (λ made. key_of (atomized made value))) >>= (λ key.
-        plain (joined_type (first_type types) (type_of key)) >>= (λ type. keyed ks env cx (other_types types) (with_key all key type)))
+      plain (joined_type (first_type types) (type_of key)) >>= (λ type. keyed ks env cx (other_types types) (with_key all key type)))
 
   -- one tuple more, where it stays
   abbrev pub tuple : Option Means → List KeyMeans → Bindings → Context → Tuples → Making Tuples
@@ -237,9 +237,9 @@ module _ (docs : Documents) (fold : (A : Type 0) → (Node-F A → A) → Node �
       >>= (λ value. construct (an_attribute (record { name = name; value = value })))
   value_of (Expr-F.TextNode content) env cx = content_or content env cx >>= new_text
     where
-    new_text : Items → Making Items
-    new_text [] = give []
-    new_text (item ∷ items) = look (λ made. limited_text (spaced (atomized made (item ∷ items)))) >>= (λ value. construct (a_node (Text value)))
+      new_text : Items → Making Items
+      new_text [] = give []
+      new_text (item ∷ items) = look (λ made. limited_text (spaced (atomized made (item ∷ items)))) >>= (λ value. construct (a_node (Text value)))
 
   -- and counted
   abbrev pub expr_step : Expr-F BindMeans Means Means (ProductMeans docs) KeyMeans StepMeans (SumMeans docs) → Means
@@ -252,8 +252,9 @@ module _ (docs : Documents) (fold : (A : Type 0) → (Node-F A → A) → Node �
   -- the nodes of the axis that pass the test, and then each predicate
   abbrev pub step_step : Step-F BindMeans Means Means (ProductMeans docs) KeyMeans StepMeans (SumMeans docs) → StepMeans
   step_step s = record {
-      deep = s.deep;
-      from_node = λ env n. look (λ made. Ok (tested made s.axis s.test n)) >>= filtered node s.preds env }
+    deep = s.deep;
+    from_node = λ env n. look (λ made. Ok (tested made s.axis s.test n)) >>= filtered node s.preds env;
+  }
 
   -- the canonical lines of a node
   abbrev pub pyx_node : Node → List Line
@@ -286,6 +287,7 @@ module _ (docs : Documents) (fold : (A : Type 0) → (Node-F A → A) → Node �
 
 -- ---- at the fold of nodes they are the definitions
 
+-- the fold of nodes
 abbrev the_fold : (A : Type 0) → (Node-F A → A) → Node → A
 the_fold A step n = fold-Node A step n
 
@@ -316,25 +318,30 @@ module _ (A : Type 0) (step : Node-F A → A) where
     refold (Text value) = step (Node-F.Text value)
     refold (Pi target value) = step (Node-F.Pi target value)
 
+    -- of each node of a row
     pub refold_row : {m : _} → Row_of-Node m → List A
     refold_row end_of-Node = []
     refold_row (more_of-Node n row) = refold n ∷ refold_row row
 
   mutual
+    -- it is the fold
     refolds : (n : Node) → fold-Node A step n ≡ refold n
     refolds (Element' name attrs s row) = fold-Element' A step name attrs s row ∙ ap (λ kids. step (Node-F.Element name attrs kids)) (refolds_row row)
     refolds (Text value) = fold-Text A step value
     refolds (Pi target value) = fold-Pi A step target value
 
+    -- of each node of a row too
     refolds_row : {m : _} (row : Row_of-Node m) → map (fold-Node A step) (items-the_row-Node m row) ≡ refold_row row
     refolds_row end_of-Node = refl
     refolds_row (more_of-Node n row) = λ i. refolds n i ∷ refolds_row row i
 
+-- for all results and all steps
 same_fold : ◌≡◌ {A = (A : Type 0) → (Node-F A → A) → Node → A} (λ A step n. fold-Node A step n) refold
 same_fold = λ i A step n. refolds A step n i
 
 -- ---- answers
 
+-- documents with their names, in the order of the names
 abbrev pub Entries : Type 0
 Entries = List (List ℕ × Doc)
 
@@ -342,11 +349,11 @@ Entries = List (List ℕ × Doc)
 abbrev pub looked : Entries → List ℕ → Option Doc
 looked es name = forests.find (slice_cmp nat_cmp) name es
 
--- the documents of these entries, which stand in the order of their names
+-- the forest of these documents
 abbrev pub forest_of : Entries → Forest
 forest_of es = forests.from_sorted es
 
--- a forest looks up among its entries
+-- it looks up among its entries
 same_looked : (es : Entries) → T (forests.is_sorted (slice_cmp nat_cmp) es) → forests.get (forest_of es) ≡ looked es
 same_looked es h = λ i name. forests.get-from_sorted (slice_cmp nat_cmp) es name h i
 
@@ -381,8 +388,7 @@ computes es sorted n e h =
     ap (λ means. with_lines (spec_lines (forests.get (forest_of es))) (means [] None [])) (sym (same_meaning (forests.get (forest_of es)) n e h))
     ∙ (λ i. answer_to (same_looked es sorted i) (same_fold i) n e)
 
--- what has to unfold where an answer computes
+-- What has to unfold where an answer computes. What it is does not matter.
 unfoldable pub seen : Type 0
 unfolding out-Bind out-Expr out-Start block.shown-the_row-Expr-0 block.shown-the_row-Bind-1 block.shown-the_row-Expr-2 block.shown-the_row-SortKey-3 block.shown-the_row-SumPart-4 block.shown-the_row-ProductPart-5 block.shown-the_row-Step-6 out-Node nodes.shown-the_row-Node-0 nodes.hidden-the_row-Node-0 denote.Hole.Carrier.out denote.Hole.Carrier.shown denote.Hole.Carrier.hidden digits char_count
 seen = ℕ
-

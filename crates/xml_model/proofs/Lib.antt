@@ -7,6 +7,7 @@ pub mod Escapes
 pub mod Formed
 pub mod Forests
 pub mod Framing
+mod FunctionRows
 pub mod Laying
 pub mod Lines
 pub mod Nodes
@@ -17,6 +18,7 @@ pub mod SpelledIsRead
 mod MeaningRows
 mod NavRows
 pub mod NodeCases
+mod PathRows
 pub mod Numbered
 pub mod Numbers
 pub mod Reached
@@ -27,8 +29,10 @@ pub mod TextAgain
 pub mod TextLines
 pub mod PlaceOrder
 pub mod Placing
+pub mod QueryForms
 pub mod Sorting
 pub mod TreeNumbers
 pub mod TreeCalls
 pub mod TreesMade
+mod TupleRows
 pub mod Validity

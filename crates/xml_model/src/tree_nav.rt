@@ -44,7 +44,7 @@ impl<'a> Model for TreeNav<'a> {
 }
 
 /// A fault that never comes.
-#[derive(Clone, Copy, Debug, PartialEq, Eq)]
+#[derive(Clone, Copy)]
 pub enum NoFault {}
 
 fn tree_at<'t, 'a>(trees: &'t [Tree<'a>], doc: u32) -> Option<&'t Tree<'a>>

@@ -88,6 +88,7 @@ module _ (close : List Token → Option (List Token)) (inner : Reader Expr) (b :
   not_closed : close ts ≡ None
   not_closed = ap close (sym same) ∙ (looked ∙ (untaken b ts left o takes found).0)
 
+  -- with its closing bracket it is read
   pub content_some : (e : Expr) (us more : List Token) → expr inner left ≡ Some (e, us) → close us ≡ Some more → content close inner ts ≡ Some (Some e, more)
   unfolding content
   content_some e us more reads closed =
@@ -95,6 +96,7 @@ module _ (close : List Token → Option (List Token)) (inner : Reader Expr) (b :
       ∙ (ap (λ o. o >>= (λ e. close e.1 >>= (λ us. let x : Option (Option Expr × List Token) = Some (Some e.0, us) in x))) (ap (expr inner) (sym (untaken b ts left o takes found).1) ∙ reads)
       ∙ ap (λ o. o >>= (λ us. let x : Option (Option Expr × List Token) = Some (Some e, us) in x)) closed)
 
+  -- without its closing bracket it is not
   pub content_none : (e : Expr) (us : List Token) → expr inner left ≡ Some (e, us) → close us ≡ None → content close inner ts ≡ None
   unfolding content
   content_none e us reads closed =
@@ -105,16 +107,19 @@ module _ (close : List Token → Option (List Token)) (inner : Reader Expr) (b :
 -- what stands in round brackets, of which the closing one was not found at once
 module _ (inner : Reader Expr) (b : Bool) (ts seen left : List Token) (o : Option (List Token))
     (takes : Takes b ts left o) (same : seen ≡ ts) (looked : close_round seen ≡ o) (found : b ≡ false) where
+  -- an expression in brackets is read with its closing one
   pub group_some : (e : Expr) (us more : List Token) → expr inner left ≡ Some (e, us) → close_round us ≡ Some more → group inner ts ≡ Some (e, more)
   unfolding group
   group_some e us more reads closed =
       ap (λ o. o >>= (λ o. let x : Option (Expr × List Token) = Some (group_of o.0, o.1) in x)) (content_some close_round inner b ts seen left o takes same looked found e us more reads closed)
 
+  -- and is not without it
   pub group_none : (e : Expr) (us : List Token) → expr inner left ≡ Some (e, us) → close_round us ≡ None → group inner ts ≡ None
   unfolding group
   group_none e us reads closed =
       ap (λ o. o >>= (λ o. let x : Option (Expr × List Token) = Some (group_of o.0, o.1) in x)) (content_none close_round inner b ts seen left o takes same looked found e us reads closed)
 
+  -- arguments in brackets are read with the closing one
   pub arguments_some : (es : List Expr) (us more : List Token) → list inner left ≡ Some (es, us) → close_round us ≡ Some more → arguments inner ts ≡ Some (es, more)
   unfolding arguments
   arguments_some es us more reads closed =
@@ -122,6 +127,7 @@ module _ (inner : Reader Expr) (b : Bool) (ts seen left : List Token) (o : Optio
       ∙ (ap (λ o. o >>= (λ es. close_round es.1 >>= (λ us. let x : Option (List Expr × List Token) = Some (es.0, us) in x))) (ap (list inner) (sym (untaken b ts left o takes found).1) ∙ reads)
       ∙ ap (λ o. o >>= (λ us. let x : Option (List Expr × List Token) = Some (es, us) in x)) closed)
 
+  -- and are not without it
   pub arguments_none : (es : List Expr) (us : List Token) → list inner left ≡ Some (es, us) → close_round us ≡ None → arguments inner ts ≡ None
   unfolding arguments
   arguments_none es us reads closed =
@@ -131,10 +137,12 @@ module _ (inner : Reader Expr) (b : Bool) (ts seen left : List Token) (o : Optio
 
 -- ---- rows that their first tokens tell
 
+-- a clause behind `for` is bindings of items
 pub clause_for : (inner : Reader Expr) (ts : List Token) → clause inner spec.ClauseWord.for_word ts ≡ binds inner ts
 unfolding clause
 clause_for inner ts = refl
 
+-- a clause behind `let` is bindings of values
 pub clause_let : (inner : Reader Expr) (ts : List Token) → clause inner spec.ClauseWord.let_word ts ≡ lets inner ts
 unfolding clause
 clause_let inner ts = refl
@@ -158,25 +166,30 @@ by_filter inner ts (Element name rest) other = refl
 by_filter inner ts (Attribute name rest) other = refl
 by_filter inner ts (TextNode rest) other = refl
 
+-- a primary behind `(` is what stands in brackets
 pub group_primary : (inner : Reader Expr) (ts : List Token) → primary inner (spec.Operand.a_group ts) ≡ group inner ts
 unfolding primary group
 group_primary inner ts = refl
 
+-- a primary behind a name and `(` is the function of that name over its arguments
 pub function_primary : (inner : Reader Expr) (word : List ℕ) (ts left : List Token) (args : List Expr) → arguments inner ts ≡ Some (args, left)
     → primary inner (spec.Operand.a_function word ts) ≡ Some (expression.Fun (plain word) args, left)
 unfolding primary
 function_primary inner word ts left args e = ap (λ o. o >>= (λ es. let x : Option (Expr × List Token) = Some (expression.Fun (plain word) es.0, es.1) in x)) e
 
+-- a primary behind `element`, a name and `{` is an element with its content
 pub element_primary : (inner : Reader Expr) (name : List ℕ) (ts left : List Token) (o : Option Expr) → content close_curly inner ts ≡ Some (o, left)
     → primary inner (spec.Operand.an_element name ts) ≡ Some (expression.Element name o, left)
 unfolding primary
 element_primary inner name ts left o e = ap (λ o. o >>= (λ o. let x : Option (Expr × List Token) = Some (expression.Element name o.0, o.1) in x)) e
 
+-- a primary behind `attribute`, a name and `{` is an attribute with its content
 pub attribute_primary : (inner : Reader Expr) (name : List ℕ) (ts left : List Token) (o : Option Expr) → content close_curly inner ts ≡ Some (o, left)
     → primary inner (spec.Operand.an_attribute name ts) ≡ Some (expression.Attribute name o, left)
 unfolding primary
 attribute_primary inner name ts left o e = ap (λ o. o >>= (λ o. let x : Option (Expr × List Token) = Some (expression.Attribute name o.0, o.1) in x)) e
 
+-- a primary behind `text {` is a text node with its content
 pub text_primary : (inner : Reader Expr) (ts left : List Token) (o : Option Expr) → content close_curly inner ts ≡ Some (o, left)
     → primary inner (spec.Operand.a_text_node ts) ≡ Some (expression.TextNode o, left)
 unfolding primary
