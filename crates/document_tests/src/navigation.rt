@@ -1,11 +1,13 @@
 //! What no clause says of navigation: answers over documents that were read, and a `Nav` that fails.
 use pyx_text::{PyxFault, PyxReader};
 use std::alloc::Global;
+use std::cell::Cell;
 use std::cmp::Ordering;
 use std::process::Abort;
 use std::test::Fail;
-use xml_model::{Attr, Doc, DocMap, Id, Nav, NoFault, Node, PlacedRef, TreeNav, TreeRows};
-use xq_ast::{Kind, NoMemory, Str, is_document_name};
+use xml_model::{Attr, Doc, DocMap, Id, Nav, NavEnd, NoFault, Node, PlacedRef, TreeNav, TreeRows};
+use xq_ast::{Axis, Kind, NoMemory, Str, is_document_name};
+use xq_eval::{IdList, merge, on_axis, string_value};
 
 fn read(alloc: Global, text: &str) -> Result<Doc, PyxFault> {
     let mut reader = PyxReader::new(alloc);
@@ -143,5 +145,185 @@ fn nodes_that_stand_alone(rt: HostRuntime) -> Result<(), Fail> {
     assert_eq!(rt; rows.kind(0), Kind::Text);
     assert_eq!(rt; rows.value(0)?.as_str(), "7");
     assert_eq!(rt; rows.next(0), None);
+    Ok(())
+}
+
+/// The fault of a `Nav` that fails.
+#[derive(Clone, Copy, Debug, PartialEq, Eq)]
+struct Broken;
+
+/// Plain trees whose calls fail once so many have been answered.
+#[derive(Drop)]
+struct Failing<'a> {
+    nav: TreeNav<'a>,
+    left: Cell<u32>,
+}
+
+impl<'a> Failing<'a> {
+    fn spend(&self) -> Result<(), Broken> {
+        let left = self.left.get();
+        if left == 0 {
+            return Err(Broken);
+        }
+        self.left.set(left - 1);
+        Ok(())
+    }
+}
+
+impl<'a> Nav for Failing<'a> {
+    ghost use Rattle.std.proofs.Common.{arith};
+    ghost use Rattle.std.specs.Prelude.{◌-◌, ◌^◌};
+    ghost use Rattle.xml_model.specs.Forest.{IsForest};
+    ghost use Rattle.xml_model.specs.TreeNodes.{node_of_id};
+
+    type Fault = Broken;
+
+    ghost passes = { λ f fault. Unit {0} };
+
+    ghost honest = { λ f. IsForest f.nav };
+
+    ghost forest = { λ f. f.nav };
+
+    ghost place = { λ f n. node_of_id f.nav n };
+
+    ghost number = { λ f n. 2 ^ 32 - n.node };
+
+    fn root(&self, name: &Str) -> Result<Option<Id>, Broken> {
+        self.spend()?;
+        match self.nav.root(name) {
+            Ok(root) => Ok(root),
+            Err(_) => Err(Broken),
+        }
+    }
+
+    fn first(&self, n: Id) -> Result<Option<Id>, Broken> {
+        self.spend()?;
+        match self.nav.first(n) {
+            Ok(first) => Ok(first),
+            Err(_) => Err(Broken),
+        }
+    }
+
+    fn next(&self, n: Id) -> Result<Option<Id>, Broken> {
+        self.spend()?;
+        match self.nav.next(n) {
+            Ok(next) => Ok(next),
+            Err(_) => Err(Broken),
+        }
+    }
+
+    fn parent(&self, n: Id) -> Result<Option<Id>, Broken> {
+        self.spend()?;
+        match self.nav.parent(n) {
+            Ok(parent) => Ok(parent),
+            Err(_) => Err(Broken),
+        }
+    }
+
+    fn kind(&self, n: Id) -> Result<Kind, Broken> {
+        self.spend()?;
+        match self.nav.kind(n) {
+            Ok(kind) => Ok(kind),
+            Err(_) => Err(Broken),
+        }
+    }
+
+    fn order(&self, a: Id, b: Id) -> Result<Ordering, Broken> {
+        self.spend()?;
+        match self.nav.order(a, b) {
+            Ok(order) => Ok(order),
+            Err(_) => Err(Broken),
+        }
+    }
+
+    fn name(&self, n: Id) -> Result<Str, NavEnd<Broken>> {
+        match self.nav.name(n) {
+            Ok(name) => Ok(name),
+            Err(NavEnd::NoMemory) => Err(NavEnd::NoMemory),
+            Err(NavEnd::Nav(_)) => Err(NavEnd::Nav(Broken)),
+        }
+    }
+
+    fn value(&self, n: Id) -> Result<Str, NavEnd<Broken>> {
+        match self.nav.value(n) {
+            Ok(value) => Ok(value),
+            Err(NavEnd::NoMemory) => Err(NavEnd::NoMemory),
+            Err(NavEnd::Nav(_)) => Err(NavEnd::Nav(Broken)),
+        }
+    }
+
+    ghost few = { λ f n. Prim.omega arith };
+
+    ghost valid = { λ f honest. honest };
+}
+
+/// Whether the nodes below the document `e` are found where so many calls are answered.
+fn is_found(alloc: Global, docs: &DocMap, calls: u32) -> Result<bool, NoMemory> {
+    let nav = Failing {
+        nav: TreeNav::of(docs)?,
+        left: Cell::new(calls),
+    };
+    match on_axis(alloc, &nav, Axis::Descendant, id(1, 0)) {
+        Ok(all) => Ok(all.len() == 5),
+        Err(NavEnd::Nav(Broken)) => Ok(false),
+        Err(NavEnd::NoMemory) => Err(NoMemory),
+    }
+}
+
+/// To find the five nodes takes 20 calls: six for what is first, and two for each of seven nodes in a chain.
+#[test]
+fn a_fault_is_handed_on(rt: HostRuntime) -> Result<(), Fail> {
+    let alloc = rt.alloc();
+    let docs = two_documents(alloc)?;
+    for calls in 0..24 {
+        assert_eq!(rt; is_found(alloc, &docs, calls)?, calls >= 20);
+    }
+    Ok(())
+}
+
+fn check_nodes(rt: &(impl Abort + Print), found: Result<IdList, NavEnd<NoFault>>, want: &[u32]) {
+    if let Ok(all) = found {
+        assert_eq!(rt; all.len(), want.len());
+        for (n, node) in all.as_slice().iter().zip(want) {
+            assert_eq!(rt; *n, id(1, *node));
+        }
+    }
+}
+
+/// From r, i and its first attribute.
+#[test]
+fn axes(rt: HostRuntime) -> Result<(), Fail> {
+    let alloc = rt.alloc();
+    let docs = two_documents(alloc)?;
+    let nav = TreeNav::of(&docs)?;
+    for (axis, n, want) in [
+        (Axis::Child, 1, [2, 3, 4].as_slice()),
+        (Axis::Attribute, 4, [5, 6].as_slice()),
+        (Axis::Child, 4, [7].as_slice()),
+        (Axis::Descendant, 1, [2, 3, 4, 7].as_slice()),
+        (Axis::DescendantOrSelf, 4, [4, 7].as_slice()),
+        (Axis::Parent, 5, [4].as_slice()),
+        (Axis::Parent, 0, [].as_slice()),
+        (Axis::Itself, 5, [5].as_slice()),
+        (Axis::Child, 5, [].as_slice()),
+    ] {
+        check_nodes(&rt, on_axis(alloc, &nav, axis, id(1, n)), want);
+    }
+    let a = [id(1, 1), id(1, 4), id(1, 5)];
+    let b = [id(1, 2), id(1, 4), id(1, 7)];
+    check_nodes(&rt, merge(alloc, &nav, &a, &b), &[1, 2, 4, 5, 7]);
+    Ok(())
+}
+
+#[test]
+fn string_values(rt: HostRuntime) -> Result<(), Fail> {
+    let alloc = rt.alloc();
+    let docs = two_documents(alloc)?;
+    let nav = TreeNav::of(&docs)?;
+    for (n, want) in [(0, "87"), (1, "87"), (3, ""), (4, "7"), (5, "w"), (7, "7")] {
+        if let Ok(text) = string_value(alloc, &nav, id(1, n)) {
+            assert_eq!(rt; text.as_str(), want);
+        }
+    }
     Ok(())
 }
