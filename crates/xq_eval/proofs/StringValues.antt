@@ -44,13 +44,13 @@ kids_texts from i (k ∷ left) d h =
     ∙ (ap (λ rest. flat_map (text_from from) (map (λ way. steps.Kid i ∷ way) (ways_down k)) ++ rest) (kids_texts from (i + 1) left one.1 h.1)
     ∙ sym (flat_map-append (text_from from) (map (λ way. steps.Kid i ∷ way) (ways_down k)) (into_each (i + 1) (map ways_down left))))
 
-told-Element : (name : List ℕ) (attrs : List Attr) (kids : List Node) → told_of (a_node (Element name attrs kids)) ≡ record { kind = kind.Element; name = name; value = [] }
+pub told-Element : (name : List ℕ) (attrs : List Attr) (kids : List Node) → told_of (a_node (Element name attrs kids)) ≡ record { kind = kind.Element; name = name; value = [] }
 told-Element name attrs kids = rw (outs-Element name attrs kids) refl
 
-told-Text : (value : List ℕ) → told_of (a_node (Text value)) ≡ record { kind = kind.Text; name = []; value = value }
+pub told-Text : (value : List ℕ) → told_of (a_node (Text value)) ≡ record { kind = kind.Text; name = []; value = value }
 told-Text value = rw (outs-Text value) refl
 
-told-Pi : (target value : List ℕ) → told_of (a_node (Pi target value)) ≡ record { kind = kind.Pi; name = target; value = value }
+pub told-Pi : (target value : List ℕ) → told_of (a_node (Pi target value)) ≡ record { kind = kind.Pi; name = target; value = value }
 told-Pi target value = rw (outs-Pi target value) refl
 
 kids-Element : (name : List ℕ) (attrs : List Attr) (kids : List Node) → kids_of (a_node (Element name attrs kids)) ≡ kids

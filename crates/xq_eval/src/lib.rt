@@ -9,11 +9,13 @@
 
 mod axes;
 mod calls;
+mod copies;
 mod merging;
 mod texts;
 mod walks;
 
 pub use axes::on_axis;
+pub use copies::{Copied, copy};
 pub use merging::merge;
 pub use texts::string_value;
 pub use walks::{IdList, attributes, children, held};
