@@ -2,17 +2,17 @@
 -- what follows a node in its chain is the next and what follows that.
 use Rattle.std.proofs.Common.{◌≡◌, ℕ, zero, suc, ◌+◌, ◌<◌, ◌≤◌, Bool, true, false, cond, List, [], ◌∷◌, ◌++◌, map, drop, length, Option, Some, None, refl, sym, ap, ◌∙◌, append_assoc, append-nil, subst, IfSome, arith}
 use Rattle.std.specs.Prelude.{nat_lt}
-use Rattle.std.specs.List.{slice_get, flat_map}
+use Rattle.std.specs.List.{flat_map}
 use Rattle.std.specs.Option.{option_map, option_map_or, option_or, option_and, option_and_then}
 use Rattle.std.proofs.lemmas.Bool.{ltb-true, ltb-false}
 use Rattle.std.proofs.lemmas.List.{map-append}
 use Rattle.std.proofs.lemmas.Option.{none-some, same_Some}
 use Rattle.xml_model.specs.declared.place.PlaceStep.{PlaceStep}
 use Rattle.xml_model.specs.declared.place.PlaceStep.TheVariants as steps
-use Rattle.xml_model.specs.Axes.{one_step_each, attribute_ways, child_ways, attribute_places, child_places, held_places, held_nodes, nodes_at, led}
+use Rattle.xml_model.specs.Axes.{one_step_each, attribute_ways, child_ways, held_places, held_nodes, nodes_at}
 use Rattle.xml_model.specs.Forest.{Forest}
-use Rattle.xml_model.specs.Nav.{Ending, ending, behind_step, attr_step, kid_step, first_step, next_step, first_place, next_place, behind_ending, standing, Stored, tree_of, at_place, gone, first_of_node, next_of_node}
-use Rattle.xml_model.specs.Place.{Placed, a_node, an_attribute, attrs_of, kids_of, step_from, placed_from}
+use Rattle.xml_model.specs.Nav.{Ending, ending, behind_step, attr_step, kid_step, first_step, next_step, first_place, next_place, behind_ending, standing, Stored, tree_of, at_place, first_of_node, next_of_node}
+use Rattle.xml_model.specs.Place.{Placed, a_node, an_attribute, attrs_of, kids_of, step_from}
 use Rattle.xml_model.proofs.Chains.{within_some}
 use Rattle.xml_model.proofs.Numbered.{placed_more}
 

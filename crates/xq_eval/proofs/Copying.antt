@@ -1,21 +1,16 @@
 -- Copies of what stands in a node are its attributes and its children.
 use Rattle.std.proofs.Common.{◌≡◌, ℕ, ◌+◌, List, [], ◌∷◌, ◌++◌, map, drop, Option, Some, None, IfSome, refl, sym, ap, subst, ◌∙◌, append_assoc, append-nil}
-use Rattle.std.specs.List.{slice_get}
 use Rattle.std.specs.Option.{option_map, option_map_or, option_and_then}
 use Rattle.std.proofs.lemmas.List.{map-append}
-use Rattle.std.proofs.lemmas.Option.{none-some, same_Some}
-use Rattle.xq_ast.specs.declared.kind.Kind.{Kind}
-use Rattle.xq_ast.specs.declared.kind.Kind.TheVariants as kind
+use Rattle.std.proofs.lemmas.Option.{none-some}
 use Rattle.xml_model.specs.declared.node.Attr.{Attr}
-use Rattle.xml_model.specs.declared.node.Node.{Node, Text, Pi, out-Node}
-use Rattle.xml_model.specs.declared.node.Node.TheVariants.{Element, outs-Element, outs-Text, outs-Pi}
+use Rattle.xml_model.specs.declared.node.Node.{Node}
 use Rattle.xml_model.specs.declared.place.PlaceStep.{PlaceStep}
 use Rattle.xml_model.specs.declared.place.PlaceStep.TheVariants as steps
-use Rattle.xml_model.specs.Axes.{one_step_each, attribute_ways, child_ways, child_places, attribute_places, held_places, held_nodes}
+use Rattle.xml_model.specs.Axes.{one_step_each, attribute_ways, child_ways, held_places, held_nodes}
 use Rattle.xml_model.specs.Forest.{Forest}
-use Rattle.xml_model.specs.Nav.{standing, Stored, tree_of, stored_at, at_place, told_of, first_of_node, next_of_node}
+use Rattle.xml_model.specs.Nav.{standing, Stored, tree_of, stored_at, at_place, first_of_node, next_of_node}
 use Rattle.xml_model.specs.Place.{Placed, the_document, a_node, an_attribute, attrs_of, kids_of, step_from}
-use Rattle.xml_model.proofs.NodeCases.{node_has}
 use Rattle.xml_model.proofs.Numbered.{placed_more}
 use Rattle.xq_eval.specs.declared.copies.Copied.{Copied}
 use Rattle.xq_eval.specs.declared.copies.Copied.TheVariants as copied
@@ -23,7 +18,6 @@ use Rattle.xq_eval.specs.declared.copies.Inside.{Inside}
 use Rattle.xq_eval.specs.Copies.{copied_as, with_copied}
 use Rattle.xq_eval.proofs.Chain.{seen_nodes, held_seen, later_seen}
 use Rattle.xq_eval.proofs.Parts.{drop_first}
-use Rattle.xq_eval.proofs.StringValues.{told-Element, told-Text, told-Pi}
 
 -- the attributes, and the nodes, among what stands at places
 abbrev pub attrs_among : List (Option Placed) → List Attr
@@ -172,53 +166,3 @@ copied_whole F place o None inside e h = tt
 copied_whole F place o (Some it) inside e h =
     let k = subst (λ o. Copying inside.attrs inside.kids it (map (stored_at F) (seen_nodes F (option_map place o)))) e h in
     (sym (append-nil inside.attrs) ∙ k.attrs_are, sym (append-nil inside.kids) ∙ k.kids_are)
-
--- ---- the node that the parts are
-
-made_element : (name : List ℕ) (old attrs : List Attr) (was kids : List Node) → attrs ≡ attrs_of (a_node (Element name old was)) → kids ≡ kids_of (a_node (Element name old was))
-    → Element name old was ≡ Element (told_of (a_node (Element name old was))).name attrs kids
-made_element name old attrs was kids p q =
-    ap (λ t. Element t.name old was) (sym (told-Element name old was))
-    ∙ (ap (λ l. Element (told_of (a_node (Element name old was))).name l was) (sym (p ∙ rw (outs-Element name old was) refl))
-    ∙ ap (λ l. Element (told_of (a_node (Element name old was))).name attrs l) (sym (q ∙ rw (outs-Element name old was) refl)))
-
-made_node : (n : Node) (attrs : List Attr) (kids : List Node) → kind.Element ≡ (told_of (a_node n)).kind → attrs ≡ attrs_of (a_node n) → kids ≡ kids_of (a_node n)
-    → n ≡ Element (told_of (a_node n)).name attrs kids
-made_node n =
-    node_has (λ n. (attrs : List Attr) (kids : List Node) → kind.Element ≡ (told_of (a_node n)).kind → attrs ≡ attrs_of (a_node n) → kids ≡ kids_of (a_node n) → n ≡ Element (told_of (a_node n)).name attrs kids)
-    (λ name old was h attrs kids e p q. made_element name old attrs was kids p q)
-    (λ value attrs kids e p q. let f : kind.Element ≡ kind.Text = e ∙ ap (λ t. t.kind) (told-Text value) in cc)
-    (λ target value attrs kids e p q. let f : kind.Element ≡ kind.Pi = e ∙ ap (λ t. t.kind) (told-Pi target value) in cc) n
-
-text_node : (n : Node) → kind.Text ≡ (told_of (a_node n)).kind → n ≡ Text (told_of (a_node n)).value
-text_node n =
-    node_has (λ n. kind.Text ≡ (told_of (a_node n)).kind → n ≡ Text (told_of (a_node n)).value)
-    (λ name attrs kids h e. let f : kind.Text ≡ kind.Element = e ∙ ap (λ t. t.kind) (told-Element name attrs kids) in cc)
-    (λ value e. ap (λ t. Text t.value) (sym (told-Text value)))
-    (λ target value e. let f : kind.Text ≡ kind.Pi = e ∙ ap (λ t. t.kind) (told-Pi target value) in cc) n
-
-pi_node : (n : Node) → kind.Pi ≡ (told_of (a_node n)).kind → n ≡ Pi (told_of (a_node n)).name (told_of (a_node n)).value
-pi_node n =
-    node_has (λ n. kind.Pi ≡ (told_of (a_node n)).kind → n ≡ Pi (told_of (a_node n)).name (told_of (a_node n)).value)
-    (λ name attrs kids h e. let f : kind.Pi ≡ kind.Element = e ∙ ap (λ t. t.kind) (told-Element name attrs kids) in cc)
-    (λ value e. let f : kind.Pi ≡ kind.Text = e ∙ ap (λ t. t.kind) (told-Text value) in cc)
-    (λ target value e. ap (λ t. Pi t.name t.value) (sym (told-Pi target value))) n
-
--- ---- the copy, by kind
-
-module _ (o : Option Placed) where
-  pub document_made : (attrs : List Attr) (kids : List Node) → kind.Document ≡ (told_at o).kind → IfSome o (λ it. (attrs ≡ attrs_of it) × (kids ≡ kids_of it)) → IfSome o (λ it. it ≡ the_document (record { kids = kids }))
-  document_made attrs kids e h = ?
-
-  pub element_made : (name : List ℕ) (attrs : List Attr) (kids : List Node) → kind.Element ≡ (told_at o).kind → name ≡ (told_at o).name
-      → IfSome o (λ it. (attrs ≡ attrs_of it) × (kids ≡ kids_of it)) → IfSome o (λ it. it ≡ a_node (Element name attrs kids))
-  element_made name attrs kids e n h = ?
-
-  pub attribute_made : (name value : List ℕ) → kind.Attribute ≡ (told_at o).kind → name ≡ (told_at o).name → value ≡ (told_at o).value → IfSome o (λ it. it ≡ an_attribute (record { name = name; value = value }))
-  attribute_made name value e n v = ?
-
-  pub text_made : (value : List ℕ) → kind.Text ≡ (told_at o).kind → value ≡ (told_at o).value → IfSome o (λ it. it ≡ a_node (Text value))
-  text_made value e v = ?
-
-  pub instruction_made : (target value : List ℕ) → kind.Pi ≡ (told_at o).kind → target ≡ (told_at o).name → value ≡ (told_at o).value → IfSome o (λ it. it ≡ a_node (Pi target value))
-  instruction_made target value e n v = ?

@@ -1,13 +1,13 @@
 -- The attributes and the children among all that stands in a node, and what is below it by the nodes of its chain.
-use Rattle.std.proofs.Common.{◌≡◌, ℕ, zero, suc, ◌+◌, Bool, true, false, not, cond, List, [], ◌∷◌, ◌++◌, map, drop, length, ◌≤◌, Option, Some, None, refl, sym, ap, subst, ◌∙◌, append_assoc, append-nil, arith}
+use Rattle.std.proofs.Common.{◌≡◌, ℕ, zero, suc, ◌+◌, Bool, true, false, cond, List, [], ◌∷◌, ◌++◌, map, drop, length, ◌≤◌, Option, Some, None, refl, sym, ap, ◌∙◌, append_assoc, append-nil, arith}
 use Rattle.std.specs.List.{slice_get, filter, flat_map}
 use Rattle.std.specs.Option.{option_map, option_map_or, option_and_then}
 use Rattle.std.proofs.lemmas.List.{map-append}
 use Rattle.std.proofs.lemmas.List.Concat.{flat_map-append}
 use Rattle.std.proofs.lemmas.List.Elements.{filter-append}
 use Rattle.xml_model.specs.declared.node.Attr.{Attr}
-use Rattle.xml_model.specs.declared.node.Node.{Node, Text, Pi, out-Node}
-use Rattle.xml_model.specs.declared.node.Node.TheVariants.{Element, outs-Element, outs-Text, outs-Pi}
+use Rattle.xml_model.specs.declared.node.Node.{Node}
+use Rattle.xml_model.specs.declared.node.Node.TheVariants.{outs-Element, outs-Text, outs-Pi}
 use Rattle.xml_model.specs.declared.place.PlaceStep.{PlaceStep}
 use Rattle.xml_model.specs.declared.place.PlaceStep.TheVariants as steps
 use Rattle.xml_model.specs.Axes.{one_step_each, into_each, ways_down, down_step, attribute_ways, child_ways, descendant_ways, attribute_places, child_places, descendant_places, held_places, held_nodes, nodes_at}

@@ -1,21 +1,21 @@
 -- The string value of a node is the texts among the nodes below it, one after another.
-use Rattle.std.proofs.Common.{◌≡◌, ℕ, zero, suc, ◌+◌, Bool, true, false, cond, List, [], ◌∷◌, ◌++◌, map, drop, Option, Some, None, Result, Ok, Err, IfOk, refl, sym, ap, ◌∙◌, append_assoc, append-nil, arith}
-use Rattle.std.specs.List.{slice_get, flat_map}
+use Rattle.std.proofs.Common.{◌≡◌, ℕ, ◌+◌, true, cond, List, [], ◌∷◌, ◌++◌, map, drop, Option, Some, None, Result, Ok, Err, IfOk, refl, sym, ap, ◌∙◌, append-nil}
+use Rattle.std.specs.List.{flat_map}
 use Rattle.std.specs.Option.{option_map, option_map_or, option_and_then}
 use Rattle.std.proofs.lemmas.List.Concat.{flat_map-append}
 use Rattle.xq_ast.specs.declared.kind.Kind.{Kind}
 use Rattle.xq_ast.specs.declared.kind.Kind.TheVariants as kind
 use Rattle.xml_model.specs.declared.node.Attr.{Attr}
-use Rattle.xml_model.specs.declared.node.Node.{Node, Text, Pi, out-Node}
+use Rattle.xml_model.specs.declared.node.Node.{Node, Text, Pi}
 use Rattle.xml_model.specs.declared.node.Node.TheVariants.{Element, outs-Element, outs-Text, outs-Pi}
 use Rattle.xml_model.specs.declared.place.PlaceStep.{PlaceStep}
 use Rattle.xml_model.specs.declared.place.PlaceStep.TheVariants as steps
-use Rattle.xml_model.specs.Axes.{into_each, ways_down, down_step, descendant_ways, descendant_places, nodes_at, texts_in, texts_step, string_value, string_of_node}
+use Rattle.xml_model.specs.Axes.{into_each, ways_down, down_step, descendant_ways, descendant_places, texts_in, texts_step, string_value, string_of_node}
 use Rattle.xml_model.specs.Forest.{Forest}
 use Rattle.xml_model.specs.Nav.{standing, Stored, tree_of, stored_at, told_at, told_of, at_place}
 use Rattle.xml_model.specs.Place.{Placed, the_document, a_node, an_attribute, kids_of, step_from, placed_from}
 use Rattle.xml_model.specs.Trees.{joined}
-use Rattle.xml_model.proofs.NodeCases.{Each, node_has, nodes_have}
+use Rattle.xml_model.proofs.NodeCases.{Each, node_has}
 use Rattle.xml_model.proofs.Nodes.{fold-Element, fold-Text, fold-Pi}
 use Rattle.xq_eval.specs.Walks.{text_of, below_text, is_whole}
 use Rattle.xq_eval.proofs.Parts.{drop_first}

@@ -1,5 +1,5 @@
 -- What a copy is a copy of.
-use Rattle.std.specs.Prelude.{List, [], ◌∷◌, ◌++◌}
+use Rattle.std.specs.Prelude.{[], ◌∷◌, ◌++◌}
 use Rattle.xml_model.specs.Place.{Placed, the_document, a_node, an_attribute}
 use Rattle.xq_eval.specs.declared.copies.Copied.{Copied}
 use Rattle.xq_eval.specs.declared.copies.Copied.TheVariants as copied

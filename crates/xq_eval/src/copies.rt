@@ -1,9 +1,10 @@
 //! Copies of stored nodes.
-ghost use Rattle.std.specs.Prelude.{◌≡◌, IfOk, IfErr, IfSome};
-ghost use Rattle.xml_model.specs.Nav.{stored_at};
+ghost use Rattle.std.specs.Prelude.{◌≡◌, IfOk, IfErr, IfSome, OnOk};
+ghost use Rattle.xml_model.specs.Nav.{stored_at, told_at};
 ghost use Rattle.xml_model.specs.NavFaults.{Passes};
 ghost use Rattle.xml_model.specs.Place.{attrs_of, kids_of};
-ghost use Rattle.xq_eval.specs.Copies.{copied_as};
+ghost use Rattle.xml_model.specs.declared.node.Node.TheVariants.{Element};
+ghost use Rattle.xq_eval.specs.Copies.{copied_as, with_copied};
 
 use crate::calls::{first_of, kind_of, next_of};
 use std::alloc::Global;
@@ -53,13 +54,14 @@ fn copy_inside<N: Nav>(alloc: Global, nav: &N, n: Id) -> Result<Inside, NavEnd<N
     Ok(inside)
 }
 
-fn copy_element<N: Nav>(nav: &N, n: Id, inside: Inside) -> Result<Copied, NavEnd<N::Fault>> {
-    Ok(Copied::Node {
-        node: Node::Element {
-            name: nav.name(n)?,
-            attrs: inside.attrs,
-            kids: inside.kids,
-        },
+fn copy_element<N: Nav>(nav: &N, n: Id, inside: Inside) -> Result<Node, NavEnd<N::Fault>>
+    ensures gives { IfOk result (λ node. N.honest nav.now → node ≡ Element (told_at (stored_at (N.forest nav.now) (N.place nav.now n))).name inside.attrs inside.kids) }
+    ensures fault { IfErr result (Passes (N.passes nav.now)) }
+{
+    Ok(Node::Element {
+        name: nav.name(n)?,
+        attrs: inside.attrs,
+        kids: inside.kids,
     })
 }
 
@@ -70,10 +72,16 @@ pub fn copy<N: Nav>(alloc: Global, nav: &N, n: Id) -> Result<Copied, NavEnd<N::F
     ensures fault { IfErr result (Passes (N.passes nav.now)) }
 {
     match kind_of(nav, n)? {
-        Kind::Document => Ok(Copied::Document {
-            kids: copy_inside(alloc, nav, n)?.kids,
-        }),
-        Kind::Element => copy_element(nav, n, copy_inside(alloc, nav, n)?),
+        Kind::Document => {
+            let inside = copy_inside(alloc, nav, n)?;
+            Ok(Copied::Document { kids: inside.kids })
+        }
+        Kind::Element => {
+            let inside = copy_inside(alloc, nav, n)?;
+            Ok(Copied::Node {
+                node: copy_element(nav, n, inside)?,
+            })
+        }
         Kind::Attribute => Ok(Copied::Attribute {
             attr: Attr {
                 name: nav.name(n)?,

@@ -3,8 +3,9 @@
 //! Nodes are `Id`s, and contracts see the stored nodes that they stand for. Where the `Nav` is honest
 //! (its nodes stand for a forest), lists of nodes are those of the definitions: `merge` joins two lists
 //! in document order without duplicates, `held`, `attributes` and `children` list what stands in a node,
-//! `on_axis` what an axis finds, and `string_value` is the text of a node. Over any `Nav` each call returns, and hands on a fault only where
-//! one came that passes the `Nav`'s test.
+//! and `on_axis` what an axis finds; `string_value` is the text of a node, and `copy` the tree that it
+//! is. Over any `Nav` each call returns, and hands on a fault only where one came that passes the
+//! `Nav`'s test.
 #![tactic(auto)]
 
 mod axes;

@@ -1,4 +1,4 @@
-use Rattle.std.proofs.Common.{◌≡◌, map, arith}
+use Rattle.std.proofs.Common.{map, arith}
 use Rattle.xml_model.specs.DocumentOrder.{node_cmp, union}
 use Rattle.xq_eval.proofs.Unions.{finish_right}
 use Rattle.xq_eval.proofs.merging.merge.Goals as goal

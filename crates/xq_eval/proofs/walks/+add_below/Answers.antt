@@ -1,6 +1,6 @@
-use Rattle.std.proofs.Common.{◌≡◌, ◌++◌, ◌∙◌, false, true, map, ap, sym}
+use Rattle.std.proofs.Common.{◌++◌, ◌∙◌, map, ap}
 use Rattle.std.specs.List.{flat_map}
-use Rattle.xml_model.specs.Axes.{held_nodes, nodes_at, descendant_places}
+use Rattle.xml_model.specs.Axes.{held_nodes}
 use Rattle.xq_eval.proofs.Chain.{turned_into, ended, lower}
 use Rattle.xq_eval.proofs.Parts.{with_below, parts, child_turn, attribute_turn}
 use Rattle.xq_eval.proofs.walks.+add_below.Goals as goal

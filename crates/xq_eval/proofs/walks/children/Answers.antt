@@ -1,4 +1,4 @@
-use Rattle.std.proofs.Common.{◌≡◌, ◌∙◌, map, ap, arith}
+use Rattle.std.proofs.Common.{◌∙◌, map, ap, arith}
 use Rattle.xml_model.specs.Axes.{held_nodes}
 use Rattle.xq_eval.specs.Walks.{is_child}
 use Rattle.xq_eval.proofs.Parts.{parts, finish}

@@ -1,4 +1,3 @@
-use Rattle.std.proofs.Common.{◌≡◌}
 use Rattle.xml_model.specs.Axes.{held_nodes}
 use Rattle.xq_eval.proofs.Chain.{turned, lower}
 use Rattle.xq_eval.proofs.walks.held.Goals as goal
