@@ -17,21 +17,26 @@ use Rattle.xq_ast.specs.declared.tree.Bind.TheFolds.{fold-Bind, fold-Expr, fold-
 
 -- each expression of a layer passes the test
 module _ (test : Expr → Bool) where
+  -- one that may not be there
   abbrev pub option_passes : Option Expr → Bool
   option_passes None = true
   option_passes (Some e) = test e
 
+  -- the source or the value of a binding
   abbrev pub bind_passes : Bind-F Bind Expr Start ProductPart SortKey Step SumPart → Bool
   bind_passes (Bind-F.For name at source) = test source
   bind_passes (Bind-F.Let name value) = test value
 
+  -- the predicates of a step
   abbrev pub step_passes : Step → Bool
   step_passes s = list_all test s.preds
 
+  -- the expression or the step of a beginning
   abbrev pub start_passes : Start-F Bind Expr Start ProductPart SortKey Step SumPart → Bool
   start_passes (Start-F.Value inner) = test inner
   start_passes (Start-F.First step) = step_passes step
 
+  -- all expressions of a layer
   abbrev pub passes : Expr-F Bind Expr Start ProductPart SortKey Step SumPart → Bool
   passes (Expr-F.Text value) = true
   passes (Expr-F.Int value) = true
@@ -85,32 +90,41 @@ module _ {B E S P K T Q : Type 0} (none : E)
     (sum_step : SumPart-F B E S P K T Q → Q) where
   -- the parts of a layer, by what their expressions are
   module _ (go : Expr → E) where
+    -- a binding
     abbrev pub bind_layer : Bind-F Bind Expr Start ProductPart SortKey Step SumPart → Bind-F B E S P K T Q
     bind_layer (Bind-F.For name at source) = Bind-F.For name at (go source)
     bind_layer (Bind-F.Let name value) = Bind-F.Let name (go value)
 
+    -- what it is
     abbrev pub of_bind : Bind → B
     of_bind b = bind_step (bind_layer (out-Bind b))
 
+    -- what a step is
     abbrev pub of_step : Step → T
     of_step s = step_step (record { deep = s.deep; axis = s.axis; test = s.test; preds = map go s.preds })
 
+    -- the beginning of a path
     abbrev pub start_layer : Start-F Bind Expr Start ProductPart SortKey Step SumPart → Start-F B E S P K T Q
     start_layer (Start-F.Value inner) = Start-F.Value (go inner)
     start_layer (Start-F.First step) = Start-F.First (of_step step)
 
+    -- what it is
     abbrev pub of_start : Start → S
     of_start s = start_step (start_layer (out-Start s))
 
+    -- what a factor is
     abbrev pub of_product : ProductPart → P
     of_product p = product_step (record { op = p.op; expr = go p.expr })
 
+    -- what a key is
     abbrev pub of_key : SortKey → K
     of_key k = key_step (record { expr = go k.expr; descending = k.descending })
 
+    -- what a summand is
     abbrev pub of_sum : SumPart → Q
     of_sum p = sum_step (record { minus = p.minus; expr = go p.expr })
 
+    -- an expression
     abbrev pub layer : Expr-F Bind Expr Start ProductPart SortKey Step SumPart → Expr-F B E S P K T Q
     layer = map-Expr _ _ _ _ _ _ _ _ _ _ _ _ _ _ of_bind go of_start of_product of_key of_step of_sum
 

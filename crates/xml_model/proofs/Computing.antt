@@ -8,7 +8,7 @@ use Rattle.std.specs.Fmt.{char_count, digits, signed_decimal}
 use Rattle.std.specs.List.{concat}
 use Rattle.std.specs.Option.{option_map_or}
 use Rattle.std.specs.Ordering.{nat_cmp}
-use Rattle.std.specs.Prelude.{Err, List, None, Ok, Option, Result, Some, T, [], codes, false, filter, if◌then◌else◌, length, map, nat_lt, not, pos, refl, true, ℕ, ◌++◌, ◌∷◌, ◌≡◌}
+use Rattle.std.specs.Prelude.{Err, List, None, Ok, Option, Result, Some, T, [], codes, false, filter, if◌then◌else◌, length, map, nat_lt, not, pos, refl, true, ℕ, ◌∷◌, ◌≡◌}
 use Rattle.xml_model.proofs.Bounded.{bounded, fits, run}
 use Rattle.xml_model.proofs.Nodes.{fold-Element', fold-Pi, fold-Text}
 use Rattle.xml_model.specs.Atoms.{Atoms, atom_text, boolean_text, chained, compares, effective_boolean, operated, product_op, range_of, signed_by, sum_of, sum_op}
@@ -23,7 +23,7 @@ use Rattle.xml_model.specs.Nodes.{is_attribute_axis, nodes_or, passes_at, united
 use Rattle.xml_model.specs.Place.{Placed, a_node, an_attribute, kids_of, the_document}
 use Rattle.xml_model.specs.Pyx.{Line, attribute_line, pyx_step}
 use Rattle.xml_model.specs.Trees.{bytes_step, count_step, depth_step, joined}
-use Rattle.xml_model.specs.Tuples.{BindMeans, Bindings, KeyMeans, Keyed, Means, Tuples, each, first_type, joined_type, key_of, no_keys, no_tuples, other_types, returned, sorted, stays, type_of, with_key}
+use Rattle.xml_model.specs.Tuples.{BindMeans, Bindings, KeyMeans, Keyed, Means, Tuples, each, first_type, joined_type, key_of, no_keys, no_tuples, other_types, returned, sorted, stays, type_of, with_key, with_row}
 use Rattle.xml_model.specs.declared.limits.TheConstants.{DEPTH_MAX, NODES_MAX, TEXT_BYTES_MAX}
 use Rattle.xml_model.specs.declared.node.Doc.{Doc}
 use Rattle.xml_model.specs.declared.node.Node.{Element', Node, Pi, Row_of-Node, end_of-Node, items-the_row-Node, more_of-Node, out-Node}
@@ -53,15 +53,19 @@ use Rattle.xml_model.specs.Evaluation as spec
 use Rattle.xml_model.specs.declared.value.KeyType.TheVariants as types
 
 module _ (docs : Documents) (fold : (A : Type 0) → (Node-F A → A) → Node → A) where
+  -- the ways to a node itself and to all below it
   abbrev pub ways_down : Node → List (List PlaceStep)
   ways_down = fold (List (List PlaceStep)) down_step
 
+  -- into each child and on
   abbrev pub descendant_ways : Placed → List (List PlaceStep)
   descendant_ways from = into_each 0 (map ways_down (kids_of from))
 
+  -- the places that they lead to
   abbrev pub descendant_places : Placed → List PlaceStep → List (List PlaceStep)
   descendant_places = led descendant_ways
 
+  -- the places of an axis
   abbrev pub axis_places : Axis → Placed → List PlaceStep → List (List PlaceStep)
   axis_places axis.Child root place = child_places root place
   axis_places axis.Descendant root place = descendant_places root place
@@ -70,6 +74,7 @@ module _ (docs : Documents) (fold : (A : Type 0) → (Node-F A → A) → Node �
   axis_places axis.Attribute root place = attribute_places root place
   axis_places axis.Parent root place = parent_places root place
 
+  -- the texts in a node
   abbrev pub texts_in : Node → List ℕ
   texts_in = fold (List ℕ) texts_step
 
@@ -79,6 +84,7 @@ module _ (docs : Documents) (fold : (A : Type 0) → (Node-F A → A) → Node �
   string_in (Node-F.Text value) = value
   string_in (Node-F.Pi target value) = value
 
+  -- the string value of what stands somewhere
   abbrev pub string_value : Placed → List ℕ
   string_value (the_document doc) = joined (map texts_in doc.kids)
   string_value (a_node n) = string_in (out-Node n)
@@ -162,11 +168,9 @@ module _ (docs : Documents) (fold : (A : Type 0) → (Node-F A → A) → Node �
       ∷ (codes "last", λ args. of_focus (λ focus. focus.size) cx)
       ∷ []
 
+  -- what the function of this name answers
   abbrev pub call_function : Made → Context → List ℕ → List Items → Result Items Code
   call_function made cx = answer_of_row (rows made cx)
-
-  abbrev pub with_row : Tuples → Bindings → Keyed → Tuples
-  with_row all env keyed = record { types = keyed.types; rows = all.rows ++ record { keys = keyed.keys; bindings = env } ∷ [] }
 
   -- the keys in order, after those that are there; the types are those of earlier tuples at the places from here on
   abbrev pub keyed : List KeyMeans → Bindings → Context → List KeyType → Keyed → Making Keyed
@@ -245,6 +249,7 @@ module _ (docs : Documents) (fold : (A : Type 0) → (Node-F A → A) → Node �
   abbrev pub expr_step : Expr-F BindMeans Means Means (ProductMeans docs) KeyMeans StepMeans (SumMeans docs) → Means
   expr_step layer env cx = value_of layer env cx >>= counted
 
+  -- the beginning of a path
   abbrev pub start_step : Start-F BindMeans Means Means (ProductMeans docs) KeyMeans StepMeans (SumMeans docs) → Means
   start_step (Start-F.Value inner) env cx = inner env cx
   start_step (Start-F.First step) env cx = first_step step env cx
@@ -276,12 +281,14 @@ module _ (docs : Documents) (fold : (A : Type 0) → (Node-F A → A) → Node �
   placed_lines (Some (a_node n)) = pyx_node n
   placed_lines (Some (an_attribute a)) = attribute_line a ∷ []
 
+  -- the lines of an item
   abbrev pub item_lines : Made → Item → List Line
   item_lines made (node n) = placed_lines (node_at docs made n)
   item_lines made (string text) = atom_line text
   item_lines made (integer n) = atom_line (signed_decimal n)
   item_lines made (boolean b) = atom_line (boolean_text b)
 
+  -- the lines of all items
   abbrev pub lines_of : Made → Items → List Line
   lines_of made items = joined (map (item_lines made) items)
 

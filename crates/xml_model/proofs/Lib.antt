@@ -1,5 +1,8 @@
+pub mod Alike
+pub mod AlikeParts
 pub mod Bounded
 pub mod Computing
+pub mod Depths
 pub mod Building
 pub mod Chains
 pub mod Entries
@@ -8,6 +11,7 @@ pub mod Formed
 pub mod Forests
 pub mod Framing
 mod FunctionRows
+pub mod Known
 pub mod Laying
 pub mod Lines
 pub mod Nodes
@@ -30,6 +34,8 @@ pub mod TextLines
 pub mod PlaceOrder
 pub mod Placing
 pub mod QueryForms
+pub mod QueryFrame
+pub mod QueryNeeds
 pub mod Sorting
 pub mod TreeNumbers
 pub mod TreeCalls

@@ -16,42 +16,49 @@ use Rattle.xml_model.proofs.Computing.{Entries}
 
 -- ---- parts of queries
 
--- an operand that is added, and one that is subtracted
+-- an operand that is added
 abbrev pub plus : Expr → SumPart
 plus operand = record { minus = false; expr = operand }
 
+-- and one that is subtracted
 abbrev pub minus : Expr → SumPart
 minus operand = record { minus = true; expr = operand }
 
--- an operand of `*`, of `idiv` and of `mod`
+-- an operand of `*`
 abbrev pub times : Expr → ProductPart
 times operand = record { op = Times; expr = operand }
 
+-- an operand of `idiv`
 abbrev pub divided : Expr → ProductPart
 divided operand = record { op = Idiv; expr = operand }
 
+-- an operand of `mod`
 abbrev pub modulo : Expr → ProductPart
 modulo operand = record { op = Mod; expr = operand }
 
--- a key, and one that descends
+-- a key
 abbrev pub ascending : Expr → SortKey
 ascending key = record { expr = key; descending = false }
 
+-- and one that descends
 abbrev pub descending : Expr → SortKey
 descending key = record { expr = key; descending = true }
 
--- a step, and one behind `//`
+-- a step
 abbrev pub step : Axis → Test → List Expr → Step
 step way wanted preds = record { deep = false; axis = way; test = wanted; preds = preds }
 
+-- and one behind `//`
 abbrev pub deep_step : Axis → Test → List Expr → Step
 deep_step way wanted preds = record { deep = true; axis = way; test = wanted; preds = preds }
 
 -- ---- documents
 
+-- an attribute
 abbrev pub attr : List ℕ → List ℕ → Attr
 attr name value = record { name = name; value = value }
 
+-- a document of these nodes
 abbrev pub doc : List Node → Doc
 doc nodes = record { kids = nodes }
 

@@ -6,8 +6,9 @@
 //! the laws between them (`pyx_is_read_again`, `what_is_read_is_valid`, `read_just_where_spelled`,
 //! `what_is_counted`), what a statement says of a forest and does to it (`Forest`, `Statement`, with
 //! `statements_keep_forests`), and the locks that a call needs (`Needs`, with
-//! `calls_keep_to_their_needs`). A `DocMap` is a forest, and `DocChanges` are changes that leave
-//! one: both keep that each document in them is valid and each name a document's name.
+//! `calls_keep_to_their_needs` and `queries_keep_to_their_needs`). A `DocMap` is a forest, and
+//! `DocChanges` are changes that leave one: both keep that each document in them is valid and each
+//! name a document's name.
 //! Nothing is refused here: a call ends with its answer or, where it takes memory, `NoMemory`.
 #![tactic(auto)]
 
@@ -33,7 +34,8 @@ pub use changes::DocChanges;
 pub use forest::DocMap;
 pub use laws::{
     calls_keep_to_their_needs, canonical_text_is_read_again, pyx_is_read_again,
-    read_just_where_spelled, statements_keep_forests, what_is_counted, what_is_read_is_valid,
+    queries_keep_to_their_needs, read_just_where_spelled, statements_keep_forests, what_is_counted,
+    what_is_read_is_valid,
 };
 pub use limits::{DEPTH_MAX, ITEMS_MAX, NODES_MAX, REPLY_BYTES_MAX, TEXT_BYTES_MAX};
 pub use nav::{Id, NUMBER_MAX, Nav, NavEnd};
