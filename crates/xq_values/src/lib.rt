@@ -12,13 +12,25 @@ mod cast;
 mod compare;
 mod end;
 mod item;
+mod key;
+mod range;
+mod row;
+mod sign;
 mod sum;
+mod text;
 mod truth;
 
 pub use arithmetic::{Operands, added, multiplied};
 pub use cast::{to_boolean, to_integer};
 pub use compare::compares;
 pub use end::ValueEnd;
-pub use item::{Item, ItemList, NodeId};
+pub use item::{Item, ItemList, MadeList, MadePlace, MadeRoot, NodeId};
+pub use key::{joined_type, key_of, keys_order, type_of};
+pub use range::range_of;
+pub use row::{Bindings, Row, SharedItems, Variable, sorted};
+pub use sign::signed;
 pub use sum::sum_of;
+pub use text::{
+    atom_text, begins_with, char_count, concat_arguments, has_within, limited_text, spaced, string_argument,
+};
 pub use truth::effective_boolean;
