@@ -1,4 +1,5 @@
-use Rattle.std.proofs.Common.{◌≡◌, ℤ, map, ap, ◌∙◌, arith, to_z, of_z, w64}
+use Rattle.std.proofs.Common.{◌≡◌, ℤ, map, ap, ◌∙◌, arith, to_z, of_z, w64, rules}
+use Rattle.std.specs.Prelude.{FitsSigned}
 use Rattle.std.specs.List.{range_with_len}
 use Rattle.std.proofs.lemmas.Int.{to_z-of_z}
 use Rattle.xq_values.proofs.Ranges.{nth, one_more}
@@ -7,7 +8,10 @@ use Rattle.xq_values.proofs.range.integers.Goals as goal
 pub loop-k-preserved : goal.loop-k-preserved
 loop-k-preserved c =
     let low : ℤ = to_z w64 (of_z w64 c.args.low) in
-    λ place. one_more place low c.loop-k.all c.push.new.self c.loop-k.k c.behind-value.result c.behind-value.ensures c.in_ok-push.ensures.ok (c.loop-k.invariant place)
+    let value : ℤ = to_z w64 (of_z w64 c.behind-value.result) in
+    let fits : FitsSigned w64 c.behind-value.result = search rules in
+    λ place. one_more place low c.loop-k.all c.push.new.self c.loop-k.k value (to_z-of_z w64 c.behind-value.result fits ∙ c.behind-value.ensures)
+      c.in_ok-push.ensures.ok (c.loop-k.invariant place)
 
 pub returns : goal.returns
 returns c =
