@@ -1,5 +1,5 @@
 -- The order of keys is total, and that of tuples by their keys is a strict weak order.
-use Rattle.std.proofs.Common.{◌≡◌, ℕ, ◌≤◌, ◌<◌, length, Bool, true, false, List, [], ◌∷◌, refl, sym, ap, ◌∙◌, Ordering, subst, ℤ, pos, arith, rules}
+use Rattle.std.proofs.Common.{◌≡◌, ℕ, ◌≤◌, ◌<◌, length, Bool, true, false, List, [], ◌∷◌, refl, sym, ap, ◌∙◌, Ordering, subst, ℤ, pos, arith}
 use Rattle.std.specs.Prelude.{map, if◌then◌else◌}
 use Rattle.std.specs.Ordering.{on, then_cmp, nat_cmp, int_cmp, bool_cmp, ordering_reverse, ordering_then, is_lt}
 use Rattle.std.specs.declared.cmp.Ordering.TheVariants.{Less, Equal, Greater}
@@ -82,10 +82,12 @@ turned_total true = record {
     unturned Less p = absurd (cc)
     unturned Equal p = refl
     unturned Greater p = absurd (cc)
+
     less : (o : Ordering) → ordering_reverse o ≡ Less → o ≡ Greater
     less Less p = absurd (cc)
     less Equal p = absurd (cc)
     less Greater p = refl
+
     back : (R : Key → Key → Ordering) → IsTotalOrder R → (x y z : Key) → ordering_reverse (R x y) ≡ Less → ordering_reverse (R y z) ≡ Less → R x z ≡ Greater
     back R o x y z p q =
         let a : R y x ≡ Less = o.antisymm y x ∙ ap ordering_reverse (less (R x y) p) in
@@ -134,7 +136,7 @@ trans [] (x ∷ xs) [] z p q = absurd (cc)
 trans [] (x ∷ xs) (y ∷ ys) [] p q = absurd (cc)
 trans [] (x ∷ xs) (y ∷ ys) (z ∷ zs) p q =
     both (key_cmp x y) (key_cmp y z) (key_cmp x z) (keys_cmp [] xs ys) (keys_cmp [] ys zs) (keys_cmp [] xs zs)
-      (key_total.trans x y z) (key_total.congr x y z) (λ e. sym (alike_right key_total y z x e)) (trans [] xs ys zs) p q
+    (key_total.trans x y z) (key_total.congr x y z) (λ e. sym (alike_right key_total y z x e)) (trans [] xs ys zs) p q
 trans (d ∷ ds) [] [] z p q = absurd (cc)
 trans (d ∷ ds) [] (y ∷ ys) [] p q = absurd (cc)
 trans (d ∷ ds) [] (y ∷ ys) (z ∷ zs) p q = refl
@@ -143,7 +145,7 @@ trans (d ∷ ds) (x ∷ xs) (y ∷ ys) [] p q = absurd (cc)
 trans (d ∷ ds) (x ∷ xs) (y ∷ ys) (z ∷ zs) p q =
     let o = turned_total d in
     both (turned d (key_cmp x y)) (turned d (key_cmp y z)) (turned d (key_cmp x z)) (keys_cmp ds xs ys) (keys_cmp ds ys zs) (keys_cmp ds xs zs)
-      (o.trans x y z) (o.congr x y z) (λ e. sym (alike_right o y z x e)) (trans ds xs ys zs) p q
+    (o.trans x y z) (o.congr x y z) (λ e. sym (alike_right o y z x e)) (trans ds xs ys zs) p q
 
 congr : (ds : List Bool) (x y z : List Key) → keys_cmp ds x y ≡ Equal → keys_cmp ds x z ≡ keys_cmp ds y z
 congr [] [] [] z p = refl

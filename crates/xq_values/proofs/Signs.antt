@@ -1,10 +1,9 @@
 -- Signs in front of a value: one more at a time, from the last to the first.
-use Rattle.std.proofs.Common.{◌≡◌, ℕ, zero, suc, ◌+◌, ◌-◌, ◌<◌, ◌≤◌, Bool, List, [], ◌∷◌, length, drop, get_or, refl, ap, sym, ◌∙◌, subst, arith, drop-cons, ℤ, Option, Some, None, Result, Ok, Err}
+use Rattle.std.proofs.Common.{◌≡◌, ℕ, zero, suc, ◌+◌, ◌-◌, ◌<◌, Bool, List, [], ◌∷◌, length, drop, get_or, refl, ap, sym, ◌∙◌, subst, arith, drop-cons, ℤ, Option, Some, None, Result, Ok, Err}
 use Rattle.xq_ast.specs.declared.code.Code.{Code}
 use Rattle.xq_ast.specs.declared.tree.Sign.{Sign}
 use Rattle.xq_ast.specs.declared.tree.Sign.TheVariants.{Plus}
-use Rattle.xml_model.specs.declared.value.Atom.TheVariants as atom
-use Rattle.xml_model.specs.Items.{Items, integer, ◌>>?◌}
+use Rattle.xml_model.specs.Items.{Items, ◌>>?◌}
 use Rattle.xml_model.specs.Atoms.{Atoms, is_minus, signed_by}
 use Rattle.xq_values.specs.Lists.{listed, IsPlain}
 use Rattle.xq_values.specs.Signs.{is_minus_at, with_sign, again, SignsGive}

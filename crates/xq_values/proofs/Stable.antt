@@ -1,5 +1,5 @@
 -- Two lists in order, with ties alike, are one list, and an insertion sort is in order.
-use Rattle.std.proofs.Common.{◌≡◌, ℕ, zero, suc, ◌+◌, ◌<◌, ◌≤◌, Bool, true, false, cond, not, ◌&&◌, List, [], ◌∷◌, ◌++◌, length, get_or, refl, sym, ap, ◌∙◌, subst, arith, append_assoc, append-nil}
+use Rattle.std.proofs.Common.{◌≡◌, ℕ, zero, suc, ◌<◌, ◌≤◌, Bool, true, false, cond, not, ◌&&◌, List, [], ◌∷◌, ◌++◌, length, get_or, refl, sym, ap, ◌∙◌, subst, arith, append_assoc, append-nil}
 use Rattle.std.specs.List.{filter}
 use Rattle.std.specs.List.Sorted.{ties, IsSortedBy, IsStableBy}
 use Rattle.std.specs.Cmp.{IsStrictWeakOrder}
@@ -90,7 +90,7 @@ module _ {A : Type 0} (lt : A → A → Bool) (o : IsStrictWeakOrder lt) where
       let t : ties lt y x ≡ true = both_tie (lt y x) (lt x y) a b in
       let same : y ≡ x = heads y x (filter (ties lt y) ys) (filter (ties lt y) xs) (sym (at_self y ys) ∙ (s y ∙ ap (λ b. cond b (x ∷ filter (ties lt y) xs) (filter (ties lt y) xs)) t)) in
       let rest : (z : A) → filter (ties lt z) ys ≡ filter (ties lt z) xs = λ z. tails (ties lt z x) x (filter (ties lt z) ys) (filter (ties lt z) xs)
-            (subst (λ w. filter (ties lt z) (w ∷ ys) ≡ filter (ties lt z) (x ∷ xs)) same (s z)) in
+      (subst (λ w. filter (ties lt z) (w ∷ ys) ≡ filter (ties lt z) (x ∷ xs)) same (s z)) in
       ap (λ zs. x ∷ zs) (one_list xs ys u.1 v.1 rest) ∙ ap (λ w. w ∷ ys) (sym same)
 
   -- a sort's clause, by recursion
@@ -129,9 +129,11 @@ module _ {A : Type 0} (lt : A → A → Bool) (o : IsStrictWeakOrder lt) where
     where
       far : (b : Bool) → ties lt z w ≡ b → lt x w ≡ false → ties lt z w ≡ false
       far b k f = absurd (false≢true (sym (o.chain x w y f h.0) ∙ e))
+
       near : (b : Bool) → ties lt z w ≡ b → lt x w ≡ true → ties lt z w ≡ false
       near true k f = absurd (false≢true (sym (o.chain x z w (snd_tie (lt z x) (lt x z) t) (fst_tie (lt z w) (lt w z) k)) ∙ f))
       near false k f = k
+
       here : (b : Bool) → lt x w ≡ b → ties lt z w ≡ false
       here true e2 = near (ties lt z w) refl e2
       here false e2 = far (ties lt z w) refl e2
@@ -143,9 +145,11 @@ module _ {A : Type 0} (lt : A → A → Bool) (o : IsStrictWeakOrder lt) where
       after : (b : Bool) (us vs more : List A) → us ≡ vs ++ more → cond b (y ∷ us) us ≡ cond b (y ∷ vs) vs ++ more
       after true us vs more e = ap (λ l. y ∷ l) e
       after false us vs more e = e
+
       front : (b : Bool) → ties lt z x ≡ b → lt x y ≡ true → filter (ties lt z) (x ∷ y ∷ ys) ≡ filter (ties lt z) (y ∷ ys) ++ filter (ties lt z) (x ∷ [])
       front true t e = rw (none_tie z x y (y ∷ ys) t e (irrefl y, u.0)) refl
       front false t e = rw t (sym (append-nil _))
+
       go : (b : Bool) → lt x y ≡ b → filter (ties lt z) (placed lt x ys) ≡ filter (ties lt z) ys ++ filter (ties lt z) (x ∷ []) → filter (ties lt z) (cond b (x ∷ y ∷ ys) (y ∷ placed lt x ys)) ≡ filter (ties lt z) (y ∷ ys) ++ filter (ties lt z) (x ∷ [])
       go true e rest = front (ties lt z x) refl e
       go false e rest = after (ties lt z y) _ _ _ rest

@@ -1,9 +1,8 @@
 -- Sums: casting and adding in turn gives what casting all and then adding gives.
-use Rattle.std.proofs.Common.{◌≡◌, Bool, true, false, List, [], ◌∷◌, refl, ap, sym, ◌∙◌, ℤ, pos, Option, Some, None, Result, Ok, Err}
+use Rattle.std.proofs.Common.{◌≡◌, Bool, true, false, List, [], ◌∷◌, refl, ◌∙◌, ℤ, pos, Option, Some, None, Result, Ok, Err}
 use Rattle.std.specs.Prelude.{◌+ℤ◌, ok_or, if◌then◌else◌}
 use Rattle.xq_ast.specs.declared.code.Code.{Code}
 use Rattle.xq_ast.specs.declared.code.Code.TheVariants.{FOAR0002}
-use Rattle.xml_model.specs.declared.value.Atom.{Atom}
 use Rattle.xml_model.specs.Items.{◌>>?◌}
 use Rattle.xml_model.specs.Atoms.{Atoms, is_long, summand, summands, added_up, sum_of}
 use Rattle.xq_values.specs.Sums.{plus, summed}

@@ -1,9 +1,9 @@
 -- Texts of values, one after another, and what stands in a text.
-use Rattle.std.proofs.Common.{◌≡◌, ◌≢◌, ℕ, zero, suc, ◌+◌, ◌≤◌, Bool, true, false, ◌&&◌, ◌||◌, List, [], ◌∷◌, ◌++◌, length, drop, map, refl, ap, sym, ◌∙◌, arith, append-nil, append_assoc, nat_eq, Option, Some, None, Result, Ok, Err}
-use Rattle.std.specs.Prelude.{◌==◌, if◌then◌else◌}
+use Rattle.std.proofs.Common.{◌≡◌, ℕ, zero, suc, ◌+◌, ◌≤◌, Bool, true, false, ◌&&◌, ◌||◌, List, [], ◌∷◌, ◌++◌, length, drop, map, refl, ap, sym, ◌∙◌, arith, append-nil, append_assoc, nat_eq, None, Result, Ok, Err}
+use Rattle.std.specs.Prelude.{if◌then◌else◌}
 use Rattle.std.specs.List.{join_with_byte, concat, starts_with}
 use Rattle.std.specs.Bool.{MatchBool}
-use Rattle.std.specs.Str.Pattern.{FindsText, LacksTextAt, HasTextAt, HasMatch}
+use Rattle.std.specs.Str.Pattern.{FindsText, LacksTextAt, HasMatch}
 use Rattle.std.specs.Fmt.{char_count, is_char_start}
 use Rattle.std.proofs.lemmas.Bool.Decides.{nat_tests}
 use Rattle.xq_ast.specs.declared.code.Code.{Code}
@@ -12,7 +12,7 @@ use Rattle.xml_model.specs.Items.{◌>>?◌}
 use Rattle.xml_model.specs.Atoms.{Atoms, atom_text}
 use Rattle.xml_model.specs.Constructors.{spaced}
 use Rattle.xml_model.specs.FunctionAnswers.{concat_argument, concat_arguments, begins_with, has_within}
-use Rattle.xq_values.specs.Words.{word, all_words, concat_onto, chars_of}
+use Rattle.xq_values.specs.Words.{all_words, concat_onto, chars_of}
 
 -- ---- texts with spaces between
 

@@ -1,5 +1,5 @@
 -- The lists that operators on integers give.
-use Rattle.std.specs.Prelude.{ℤ, List, [], ◌∷◌, Option, Some, None, Result, Ok, Err, ◌≡◌}
+use Rattle.std.specs.Prelude.{ℤ, [], ◌∷◌, Option, Some, None, Result, Ok, Err, ◌≡◌}
 use Rattle.xq_ast.specs.declared.code.Code.{Code}
 use Rattle.xml_model.specs.Items.{Items, integer}
 use Rattle.xml_model.specs.declared.value.Atom.TheVariants as atom

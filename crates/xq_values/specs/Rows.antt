@@ -1,5 +1,5 @@
 -- Variables and tuples as the definitions of evaluation see them.
-use Rattle.std.specs.Prelude.{List, map}
+use Rattle.std.specs.Prelude.{map}
 use Rattle.xml_model.specs.Nav.{Stored}
 use Rattle.xml_model.specs.Tuples as tuples
 use Rattle.xml_model.specs.declared.nav.Id.{Id}

@@ -1,5 +1,5 @@
 -- Sums, one integer after another: what is left of them once 64 bits did not hold the total.
-use Rattle.std.specs.Prelude.{ℤ, ◌+ℤ◌, List, [], ◌∷◌, Option, Some, None, Result, Ok, Err, ok_or, if◌then◌else◌}
+use Rattle.std.specs.Prelude.{ℤ, ◌+ℤ◌, [], ◌∷◌, Option, Some, None, Result, ok_or, if◌then◌else◌}
 use Rattle.xq_ast.specs.declared.code.Code.{Code}
 use Rattle.xq_ast.specs.declared.code.Code.TheVariants.{FOAR0002}
 use Rattle.xml_model.specs.Items.{◌>>?◌}

@@ -31,6 +31,7 @@ pub use row::{Bindings, Row, SharedItems, Variable, sorted};
 pub use sign::signed;
 pub use sum::sum_of;
 pub use text::{
-    atom_text, begins_with, char_count, concat_arguments, has_within, limited_text, spaced, string_argument,
+    atom_text, begins_with, char_count, concat_arguments, has_within, limited_text, spaced,
+    string_argument,
 };
 pub use truth::effective_boolean;

@@ -11,7 +11,7 @@ loop-k-preserved c =
     let value : ℤ = to_z w64 (of_z w64 c.behind-value.result) in
     let fits : FitsSigned w64 c.behind-value.result = search rules in
     λ place. one_more place low c.loop-k.all c.push.new.self c.loop-k.k value (to_z-of_z w64 c.behind-value.result fits ∙ c.behind-value.ensures)
-      c.in_ok-push.ensures.ok (c.loop-k.invariant place)
+    c.in_ok-push.ensures.ok (c.loop-k.invariant place)
 
 pub returns : goal.returns
 returns c =

@@ -10,5 +10,5 @@ returns c =
     let low : to_z w64 (of_z w64 c.args.low) ≡ c.args.low = to_z-of_z w64 c.args.low c.ranges.low in
     let high : to_z w64 (of_z w64 c.args.high) ≡ c.args.high = to_z-of_z w64 c.args.high c.ranges.high in
     λ place. range_is c.args.low c.args.high c.in_ok-count.count
-      (c.in_ok-count.ensures ∙ (ap (λ v. count_of v (to_z w64 (of_z w64 c.args.high))) low ∙ ap (count_of c.args.low) high))
+    (c.in_ok-count.ensures ∙ (ap (λ v. count_of v (to_z w64 (of_z w64 c.args.high))) low ∙ ap (count_of c.args.low) high))
     ∙ ap (λ items. Ok items) (sym (c.in_ok-all.ensures place ∙ ap (λ v. map (nth v) (range_with_len 0 c.in_ok-count.count)) low))

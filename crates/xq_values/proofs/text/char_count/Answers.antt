@@ -1,4 +1,4 @@
-use Rattle.std.proofs.Common.{◌≡◌, ◌+◌, arith}
+use Rattle.std.proofs.Common.{◌≡◌, arith}
 use Rattle.std.specs.Fmt as fmt
 use Rattle.xq_values.specs.Words as words
 use Rattle.xq_values.proofs.Words.{chars_is}
