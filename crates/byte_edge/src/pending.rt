@@ -18,13 +18,14 @@ pub struct Pending {
 }
 
 impl Model for Pending {
+    ghost use Rattle.byte_edge.specs.declared.pending.TheConstants.{PENDING_BYTES_MAX};
     ghost use Rattle.std.specs.Prelude.{List, ℕ, take, ◌≤◌};
 
     ghost Value = { List ℕ };
 
     ghost view = { λ p. take p.len p.bytes };
 
-    ghost invariant = { λ p. p.len ≤ 8192 };
+    ghost invariant = { λ p. p.len ≤ PENDING_BYTES_MAX };
 }
 
 impl Pending {

@@ -2,10 +2,11 @@
 use Rattle.std.specs.Prelude.{◌≡◌, ℕ, zero, suc, ◌+◌, ◌*◌, ◌-◌, ◌/◌, ◌%◌, ◌<◌, ◌≤◌, Bool, true, false, nat_lt, if◌then◌else◌, List, [], ◌∷◌, ◌++◌, length, get_or, set, fold}
 use Rattle.xml_model.specs.declared.node.Attr.{Attr}
 use Rattle.xml_model.specs.Trees.{has_attribute}
+use Rattle.pyx_text.specs.declared.places.TheConstants.{HASH_POINT, HASH_PRIME, NUMBERS}
 
 -- the hash of one more byte
 abbrev pub hash_more : ℕ → ℕ → ℕ
-hash_more hash byte = (hash * 16777619 + byte) % 4294967291
+hash_more hash byte = (hash * HASH_POINT + byte) % HASH_PRIME
 
 -- the hash of a name: that of its bytes, one after another
 unfoldable pub hash_of : List ℕ → ℕ
@@ -33,12 +34,12 @@ cell_of heads name depth (suc place) = heads + place * 2 + way_of name (depth - 
 
 -- a word has the number of a place, and above it a mark, part of the hash of the name there
 pub record IsWord (word hash number : ℕ) : Type 0 where
-  pub low : word % 8388608 ≡ number
-  pub high : word / 8388608 ≡ hash / 8388608
+  pub low : word % NUMBERS ≡ number
+  pub high : word / NUMBERS ≡ hash / NUMBERS
 
 -- the number of the place in this cell
 abbrev pub next_of : ℕ → List ℕ → List ℕ → ℕ → ℕ → ℕ
-next_of heads cells name depth from = get_or cells (cell_of heads name depth from) 0 % 8388608
+next_of heads cells name depth from = get_or cells (cell_of heads name depth from) 0 % NUMBERS
 
 -- so many steps lead a name from one number, at a depth, to another. Each leads to a later place
 abbrev pub Leads : ℕ → List ℕ → List ℕ → ℕ → ℕ → ℕ → ℕ → Type 0
@@ -59,8 +60,8 @@ HoldsName false attrs place name = name_at attrs place ≡ name → ⊥
 
 -- a word has the number of a place, if any, and the mark of the name there
 abbrev pub IsMarked : List Attr → ℕ → Type 0
-IsMarked attrs word = 0 < word % 8388608
-    → (word % 8388608 ≤ length attrs) × (word / 8388608 ≡ hash_of (name_at attrs (word % 8388608 - 1)) / 8388608)
+IsMarked attrs word = 0 < word % NUMBERS
+    → (word % NUMBERS ≤ length attrs) × (word / NUMBERS ≡ hash_of (name_at attrs (word % NUMBERS - 1)) / NUMBERS)
 
 -- from this number, at this depth, the name is led to the number of an attribute that has it
 pub record IsLed (attrs : List Attr) (heads : ℕ) (cells name : List ℕ) (depth from : ℕ) : Type 0 where

@@ -1,6 +1,7 @@
 //! The set of the names in a list of attributes, as places in the list: no name is copied.
 ghost use Rattle.std.specs.Prelude.{◌≡◌, ◌+◌, ◌-◌, ◌/◌, ◌%◌, ◌<◌, ◌≤◌, ◌++◌, ◌∷◌, [], true, false, OnOk, OnErr, IfErr, IfOk, IfSome, is_none, length};
 ghost use Rattle.xml_model.specs.Trees.{has_attribute};
+ghost use Rattle.pyx_text.specs.declared.places.TheConstants.{NUMBERS};
 ghost use Rattle.pyx_text.specs.Ways.{hash_of, half_of, way_of, name_at, HoldsName, Tied, IsFree, IsWord};
 
 use crate::fault::PyxFault;
@@ -45,14 +46,14 @@ fn hash(name: &[u8]) -> u32
 
 // The number of the place in a word, from 1, or 0.
 fn number_in(word: u32) -> usize
-    ensures { result ≡ word % 8388608 }
+    ensures { result ≡ word % NUMBERS }
 {
     (word % NUMBERS) as usize
 }
 
 // The word of a place with this number, whose name has this hash.
 fn word_of(hash: u32, number: u32) -> u32
-    requires { number < 8388608 }
+    requires { number < NUMBERS }
     ensures { IsWord result hash number }
 {
     hash / NUMBERS * NUMBERS + number
@@ -60,11 +61,11 @@ fn word_of(hash: u32, number: u32) -> u32
 
 // Whether the place in a word has the name.
 fn is_at(attrs: &[Attr], word: u32, hash: u32, name: &str) -> bool
-    requires some { 0 < word % 8388608 }
-    requires within { word % 8388608 ≤ length attrs.now }
-    requires marked { word / 8388608 ≡ hash_of (name_at attrs.now (word % 8388608 - 1)) / 8388608 }
+    requires some { 0 < word % NUMBERS }
+    requires within { word % NUMBERS ≤ length attrs.now }
+    requires marked { word / NUMBERS ≡ hash_of (name_at attrs.now (word % NUMBERS - 1)) / NUMBERS }
     requires hash { hash ≡ hash_of name.now }
-    ensures { HoldsName result attrs.now (word % 8388608 - 1) name.now }
+    ensures { HoldsName result attrs.now (word % NUMBERS - 1) name.now }
 {
     word / NUMBERS == hash / NUMBERS && attrs[number_in(word) - 1].name.as_str() == name
 }

@@ -70,6 +70,7 @@ impl Core {
         ensures err { OnErr result (AreCutShort calls.items self.old self.new) }
     {
         let end = self.make_each(calls);
+        // Hands out that the journal is legal after all calls or the first of them, as this call promises.
         self.legal();
         end
     }

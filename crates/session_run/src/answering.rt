@@ -26,6 +26,7 @@ pub(crate) fn answer(
     ensures outcome { IfOk result (λ outcome. EndsWith outcome core.new) }
     ensures err { OnErr result (core.new ≡ core.old) }
 {
+    // Hands out that the journal is legal before the answer: a right one keeps it so, as `post` asks.
     core.legal();
     let outcome = outcome_of(&says);
     core.post(session, Reply { call, says })?;

@@ -90,6 +90,7 @@ pub(crate) fn close_by_text(
     ensures err { OnErr result (IsUnclosed session text.now core.old core.new) }
     ensures same { OnErr result (changes.new.changes ≡ changes.old.changes) }
 {
+    // Hands out that the journal is legal: where no commit is in doubt, this session is not.
     core.legal();
     match parse_call(alloc, text) {
         Ok(call) => close_by_state(alloc, core, session, changes, call),

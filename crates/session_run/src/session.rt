@@ -69,6 +69,8 @@ impl Session {
         ensures same { OnErr result (self.new ≡ self.old) }
     {
         let called = close_by_text(self.alloc, core, self.number, &mut self.changes, call);
+        // Hands out that the journal is legal with the call's events, which tells what they leave to
+        // the other sessions.
         core.legal();
         called
     }
@@ -89,6 +91,7 @@ impl Session {
             }
             State::Idle | State::InDoubt => {}
         }
+        // Hands out that the journal is legal with the session's end, as in `call_on`.
         core.legal();
     }
 }

@@ -5,7 +5,7 @@ use Rattle.std.proofs.Math.Seq.{set-append_seam}
 use Rattle.xml_model.specs.declared.node.Attr.{Attr}
 use Rattle.xml_model.specs.declared.node.Node.{Node, Text, Pi}
 use Rattle.xml_model.specs.declared.node.Node.TheVariants.{Element}
-use Rattle.xml_model.specs.declared.tree_nav.Entry.{Entry}
+use Rattle.xml_model.specs.declared.tree_rows.Entry.{Entry}
 use Rattle.xml_model.specs.Nav.{told_of}
 use Rattle.xml_model.specs.Numbering.{Row, headed, attr_rows, kid_rows, node_rows}
 use Rattle.xml_model.specs.Place.{a_node}
@@ -18,14 +18,14 @@ written : (old P A K : List Entry) (e f : Entry) (attrs kids : List Row) (at : �
 written old P A K e f attrs kids at i p a k =
     map-set row_of K at f
     ∙ ap (λ rows. slice_set rows at (row_of f))
-      (k ∙ ap (λ rows. rows ++ kids) (a ∙ ap (λ rows. rows ++ attrs) (ap (map row_of) p ∙ map-append row_of old (e ∷ [])))
-      ∙ (append_assoc (map row_of old ++ row_of e ∷ []) attrs kids ∙ append_assoc (map row_of old) (row_of e ∷ []) (attrs ++ kids)))
+    (k ∙ ap (λ rows. rows ++ kids) (a ∙ ap (λ rows. rows ++ attrs) (ap (map row_of) p ∙ map-append row_of old (e ∷ [])))
+    ∙ (append_assoc (map row_of old ++ row_of e ∷ []) attrs kids ∙ append_assoc (map row_of old) (row_of e ∷ []) (attrs ++ kids)))
     ∙ ap (λ n. slice_set (map row_of old ++ row_of e ∷ (attrs ++ kids)) n (row_of f)) (i ∙ sym (length-map old row_of))
     ∙ set-append_seam (map row_of old) (row_of e) (attrs ++ kids) (row_of f)
 
 sized : (name : List ℕ) (attrs : List Attr) (kids : List Node) (b : ℕ)
     → record { told = told_of (a_node (Element name attrs kids)); back = b; size = 1 + (length attrs + length (kid_rows (1 + length attrs) (map node_rows kids))) }
-      ∷ (attr_rows 1 attrs ++ kid_rows (1 + length attrs) (map node_rows kids))
+    ∷ (attr_rows 1 attrs ++ kid_rows (1 + length attrs) (map node_rows kids))
     ≡ node_rows (Element name attrs kids) b
 sized name attrs kids b =
     let inside = attr_rows 1 attrs ++ kid_rows (1 + length attrs) (map node_rows kids) in

@@ -1,11 +1,17 @@
+pub mod Alike
+pub mod AlikeParts
+pub mod Bounded
+pub mod Computing
+pub mod Depths
 pub mod Building
 pub mod Chains
-pub mod DocumentNumbers
 pub mod Entries
 pub mod Escapes
 pub mod Formed
 pub mod Forests
 pub mod Framing
+mod FunctionRows
+pub mod Known
 pub mod Laying
 pub mod Lines
 pub mod Nodes
@@ -13,19 +19,26 @@ pub mod ReadAgain
 pub mod ReadIsValid
 pub mod ReadIsSpelled
 pub mod SpelledIsRead
+mod MeaningRows
 mod NavRows
 pub mod NodeCases
+mod PathRows
 pub mod Numbered
 pub mod Numbers
 pub mod Reached
+pub mod RowCalls
 mod Rows
 pub mod Standing
 pub mod TextAgain
 pub mod TextLines
 pub mod PlaceOrder
 pub mod Placing
+pub mod QueryForms
+pub mod QueryFrame
+pub mod QueryNeeds
 pub mod Sorting
-pub mod TreeFacts
+pub mod TreeNumbers
 pub mod TreeCalls
 pub mod TreesMade
+mod TupleRows
 pub mod Validity

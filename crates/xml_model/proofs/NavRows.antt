@@ -3,7 +3,7 @@ use Rattle.std.specs.Prelude.{◌≡◌, ℕ, List, [], ◌∷◌, Some, None, r
 use Rattle.std.proofs.Common.{ap, ◌∙◌}
 use Rattle.std.specs.declared.cmp.Ordering.TheVariants.{Less, Greater}
 use Rattle.xq_ast.specs.declared.step.Axis.TheVariants.{Descendant}
-use Rattle.xml_model.specs.declared.nav.Kind.TheVariants as kind
+use Rattle.xq_ast.specs.declared.kind.Kind.TheVariants as kind
 use Rattle.xml_model.specs.declared.node.Attr.{Attr}
 use Rattle.xml_model.specs.declared.node.Node.{Node}
 use Rattle.xml_model.specs.declared.node.Node.TheVariants.{Element, Text}
@@ -13,7 +13,7 @@ use Rattle.xml_model.specs.declared.place.PlaceStep.TheVariants as steps
 use Rattle.xml_model.specs.Axes.{axis_places, attribute_places, child_places, parent_places, string_value, down_step, texts_step}
 use Rattle.xml_model.specs.DocumentOrder.{node_cmp, union}
 use Rattle.xml_model.specs.Nav.{first_place, next_place}
-use Rattle.xml_model.specs.Numbering.{document_places, node_rows, Row, rows_step, all_step}
+use Rattle.xml_model.specs.Numbering.{tree_places, node_rows, Row, rows_step, all_step}
 use Rattle.xml_model.specs.Place.{Placed, the_document, a_node, place_cmp}
 use Rattle.xml_model.proofs.Nodes.{fold-Element, fold-Text}
 
@@ -91,7 +91,7 @@ string_of_document : string_value document ≡ codes "87"
 string_of_document = simp (fold-Element (List ℕ) texts_step, fold-Text (List ℕ) texts_step)
 
 -- the nodes in document order, the document being 0: r, 8, b, i, n and 7
-numbers : document_places (record { kids = r ∷ [] })
+numbers : tree_places document
     ≡ [] ∷ at_r ∷ (steps.Kid 0 ∷ steps.Kid 0 ∷ []) ∷ (steps.Kid 0 ∷ steps.Kid 1 ∷ []) ∷ at_i ∷ at_n ∷ (steps.Kid 0 ∷ steps.Kid 2 ∷ steps.Kid 0 ∷ []) ∷ []
 numbers = simp (fold-Element (List (List PlaceStep)) all_step, fold-Text (List (List PlaceStep)) all_step)
 

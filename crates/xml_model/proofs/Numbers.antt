@@ -10,7 +10,7 @@ use Rattle.xml_model.specs.declared.place.PlaceStep.{PlaceStep}
 use Rattle.xml_model.specs.declared.place.PlaceStep.TheVariants as steps
 use Rattle.xml_model.specs.Axes.{one_step_each, into_each}
 use Rattle.xml_model.specs.Nav.{told_of, of_document}
-use Rattle.xml_model.specs.Numbering.{Row, headed, attr_rows, kid_rows, rows_step, node_rows, all_step, all_ways, document_places, document_rows}
+use Rattle.xml_model.specs.Numbering.{Row, headed, attr_rows, kid_rows, rows_step, node_rows, all_step, all_ways}
 use Rattle.xml_model.specs.Place.{Placed, the_document, a_node, an_attribute, attrs_of, kids_of, step_from, placed_from}
 use Rattle.xml_model.specs.Trees.{count_step, count_node, count_of}
 use Rattle.xml_model.proofs.NodeCases.{Each, node_has, nodes_have}

@@ -14,7 +14,7 @@ use Rattle.xml_model.specs.declared.place.PlaceStep.{PlaceStep}
 use Rattle.xml_model.specs.declared.place.PlaceStep.TheVariants as steps
 use Rattle.xml_model.specs.Axes.{one_step_each, into_each}
 use Rattle.xml_model.specs.Nav.{told_in, told_of, of_document}
-use Rattle.xml_model.specs.Numbering.{Row, headed, attr_rows, kid_rows, rows_step, node_rows, all_step, all_ways, document_places, document_rows}
+use Rattle.xml_model.specs.Numbering.{Row, headed, attr_rows, kid_rows, rows_step, node_rows, all_step, all_ways, tree_size, tree_places}
 use Rattle.xml_model.specs.Place.{Placed, the_document, a_node, an_attribute, attrs_of, kids_of, step_from, placed_from}
 use Rattle.xml_model.specs.Trees.{count_step, count_node, count_of}
 use Rattle.xml_model.proofs.NodeCases.{Each, node_has, nodes_have}
@@ -24,9 +24,7 @@ use Rattle.xml_model.proofs.Numbers.{length-node_rows, length-all_kid_rows, leng
 -- ---- what holds of each root: how many rows it has, which they are, and the ways to them
 
 abbrev pub size : Placed → ℕ
-size (the_document doc) = 1 + count_of doc.kids
-size (a_node n) = count_node n
-size (an_attribute a) = 1
+size = tree_size
 
 abbrev pub rows : Placed → ℕ → List Row
 rows (the_document doc) b = headed of_document b (kid_rows 1 (map node_rows doc.kids))
@@ -34,9 +32,7 @@ rows (a_node n) b = node_rows n b
 rows (an_attribute a) b = record { told = told_of (an_attribute a); back = b; size = 1 } ∷ []
 
 abbrev pub ways : Placed → List (List PlaceStep)
-ways (the_document doc) = document_places doc
-ways (a_node n) = all_ways n
-ways (an_attribute a) = [] ∷ []
+ways = tree_places
 
 -- the rows and the ways in it
 abbrev pub inner_rows : Placed → List Row
@@ -69,7 +65,7 @@ root_of_element name attrs kids = record {
   where
     rows_there : (b : ℕ) → node_rows (Element name attrs kids) b
         ≡ record { told = told_in {X = Node} (Node-F.Element name attrs kids); back = b; size = count_node (Element name attrs kids) }
-          ∷ (attr_rows 1 attrs ++ kid_rows (1 + length attrs) (map node_rows kids))
+        ∷ (attr_rows 1 attrs ++ kid_rows (1 + length attrs) (map node_rows kids))
     rows_there b =
         let inside = attr_rows 1 attrs ++ kid_rows (1 + length attrs) (map node_rows kids) in
         ap (λ f. f b) (fold-Element (ℕ → List Row) rows_step name attrs kids)

@@ -36,10 +36,10 @@ record InKid (kids : List Node) (n : ℕ) : Type 0 where
 in_kid : (kids : List Node) → Each IsReached kids → (n : ℕ) → n < count_of kids → InKid kids n
 unfolding IsReached
 in_kid [] h n less = absurd (omega arith)
-in_kid (k ∷ kids) h n less = 
+in_kid (k ∷ kids) h n less =
     elim (cases_lt n (count_node k)) [
-      inl here ↦ record { index = 0; kid = k; rest = n; there = refl; is = omega arith; found = h.0 n here }
-    | inr later ↦ behind later (in_kid kids h.1 (n - count_node k) (omega arith))
+      | inl here ↦ record { index = 0; kid = k; rest = n; there = refl; is = omega arith; found = h.0 n here }
+      | inr later ↦ behind later (in_kid kids h.1 (n - count_node k) (omega arith))
     ]
   where
     behind : count_node k ≤ n → InKid kids (n - count_node k) → InKid (k ∷ kids) n
@@ -58,12 +58,12 @@ itself from = record { place = []; it = from; stands = refl; numbered = refl }
 
 found_inside : (from : Placed) → Each IsReached (kids_of from) → (n : ℕ) → n < size from → Found from n
 found_inside from h zero less = itself from
-found_inside from h (suc m) less = 
+found_inside from h (suc m) less =
     elim (cases_lt m (length (attrs_of from))) [
-      inl here ↦
-        let a = within_some (attrs_of from) m here in
-        step_found from (an_attribute a.0) (steps.Attr m) (suc m) 0 (ap (option_map an_attribute) a.1) (itself (an_attribute a.0)) (omega arith)
-    | inr later ↦ deeper later (in_kid (kids_of from) h (m - length (attrs_of from)) (omega (arith, (root from).sized)))
+      | inl here ↦
+          let a = within_some (attrs_of from) m here in
+          step_found from (an_attribute a.0) (steps.Attr m) (suc m) 0 (ap (option_map an_attribute) a.1) (itself (an_attribute a.0)) (omega arith)
+      | inr later ↦ deeper later (in_kid (kids_of from) h (m - length (attrs_of from)) (omega (arith, (root from).sized)))
     ]
   where
     deeper : length (attrs_of from) ≤ m → InKid (kids_of from) (m - length (attrs_of from)) → Found from (suc m)

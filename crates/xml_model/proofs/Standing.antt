@@ -108,8 +108,8 @@ kid_way_at c zero k n (x ∷ kids) kid p e m h =
     let none : c ≡ c + 0 = omega arith in
     ap (slice_get (map (λ way. steps.Kid c ∷ way) (all_ways x) ++ _)) same
     ∙ get_before (map (λ way. steps.Kid c ∷ way) (all_ways x)) _ k _
-      (slice_get-map (λ way. steps.Kid c ∷ way) (all_ways x) k
-      ∙ ap (option_map (λ way. steps.Kid c ∷ way)) (ap (λ y. slice_get (all_ways y) k) (same_Some x kid e) ∙ h))
+    (slice_get-map (λ way. steps.Kid c ∷ way) (all_ways x) k
+    ∙ ap (option_map (λ way. steps.Kid c ∷ way)) (ap (λ y. slice_get (all_ways y) k) (same_Some x kid e) ∙ h))
     ∙ ap (λ i. Some (steps.Kid i ∷ p)) none
 kid_way_at c (suc i) k n (x ∷ kids) kid p e m h =
     let front = map (λ way. steps.Kid c ∷ way) (all_ways x) in

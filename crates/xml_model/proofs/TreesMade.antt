@@ -24,10 +24,10 @@ pub tree_added : (F : Forest) (old trees : List Tree) (tree : Tree) (names : Lis
     → (map (λ tree. tree.name) trees ++ drop (i + 1) names ≡ names) × AreTreesOf F trees
 tree_added F old trees tree names i name e are less is more named stands = (
   ap (λ trees. map (λ tree. tree.name) trees ++ drop (i + 1) names) more
-  ∙ (ap (λ all. all ++ drop (i + 1) names) (map-append (λ tree. tree.name) old (tree ∷ []))
-  ∙ (append_assoc (map (λ tree. tree.name) old) (tree.name ∷ []) (drop (i + 1) names)
-  ∙ (ap (λ n. map (λ tree. tree.name) old ++ n ∷ drop (i + 1) names) (named ∙ is)
-  ∙ (ap (λ rest. map (λ tree. tree.name) old ++ rest) (sym (next less)) ∙ e)))),
+      ∙ (ap (λ all. all ++ drop (i + 1) names) (map-append (λ tree. tree.name) old (tree ∷ []))
+      ∙ (append_assoc (map (λ tree. tree.name) old) (tree.name ∷ []) (drop (i + 1) names)
+      ∙ (ap (λ n. map (λ tree. tree.name) old ++ n ∷ drop (i + 1) names) (named ∙ is)
+      ∙ (ap (λ rest. map (λ tree. tree.name) old ++ rest) (sym (next less)) ∙ e)))),
   subst (AreTreesOf F) (sym more) (are_more F old tree are stands),
 )
   where

@@ -99,7 +99,7 @@ abbrev pub kept : {A : Type 0} → (A → Item) → Means → Bindings → ℕ �
 kept item e env size position [] = give []
 kept item e env size position (x ∷ xs) =
     e env (Some (record { item = item x; position = position; size = size })) >>= (λ value. plain (holds_at position value)) >>= (λ b.
-      kept item e env size (position + 1) xs >>= (λ rest. give (if b then x ∷ rest else rest)))
+    kept item e env size (position + 1) xs >>= (λ rest. give (if b then x ∷ rest else rest)))
 
 -- those for which one predicate after another holds; each counts what the one before it has left
 abbrev pub filtered : {A : Type 0} → (A → Item) → List Means → Bindings → List A → Making (List A)
@@ -197,9 +197,9 @@ module _ (docs : Documents) where
       >>= (λ value. construct (an_attribute (record { name = name; value = value })))
   value_of (Expr-F.TextNode content) env cx = content_or content env cx >>= new_text
     where
-    new_text : Items → Making Items
-    new_text [] = give []
-    new_text (item ∷ items) = look (λ made. limited_text (spaced (atomized docs made (item ∷ items)))) >>= (λ value. construct (a_node (Text value)))
+      new_text : Items → Making Items
+      new_text [] = give []
+      new_text (item ∷ items) = look (λ made. limited_text (spaced (atomized docs made (item ∷ items)))) >>= (λ value. construct (a_node (Text value)))
 
   -- and counted
   abbrev pub expr_step : Expr-F BindMeans Means Means ProductMeans KeyMeans StepMeans SumMeans → Means
@@ -218,8 +218,9 @@ module _ (docs : Documents) where
   -- the nodes of the axis that pass the test, and then each predicate
   abbrev pub step_step : Step-F BindMeans Means Means ProductMeans KeyMeans StepMeans SumMeans → StepMeans
   step_step s = record {
-      deep = s.deep;
-      from_node = λ env n. look (λ made. Ok (tested docs made s.axis s.test n)) >>= filtered node s.preds env }
+    deep = s.deep;
+    from_node = λ env n. look (λ made. Ok (tested docs made s.axis s.test n)) >>= filtered node s.preds env;
+  }
 
   abbrev pub sum_step : SumPart-F BindMeans Means Means ProductMeans KeyMeans StepMeans SumMeans → SumMeans
   sum_step p = (p.minus, p.expr)

@@ -3,8 +3,8 @@
 use Rattle.std.specs.Prelude.{ℕ, ◌+◌, nat_lt, if◌then◌else◌, List, [], ◌∷◌, ◌++◌, length, Option, None, Some, IsTrue}
 use Rattle.std.specs.FinMap as map
 use Rattle.std.specs.Option.{option_map, option_or, option_and, option_and_then}
-use Rattle.xml_model.specs.declared.nav.Kind.{Kind}
-use Rattle.xml_model.specs.declared.nav.Kind.TheVariants as kind
+use Rattle.xq_ast.specs.declared.kind.Kind.{Kind}
+use Rattle.xq_ast.specs.declared.kind.Kind.TheVariants as kind
 use Rattle.xml_model.specs.declared.node.Node.{out-Node}
 use Rattle.xml_model.specs.declared.node.Node.TheOpen.{Node-F, Element, Text, Pi}
 use Rattle.xml_model.specs.declared.place.PlaceStep.{PlaceStep}

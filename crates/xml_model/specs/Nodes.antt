@@ -136,4 +136,4 @@ passes_at on_attributes wanted (Some there) = passes on_attributes wanted there
 abbrev pub tested : Documents → Made → Axis → Test → NodeAt → List NodeAt
 tested docs made way wanted n =
     filter (λ m. passes_at (is_attribute_axis way) wanted (node_at docs made m))
-      (option_map_or (λ root. map (λ place. record { tree = n.tree; place = place }) (axis_places way root n.place)) (tree_root docs made n.tree) [])
+    (option_map_or (λ root. map (λ place. record { tree = n.tree; place = place }) (axis_places way root n.place)) (tree_root docs made n.tree) [])

@@ -1,20 +1,18 @@
 -- What the ids of plain trees stand for. A document's number is its turn among the names, in the order of their bytes,
 -- and a node's number in its document is its turn in document order.
-use Rattle.std.specs.Prelude.{◌≡◌, ℕ, ◌≤◌, ◌<◌, ◌^◌, List, [], ◌∷◌, map, length, Option, None, Some, slice_get, unwrap_or}
+use Rattle.std.specs.Prelude.{◌≡◌, ℕ, ◌<◌, ◌^◌, List, [], ◌∷◌, map, length, Option, None, Some, slice_get, unwrap_or}
 use Rattle.std.specs.FinMap as fin_map
-use Rattle.std.specs.Option.{option_map_or, option_and_then}
-use Rattle.xml_model.specs.declared.limits.TheConstants.{NODES_MAX}
+use Rattle.std.specs.Option.{option_map_or}
 use Rattle.xml_model.specs.declared.nav.Id.{Id}
 use Rattle.xml_model.specs.declared.node.Doc.{Doc}
 use Rattle.xml_model.specs.declared.place.PlaceStep.{PlaceStep}
 use Rattle.xml_model.specs.declared.place.PlaceStep.TheVariants as steps
-use Rattle.xml_model.specs.declared.tree_nav.Entry.{Entry}
 use Rattle.xml_model.specs.declared.tree_nav.Tree.{Tree}
 use Rattle.xml_model.specs.Forest.{Forest}
 use Rattle.xml_model.specs.Nav.{Stored}
-use Rattle.xml_model.specs.Numbering.{document_rows, place_of_number}
-use Rattle.xml_model.specs.TreeRows.{row_of}
-use Rattle.xml_model.specs.Trees.{count_of}
+use Rattle.xml_model.specs.Numbering.{place_of_number}
+use Rattle.xml_model.specs.Place.{Placed, the_document}
+use Rattle.xml_model.specs.TreeRows.{placed_by}
 
 -- no document has the empty name
 abbrev pub name_at : Forest → ℕ → List ℕ
@@ -22,7 +20,7 @@ name_at F n = unwrap_or (slice_get (fin_map.keys F) n) []
 
 abbrev pub place_in : Option Doc → ℕ → List PlaceStep
 place_in None n = steps.Kid n ∷ []
-place_in (Some doc) n = place_of_number doc n
+place_in (Some doc) n = place_of_number (the_document doc) n
 
 abbrev pub node_of_id : Forest → Id → Stored
 node_of_id F id = record { name = name_at F id.doc; place = place_in (fin_map.get F (name_at F id.doc)) id.node }
@@ -32,15 +30,11 @@ node_of_id F id = record { name = name_at F id.doc; place = place_in (fin_map.ge
 abbrev pub tree_name : List Tree → ℕ → List ℕ
 tree_name trees n = option_map_or (λ tree. tree.name) (slice_get trees n) []
 
-abbrev pub entry_at : List Tree → Id → Option Entry
-entry_at trees id = option_and_then (λ tree. slice_get tree.rows.items id.node) (slice_get trees id.doc)
-
--- a tree has the rows of the document of its name
+-- a tree is that of the document of its name
 pub record IsTreeOf (F : Forest) (tree : Tree) : Type 0 where
   pub doc : Doc
   pub found : fin_map.get F tree.name ≡ Some doc
-  pub rows : map row_of tree.rows.items ≡ document_rows doc
-  pub few : count_of doc.kids ≤ NODES_MAX
+  pub is : placed_by tree.rows.root ≡ the_document doc
 
 abbrev pub AreTreesOf : Forest → List Tree → Type 0
 AreTreesOf F [] = Unit {0}

@@ -1,15 +1,15 @@
 -- The rows that entries stand for.
-use Rattle.xml_model.specs.declared.tree_nav.Entry.{Entry}
-use Rattle.xml_model.specs.declared.tree_nav.Held.{Held}
-use Rattle.xml_model.specs.declared.tree_nav.Held.TheVariants as held
-use Rattle.xml_model.specs.Nav.{Told, told_of, of_document}
+use Rattle.xml_model.specs.declared.tree_rows.Entry.{Entry}
+use Rattle.xml_model.specs.declared.tree_rows.PlacedRef.{PlacedRef}
+use Rattle.xml_model.specs.declared.tree_rows.PlacedRef.TheVariants as placed_ref
+use Rattle.xml_model.specs.Nav.{told_of}
 use Rattle.xml_model.specs.Numbering.{Row}
-use Rattle.xml_model.specs.Place.{a_node, an_attribute}
+use Rattle.xml_model.specs.Place.{Placed, the_document, a_node, an_attribute}
 
-abbrev pub told_by : Held → Told
-told_by held.Document = of_document
-told_by (held.Node n) = told_of (a_node n.now)
-told_by (held.Attribute a) = told_of (an_attribute a.now)
+abbrev pub placed_by : PlacedRef → Placed
+placed_by (placed_ref.Document doc) = the_document doc.now
+placed_by (placed_ref.Node n) = a_node n.now
+placed_by (placed_ref.Attribute a) = an_attribute a.now
 
 abbrev pub row_of : Entry → Row
-row_of entry = record { told = told_by entry.held; back = entry.back; size = entry.size }
+row_of entry = record { told = told_of (placed_by entry.it); back = entry.back; size = entry.size }

@@ -156,7 +156,7 @@ module _ (docs : Documents) where
   keyed [] env cx types all = give all
   keyed (k ∷ ks) env cx types all =
       k.value env cx >>= (λ value. look (λ made. key_of (atomized docs made value))) >>= (λ key.
-        plain (joined_type (first_type types) (type_of key)) >>= (λ type. keyed ks env cx (other_types types) (with_key all key type)))
+      plain (joined_type (first_type types) (type_of key)) >>= (λ type. keyed ks env cx (other_types types) (with_key all key type)))
 
   -- whether `where` lets a tuple stay
   abbrev pub stays : Option Means → Bindings → Context → Making Bool

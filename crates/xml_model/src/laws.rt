@@ -4,10 +4,12 @@
 ghost use Rattle.std.specs.Prelude.{◌≡◌, ◌↔◌, List, ℕ, IsTrue};
 ghost use Rattle.xq_ast.specs.GoodNames.{has_good_names};
 ghost use Rattle.xq_ast.specs.declared.call.Call.{Call};
-ghost use Rattle.xq_ast.specs.declared.call.Call.TheVariants.{ShowDocuments};
+ghost use Rattle.xq_ast.specs.declared.call.Call.TheVariants.{Query, ShowDocuments};
+ghost use Rattle.xq_ast.specs.declared.tree.Expr.{Expr};
 ghost use Rattle.xml_model.specs.declared.node.Doc.{Doc};
 ghost use Rattle.xml_model.specs.Forest.{Forest, IsForest};
-ghost use Rattle.xml_model.specs.Needs.{KeepsToNeeds};
+ghost use Rattle.xml_model.specs.Needs.{needs, AgreeAt, KeepsToNeeds};
+ghost use Rattle.xml_model.specs.Evaluation.{eval};
 ghost use Rattle.xml_model.specs.Statement.{stmt};
 ghost use Rattle.xml_model.specs.Counts.{IsCounted};
 ghost use Rattle.xml_model.specs.Document.{IsValid};
@@ -47,4 +49,9 @@ pub fn statements_keep_forests()
 /// Every call but SHOW DOCUMENTS keeps to its needs.
 pub fn calls_keep_to_their_needs()
     ensures { (call : Call) → (call ≡ ShowDocuments → ⊥) → KeepsToNeeds call }
+{}
+
+/// A query gives one value in forests that have the same documents, or none, at its needs.
+pub fn queries_keep_to_their_needs()
+    ensures { (F G : Forest) (expr : Expr) → AgreeAt (needs (Query expr)) F G → eval F expr ≡ eval G expr }
 {}

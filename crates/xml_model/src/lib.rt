@@ -6,8 +6,9 @@
 //! the laws between them (`pyx_is_read_again`, `what_is_read_is_valid`, `read_just_where_spelled`,
 //! `what_is_counted`), what a statement says of a forest and does to it (`Forest`, `Statement`, with
 //! `statements_keep_forests`), and the locks that a call needs (`Needs`, with
-//! `calls_keep_to_their_needs`). A `DocMap` is a forest, and `DocChanges` are changes that leave
-//! one: both keep that each document in them is valid and each name a document's name.
+//! `calls_keep_to_their_needs` and `queries_keep_to_their_needs`). A `DocMap` is a forest, and
+//! `DocChanges` are changes that leave one: both keep that each document in them is valid and each
+//! name a document's name.
 //! Nothing is refused here: a call ends with its answer or, where it takes memory, `NoMemory`.
 #![tactic(auto)]
 
@@ -18,13 +19,13 @@ mod forest;
 mod laws;
 mod layers;
 mod limits;
-mod meaning;
 mod measure;
 mod nav;
 mod node;
 mod place;
 mod text_lines;
 mod tree_nav;
+mod tree_rows;
 mod valid;
 mod value;
 
@@ -33,13 +34,16 @@ pub use changes::DocChanges;
 pub use forest::DocMap;
 pub use laws::{
     calls_keep_to_their_needs, canonical_text_is_read_again, pyx_is_read_again,
-    read_just_where_spelled, statements_keep_forests, what_is_counted, what_is_read_is_valid,
+    queries_keep_to_their_needs, read_just_where_spelled, statements_keep_forests, what_is_counted,
+    what_is_read_is_valid,
 };
 pub use limits::{DEPTH_MAX, ITEMS_MAX, NODES_MAX, REPLY_BYTES_MAX, TEXT_BYTES_MAX};
-pub use nav::{Id, Kind, NUMBER_MAX, Nav, NavEnd};
+pub use nav::{Id, NUMBER_MAX, Nav, NavEnd};
 pub use node::{Attr, AttrList, Doc, Measure, Node, NodeList, RefusedLine};
 pub use place::{Place, PlaceStep, place_order};
 pub use text_lines::{FirstLine, first_line};
+pub use tree_nav::{NoFault, TreeNav};
+pub use tree_rows::{PlacedRef, TreeRows};
 pub use valid::has_attribute;
 pub use value::{Atom, Key, KeyType, SharedText};
 pub use xq_ast::{NAME_BYTES_MAX, is_name};

@@ -9,7 +9,7 @@ ghost use Rattle.xml_model.specs.Nav.{Stored, root_of, first_of_node, next_of_no
 ghost use Rattle.xml_model.specs.NavFaults.{Passes};
 
 use std::cmp::Ordering;
-use xq_ast::{NoMemory, Str};
+use xq_ast::{Kind, NoMemory, Str};
 
 /// The greatest number that a node has.
 pub const NUMBER_MAX: u64 = 4_294_967_296;
@@ -19,16 +19,6 @@ pub const NUMBER_MAX: u64 = 4_294_967_296;
 pub struct Id {
     pub doc: u32,
     pub node: u32,
-}
-
-/// What a node is.
-#[derive(Clone, Copy, Debug, PartialEq, Eq)]
-pub enum Kind {
-    Document,
-    Element,
-    Attribute,
-    Text,
-    Pi,
 }
 
 /// How a call that takes memory ends without an answer.
@@ -120,7 +110,3 @@ pub trait Nav {
     /// Documents are valid, and their names are names of documents.
     ghost valid: { (nav : Self) → honest nav → IsForest (forest nav) };
 }
-
-fn scratch()
-    ensures { (n : ℕ) → n ≡ n }
-{}

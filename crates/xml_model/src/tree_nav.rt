@@ -1,126 +1,24 @@
-//! Plain trees behind `Nav`: the nodes of documents in a list, numbered in document order.
-ghost use Rattle.std.specs.Prelude.{◌≡◌, ℕ, ◌+◌, ◌-◌, ◌≤◌, ◌<◌, [], ◌++◌, map as list_map, is_some, length, ◌^◌, vec_len, IfSome, IfNone, IfOk, OnOk};
-ghost use Rattle.std.specs.Option.{option_copied};
+//! Plain trees behind `Nav`: the documents of a map, each as the rows of its nodes.
+ghost use Rattle.std.specs.Prelude.{◌≡◌, ℕ, ◌-◌, ◌<◌, map as list_map, is_some, length, ◌^◌, IfSome, IfNone, IfOk};
 ghost use Rattle.std.specs.FinMap as map;
-ghost use Rattle.xml_model.specs.Trees.{count_node, count_of};
-ghost use Rattle.xml_model.specs.Numbering.{attr_rows, kid_rows, node_rows, document_rows};
-ghost use Rattle.xml_model.specs.TreeRows.{row_of, told_by};
-ghost use Rattle.xml_model.specs.TreeNodes.{tree_name, node_of_id, entry_at, IsTreeOf, AreTreesOf};
+ghost use Rattle.std.specs.Option.{option_map, option_copied};
+ghost use Rattle.std.specs.List.{slice_get};
 ghost use Rattle.xml_model.specs.Forest.{IsForest};
+ghost use Rattle.xml_model.specs.TreeNodes.{tree_name, IsTreeOf, AreTreesOf};
 
 use crate::forest::DocMap;
-use crate::limits::NODES_MAX;
-use crate::nav::{Id, Kind, Nav, NavEnd};
-use crate::node::{Attr, AttrList, Doc, Node, NodeList};
+use crate::nav::{Id, Nav, NavEnd};
+use crate::tree_rows::{PlacedRef, TreeRows};
 use std::alloc::Global;
 use std::cmp::Ordering;
 use std::marker::Model;
-use xq_ast::{NoMemory, Str, StrList};
-
-// What a row is of.
-#[derive(Clone, Copy)]
-pub(crate) enum Held<'a> {
-    Document,
-    Node(&'a Node),
-    Attribute(&'a Attr),
-}
-
-// A node: how far before it its parent stands, and how many rows it has with all that stands in it.
-#[derive(Clone, Copy)]
-pub(crate) struct Entry<'a> {
-    pub held: Held<'a>,
-    pub back: u32,
-    pub size: u32,
-}
-
-pub(crate) type Entries<'a> = Vec<Entry<'a>>;
-
-// The attributes of an element, which is the last row so far.
-fn add_attrs<'a>(rows: &mut Entries<'a>, attrs: &'a AttrList) -> Result<(), NoMemory>
-    requires { length attrs.now < 2 ^ 32 - 1 }
-    ensures rows { OnOk result (list_map row_of rows.new.items ≡ list_map row_of rows.old.items ++ attr_rows 1 attrs.now) }
-    ensures len { OnOk result (vec_len rows.new ≡ vec_len rows.old + length attrs.now) }
-{
-    for (i, attr) in attrs.as_slice().iter().enumerate() {
-        rows.push(Entry {
-            held: Held::Attribute(attr),
-            back: i as u32 + 1,
-            size: 1,
-        })?;
-    }
-    Ok(())
-}
-
-#[cycle(add)]
-fn add_kids<'a>(rows: &mut Entries<'a>, kids: &'a NodeList, parent: usize) -> Result<(), NoMemory>
-    requires parent { parent < vec_len rows.old }
-    requires fits { vec_len rows.old + count_of kids.now ≤ NODES_MAX + 1 }
-    ensures rows { OnOk result (list_map row_of rows.new.items ≡ list_map row_of rows.old.items ++ kid_rows (vec_len rows.old - parent) (list_map node_rows kids.now)) }
-    ensures len { OnOk result (vec_len rows.new ≡ vec_len rows.old + count_of kids.now) }
-{
-    for kid in kids.as_slice() {
-        add_node(rows, kid, parent)?;
-    }
-    Ok(())
-}
-
-#[cycle(add)]
-fn add_node<'a>(rows: &mut Entries<'a>, node: &'a Node, parent: usize) -> Result<(), NoMemory>
-    requires parent { parent < vec_len rows.old }
-    requires fits { vec_len rows.old + count_node node.now ≤ NODES_MAX + 1 }
-    ensures rows { OnOk result (list_map row_of rows.new.items ≡ list_map row_of rows.old.items ++ node_rows node.now (vec_len rows.old - parent)) }
-    ensures len { OnOk result (vec_len rows.new ≡ vec_len rows.old + count_node node.now) }
-{
-    let at = rows.len();
-    let back = (at - parent) as u32;
-    rows.push(Entry {
-        held: Held::Node(node),
-        back,
-        size: 1,
-    })?;
-    match node {
-        Node::Element { attrs, kids, .. } => {
-            add_attrs(rows, attrs)?;
-            add_kids(rows, kids, at)?;
-            let size = (rows.len() - at) as u32;
-            rows[at] = Entry {
-                held: Held::Node(node),
-                back,
-                size,
-            };
-            Ok(())
-        }
-        Node::Text { .. } => Ok(()),
-        Node::Pi { .. } => Ok(()),
-    }
-}
+use xq_ast::{Kind, NoMemory, Str, StrList};
 
 // A document's rows, under its name.
 #[derive(Drop)]
 pub(crate) struct Tree<'a> {
     pub name: Str,
-    pub rows: Entries<'a>,
-}
-
-// The rows of a document, which is the first of them.
-fn rows_of<'a>(alloc: Global, doc: &'a Doc) -> Result<Entries<'a>, NoMemory>
-    requires { count_of doc.now.kids ≤ NODES_MAX }
-    ensures { IfOk result (λ rows. list_map row_of rows.items ≡ document_rows doc.now) }
-{
-    let mut rows = Vec::new(alloc);
-    rows.push(Entry {
-        held: Held::Document,
-        back: 0,
-        size: 1,
-    })?;
-    add_kids(&mut rows, &doc.kids, 0)?;
-    let size = rows.len() as u32;
-    rows[0] = Entry {
-        held: Held::Document,
-        back: 0,
-        size,
-    };
-    Ok(rows)
+    pub rows: TreeRows<'a>,
 }
 
 /// The nodes of a map's documents. Contracts see the forest. Documents are numbered in the order of
@@ -146,8 +44,14 @@ impl<'a> Model for TreeNav<'a> {
 }
 
 /// A fault that never comes.
-#[derive(Clone, Copy, Debug, PartialEq, Eq)]
+#[derive(Clone, Copy)]
 pub enum NoFault {}
+
+fn tree_at<'t, 'a>(trees: &'t [Tree<'a>], doc: u32) -> Option<&'t Tree<'a>>
+    ensures { option_copied result ≡ slice_get trees.now doc }
+{
+    trees.get(doc as usize)
+}
 
 fn name_of<'t, 'a>(trees: &'t [Tree<'a>], doc: u32) -> &'t str
     ensures { result.now ≡ tree_name trees.now doc }
@@ -158,11 +62,12 @@ fn name_of<'t, 'a>(trees: &'t [Tree<'a>], doc: u32) -> &'t str
     }
 }
 
-fn entry_of<'t, 'a>(trees: &'t [Tree<'a>], n: Id) -> Option<&'t Entry<'a>>
-    ensures { option_copied result ≡ entry_at trees.now n }
+// A node of this document.
+fn in_document(doc: u32, node: Option<u32>) -> Option<Id>
+    ensures { result ≡ option_map (λ n. record { doc = doc; node = n }) node }
 {
-    match trees.get(n.doc as usize) {
-        Some(tree) => tree.rows.as_slice().get(n.node as usize),
+    match node {
+        Some(node) => Some(Id { doc, node }),
         None => None,
     }
 }
@@ -184,51 +89,8 @@ fn root_among(trees: &[Tree], name: &Str) -> Option<Id>
     None
 }
 
-fn kind_of(held: Held) -> Kind
-    ensures { result ≡ (told_by held.entry).kind }
-{
-    match held {
-        Held::Document => Kind::Document,
-        Held::Attribute(_) => Kind::Attribute,
-        Held::Node(node) => match node {
-            Node::Element { .. } => Kind::Element,
-            Node::Text { .. } => Kind::Text,
-            Node::Pi { .. } => Kind::Pi,
-        },
-    }
-}
-
-fn name_in(alloc: Global, held: Held) -> Result<Str, NoMemory>
-    ensures { IfOk result (λ s. s ≡ (told_by held.entry).name) }
-{
-    match held {
-        Held::Document => Ok(Str::new(alloc)),
-        Held::Attribute(attr) => attr.name.copy(),
-        Held::Node(node) => match node {
-            Node::Element { name, .. } => name.copy(),
-            Node::Text { .. } => Ok(Str::new(alloc)),
-            Node::Pi { target, .. } => target.copy(),
-        },
-    }
-}
-
-fn value_in(alloc: Global, held: Held) -> Result<Str, NoMemory>
-    ensures { IfOk result (λ s. s ≡ (told_by held.entry).value) }
-{
-    match held {
-        Held::Document => Ok(Str::new(alloc)),
-        Held::Attribute(attr) => attr.value.copy(),
-        Held::Node(node) => match node {
-            Node::Element { .. } => Ok(Str::new(alloc)),
-            Node::Text { value } => value.copy(),
-            Node::Pi { value, .. } => value.copy(),
-        },
-    }
-}
-
 // The tree of the document of this name, if there is one.
 fn tree_of<'a>(alloc: Global, docs: &'a DocMap, name: &Str) -> Result<Option<Tree<'a>>, NoMemory>
-    requires { IsForest docs.now }
     ensures some { IfOk result (λ o. is_some o ≡ is_some (map.get docs.now name.now)) }
     ensures tree { IfOk result (λ o. IfSome o (λ tree. (tree.name ≡ name.now) × IsTreeOf docs.now tree)) }
 {
@@ -237,14 +99,13 @@ fn tree_of<'a>(alloc: Global, docs: &'a DocMap, name: &Str) -> Result<Option<Tre
     };
     Ok(Some(Tree {
         name: name.copy()?,
-        rows: rows_of(alloc, doc)?,
+        rows: TreeRows::of(alloc, PlacedRef::Document(doc))?,
     }))
 }
 
 // The trees of these documents, in the order of the names.
 fn trees_of<'a>(docs: &'a DocMap, names: &StrList) -> Result<Vec<Tree<'a>>, NoMemory>
-    requires forest { IsForest docs.now }
-    requires names { names.now ≡ map.keys docs.now }
+    requires { names.now ≡ map.keys docs.now }
     ensures { IfOk result (λ trees. (list_map (λ tree. tree.name) trees.items ≡ names.now) × AreTreesOf docs.now trees.items) }
 {
     let alloc = names.allocator();
@@ -296,59 +157,29 @@ impl<'a> Nav for TreeNav<'a> {
     }
 
     fn first(&self, n: Id) -> Result<Option<Id>, NoFault> {
-        let Some(entry) = entry_of(&self.trees, n) else {
+        let Some(tree) = tree_at(&self.trees, n.doc) else {
             return Ok(None);
         };
-        if entry.size <= 1 {
-            return Ok(None);
-        }
-        Ok(Some(Id {
-            doc: n.doc,
-            node: n.node + 1,
-        }))
+        Ok(in_document(n.doc, tree.rows.first(n.node)))
     }
 
     fn next(&self, n: Id) -> Result<Option<Id>, NoFault> {
-        let Some(entry) = entry_of(&self.trees, n) else {
+        let Some(tree) = tree_at(&self.trees, n.doc) else {
             return Ok(None);
         };
-        if n.node == 0 {
-            return Ok(None);
-        }
-        let parent = n.node - entry.back;
-        let above = Id {
-            doc: n.doc,
-            node: parent,
-        };
-        let Some(holder) = entry_of(&self.trees, above) else {
-            return Ok(None);
-        };
-        let behind = n.node + entry.size;
-        if behind >= parent + holder.size {
-            return Ok(None);
-        }
-        Ok(Some(Id {
-            doc: n.doc,
-            node: behind,
-        }))
+        Ok(in_document(n.doc, tree.rows.next(n.node)))
     }
 
     fn parent(&self, n: Id) -> Result<Option<Id>, NoFault> {
-        let Some(entry) = entry_of(&self.trees, n) else {
+        let Some(tree) = tree_at(&self.trees, n.doc) else {
             return Ok(None);
         };
-        if n.node == 0 {
-            return Ok(None);
-        }
-        Ok(Some(Id {
-            doc: n.doc,
-            node: n.node - entry.back,
-        }))
+        Ok(in_document(n.doc, tree.rows.parent(n.node)))
     }
 
     fn kind(&self, n: Id) -> Result<Kind, NoFault> {
-        match entry_of(&self.trees, n) {
-            Some(entry) => Ok(kind_of(entry.held)),
+        match tree_at(&self.trees, n.doc) {
+            Some(tree) => Ok(tree.rows.kind(n.node)),
             None => Ok(Kind::Document),
         }
     }
@@ -361,18 +192,16 @@ impl<'a> Nav for TreeNav<'a> {
     }
 
     fn name(&self, n: Id) -> Result<Str, NavEnd<NoFault>> {
-        let alloc = *self.trees.allocator();
-        match entry_of(&self.trees, n) {
-            Some(entry) => Ok(name_in(alloc, entry.held)?),
-            None => Ok(Str::new(alloc)),
+        match tree_at(&self.trees, n.doc) {
+            Some(tree) => Ok(tree.rows.name(n.node)?),
+            None => Ok(Str::new(*self.trees.allocator())),
         }
     }
 
     fn value(&self, n: Id) -> Result<Str, NavEnd<NoFault>> {
-        let alloc = *self.trees.allocator();
-        match entry_of(&self.trees, n) {
-            Some(entry) => Ok(value_in(alloc, entry.held)?),
-            None => Ok(Str::new(alloc)),
+        match tree_at(&self.trees, n.doc) {
+            Some(tree) => Ok(tree.rows.value(n.node)?),
+            None => Ok(Str::new(*self.trees.allocator())),
         }
     }
 

@@ -1,8 +1,8 @@
 -- How deep the single expressions of a call stand in one another: no deeper than its brackets and the words that nest.
 -- The tokens of each row are balanced, so what stands in brackets is less deep than what holds it.
-use Rattle.std.proofs.Common.{◌≡◌, ℕ, zero, suc, ◌+◌, ◌-◌, ◌<◌, ◌≤◌, Bool, true, false, if◌then◌else◌, List, [], ◌∷◌, ◌++◌, map, refl, ap, sym, ◌∙◌, subst, arith}
-use Rattle.std.specs.Prelude.{max, count_by, codes, Option, None, Some}
-use Rattle.std.proofs.Math.Nat.{le-max_left, le-max_right, max-le}
+use Rattle.std.proofs.Common.{◌≡◌, ℕ, suc, ◌+◌, ◌<◌, ◌≤◌, List, [], ◌∷◌, ◌++◌, map, refl, ap, ◌∙◌, arith}
+use Rattle.std.specs.Prelude.{max, count_by, Option, None, Some}
+use Rattle.std.proofs.Math.Nat.{le-max_left}
 use Rattle.std.proofs.lemmas.List.Sums.{sum_by-append}
 use Rattle.xq_ast.specs.declared.token.Token.{Token}
 use Rattle.xq_ast.specs.declared.token.Token.TheVariants as token
@@ -112,9 +112,9 @@ both : {ts us : List Token} → Balanced ts → Balanced us → Balanced (ts ++ 
 both {ts} {us} a b = record {
   level = λ n. opens-append n ts us ∙ (ap (λ k. opens k us) (a.level n) ∙ b.level n);
   lifts = λ n.
-    let x : most_open (suc n) (ts ++ us) ≡ max (most_open (suc n) ts) (most_open (suc n) us) = most_open-append (suc n) ts us ∙ ap (λ k. max (most_open (suc n) ts) (most_open k us)) (a.level (suc n)) in
-    let y : most_open n (ts ++ us) ≡ max (most_open n ts) (most_open n us) = most_open-append n ts us ∙ ap (λ k. max (most_open n ts) (most_open k us)) (a.level n) in
-    omega (arith, x, y, a.lifts n, b.lifts n);
+      let x : most_open (suc n) (ts ++ us) ≡ max (most_open (suc n) ts) (most_open (suc n) us) = most_open-append (suc n) ts us ∙ ap (λ k. max (most_open (suc n) ts) (most_open k us)) (a.level (suc n)) in
+      let y : most_open n (ts ++ us) ≡ max (most_open n ts) (most_open n us) = most_open-append n ts us ∙ ap (λ k. max (most_open n ts) (most_open k us)) (a.level n) in
+      omega (arith, x, y, a.lifts n, b.lifts n);
 }
 
 -- a token that is no bracket
@@ -122,9 +122,9 @@ plain : (t : Token) {ts : List Token} → ((n : ℕ) → open_behind n t ≡ n) 
 plain t {ts} p a = record {
   level = λ n. ap (λ k. opens k ts) (p n) ∙ a.level n;
   lifts = λ n.
-    let x : most_open (suc n) (t ∷ ts) ≡ max (suc n) (most_open (suc n) ts) = ap (λ k. max (suc n) (most_open k ts)) (p (suc n)) in
-    let y : most_open n (t ∷ ts) ≡ max n (most_open n ts) = ap (λ k. max n (most_open k ts)) (p n) in
-    omega (arith, x, y, a.lifts n);
+      let x : most_open (suc n) (t ∷ ts) ≡ max (suc n) (most_open (suc n) ts) = ap (λ k. max (suc n) (most_open k ts)) (p (suc n)) in
+      let y : most_open n (t ∷ ts) ≡ max n (most_open n ts) = ap (λ k. max n (most_open k ts)) (p n) in
+      omega (arith, x, y, a.lifts n);
 }
 
 -- brackets round balanced tokens, before balanced tokens
@@ -133,10 +133,10 @@ brackets : (o c : Token) {ts us : List Token} → ((n : ℕ) → open_behind n o
 brackets o c {ts} {us} opened closed a b = record {
   level = λ n. ap (λ k. opens k (ts ++ c ∷ us)) (opened n) ∙ (opens-append (suc n) ts (c ∷ us) ∙ (ap (λ k. opens k (c ∷ us)) (a.level (suc n)) ∙ (ap (λ k. opens k us) (closed n) ∙ b.level n)));
   lifts = λ n.
-    let turn : (k : ℕ) → most_open k (o ∷ (ts ++ c ∷ us)) ≡ max k (max (most_open (suc k) ts) (max (suc k) (most_open k us))) = λ k.
-        ap (λ m. max k (most_open m (ts ++ c ∷ us))) (opened k)
-        ∙ ap (λ m. max k m) (most_open-append (suc k) ts (c ∷ us) ∙ ap (λ m. max (most_open (suc k) ts) m) (ap (λ m. most_open m (c ∷ us)) (a.level (suc k)) ∙ ap (λ m. max (suc k) (most_open m us)) (closed k))) in
-    omega (arith, turn n, turn (suc n), a.lifts n, a.lifts (suc n), b.lifts n);
+      let turn : (k : ℕ) → most_open k (o ∷ (ts ++ c ∷ us)) ≡ max k (max (most_open (suc k) ts) (max (suc k) (most_open k us))) = λ k.
+      ap (λ m. max k (most_open m (ts ++ c ∷ us))) (opened k)
+      ∙ ap (λ m. max k m) (most_open-append (suc k) ts (c ∷ us) ∙ ap (λ m. max (most_open (suc k) ts) m) (ap (λ m. most_open m (c ∷ us)) (a.level (suc k)) ∙ ap (λ m. max (suc k) (most_open m us)) (closed k))) in
+      omega (arith, turn n, turn (suc n), a.lifts n, a.lifts (suc n), b.lifts n);
 }
 
 word : {name : List ℕ} {ts : List Token} → Balanced ts → Balanced (token.Name name ∷ ts)

@@ -1,5 +1,5 @@
 -- Calls and updates: what is read is in the grammar, and what is in the grammar is read.
-use Rattle.std.proofs.Common.{◌≡◌, ℕ, suc, ◌<◌, ◌≤◌, Bool, true, false, ◌||◌, List, [], ◌∷◌, ◌++◌, Option, None, Some, refl, ap, sym, ◌∙◌, subst, append_assoc, arith}
+use Rattle.std.proofs.Common.{◌≡◌, ℕ, suc, ◌<◌, Bool, true, false, ◌||◌, List, [], ◌∷◌, ◌++◌, Option, None, Some, refl, ap, sym, ◌∙◌, subst, arith}
 use Rattle.std.specs.Prelude.{bytes_eq, if◌then◌else◌, codes}
 use Rattle.std.proofs.lemmas.List.{append-nil}
 use Rattle.xq_ast.specs.declared.token.Symbol.TheVariants.{Dollar}
@@ -14,13 +14,13 @@ use Rattle.xq_ast.specs.declared.call.Call.TheVariants as calls
 use Rattle.xq_ast.specs.Tokens.{◌>>=◌}
 use Rattle.xq_ast.specs.Grammar as grammar
 use Rattle.xq_ast.specs.Grammar.{IsSingle, IsExpr, IsUpdate, IsCall, is_statement, is_statement_word}
-use Rattle.xq_ast.specs.Readings.{Reader, Relation, word, a_name, variable, expr, single, alone_at, relation, inserted, insert, replace, rename, deleted, named_update, an_update, alone, named, document, begin, show, updating, query, row, call_over}
+use Rattle.xq_ast.specs.Readings.{Reader, Relation, word, a_name, variable, expr, single, alone_at, relation, inserted, insert, replace, rename, deleted, an_update, alone, named, document, begin, show, updating, query, row, call_over}
 use Rattle.xq_parse.proofs.Taken.{bind_some, some_is, same_bytes, Front, Takes, step_sound, last_sound, token_sound, stands_sound, under, choose, word_takes, a_name_takes, variable_takes}
 use Rattle.xq_parse.proofs.Sound.{single_takes, expr_takes}
 use Rattle.xq_parse.proofs.Turns.{then_is}
 use Rattle.xq_parse.proofs.Follow.{rank, word_rank, word_rank_is}
 use Rattle.xq_parse.proofs.Balance.{nest, nest-left, nest-right}
-use Rattle.xq_parse.proofs.Complete.{Ends, single_starts, expr_read}
+use Rattle.xq_parse.proofs.Complete.{single_starts, expr_read}
 use Rattle.xq_parse.proofs.Singles.{single_read}
 
 -- ---- updates that are read
@@ -320,7 +320,7 @@ query_row inner (token.Symbol s ∷ ts) pyx free = refl
 query_read : (n : ℕ) {ts : List Token} {e : Expr} → IsExpr ts e → nest ts < n → query (single n) ts ≡ Some (calls.Query e)
 query_read n {ts} {e} d small =
     let here : expr (single n) ts ≡ Some (e, []) = ap (expr (single n)) (sym (append-nil ts))
-        ∙ expr_read n (single n) (single_takes n) (λ ts e d small left h. single_read n ts e d small left h) d small [] (record { loose = omega arith; no_comma = refl }) in
+    ∙ expr_read n (single n) (single_takes n) (λ ts e d small left h. single_read n ts e d small left h) d small [] (record { loose = omega arith; no_comma = refl }) in
     ap (λ o. o >>= alone_at >>= (λ x. let y : Option Call = Some (calls.Query x) in y)) here
 
 -- a call in the grammar is read, where its single expressions stand no deeper than may be

@@ -1,12 +1,12 @@
 -- What tokens begin with, and what goes on with them. The rank of tokens says which operators could take them as their
 -- own: none for 0, else the operators from the loosest on, and at last what would make another word of a name.
-use Rattle.std.proofs.Common.{◌≡◌, ℕ, zero, suc, ◌<◌, ◌≤◌, Bool, true, false, List, [], ◌∷◌, ◌++◌, Option, Some, None, refl, ap, sym, ◌∙◌, subst, arith}
-use Rattle.std.specs.Prelude.{bytes_eq, if◌then◌else◌, codes, ◌||◌, ◌&&◌}
+use Rattle.std.proofs.Common.{◌≡◌, ℕ, ◌<◌, ◌≤◌, Bool, true, false, List, [], ◌∷◌, ◌++◌, Option, Some, None, refl, ap, subst, arith}
+use Rattle.std.specs.Prelude.{bytes_eq, if◌then◌else◌, codes}
 use Rattle.xq_ast.specs.declared.token.Symbol.{Symbol}
-use Rattle.xq_ast.specs.declared.token.Symbol.TheVariants.{OpenRound, CloseRound, OpenSquare, CloseSquare, OpenCurly, CloseCurly, Comma, Slash, SlashSlash, At, Dot, DotDot, ColonColon, Assign, Equal, NotEqual, Less, LessOrEqual, Greater, GreaterOrEqual, Plus, Minus, Star, Bar, Dollar}
+use Rattle.xq_ast.specs.declared.token.Symbol.TheVariants.{OpenRound, CloseRound, OpenSquare, CloseSquare, OpenCurly, CloseCurly, Comma, Slash, SlashSlash, At, Dot, DotDot, ColonColon, Equal, NotEqual, Less, LessOrEqual, Greater, GreaterOrEqual, Plus, Minus, Star, Bar, Dollar}
 use Rattle.xq_ast.specs.declared.token.Token.{Token}
 use Rattle.xq_ast.specs.declared.token.Token.TheVariants.{Name, Text, Int, Symbol as Mark}
-use Rattle.xq_ast.specs.Readings.{Behind, comma, close_round, close_square, close_curly, open_square, word, two_words, compare_op, sum_op, product_op, union_op, slash, behind_name, there, signs, direction, clause_word}
+use Rattle.xq_ast.specs.Readings.{Behind, close_round, close_curly, open_square, word, compare_op, sum_op, product_op, union_op, slash, behind_name, there, signs}
 use Rattle.xq_parse.proofs.Taken.{same_bytes}
 
 -- the tokens begin with an opening curly bracket

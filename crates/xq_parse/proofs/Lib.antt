@@ -9,6 +9,7 @@ pub mod Loops
 pub mod Balance
 pub mod ParsedRows
 pub mod Readings
+pub mod Parts
 pub mod Scopes
 pub mod Singles
 pub mod Sound

@@ -4,16 +4,9 @@ use Rattle.std.proofs.Common.{◌≡◌, ℕ, ◌<◌, Bool, true, false, List, 
 use Rattle.std.specs.Prelude.{codes}
 use Rattle.std.proofs.lemmas.List.{append-nil}
 use Rattle.xq_ast.specs.declared.token.Token.{Token}
-use Rattle.xq_ast.specs.declared.tree.Expr.{Expr}
-use Rattle.xq_ast.specs.declared.tree.Bind.{Bind}
-use Rattle.xq_ast.specs.declared.tree.SortKey.{SortKey}
-use Rattle.xq_ast.specs.declared.tree.SumPart.{SumPart}
-use Rattle.xq_ast.specs.declared.tree.ProductPart.{ProductPart}
-use Rattle.xq_ast.specs.declared.tree.ProductOp.{ProductOp}
-use Rattle.xq_ast.specs.declared.tree.Step.{Step}
 use Rattle.xq_ast.specs.Tokens.{◌>>=◌}
 use Rattle.xq_ast.specs.Grammar.{sum_part, product_part, step_behind}
-use Rattle.xq_ast.specs.Readings.{Reader, ClauseWord, items, there, there_at, put, comma, open_square, union_op, word, sum_op, product_op, slash, clause_word}
+use Rattle.xq_ast.specs.Readings.{Reader, items, there, there_at, put, comma, open_square, union_op, word, sum_op, product_op, slash, clause_word}
 use Rattle.xq_ast.specs.Readings.{single, commas, pred, preds, step, steps, signed, unions, union, product_parts, product, sum_parts, comp, ands, and, ors}
 use Rattle.xq_ast.specs.Readings.{bind, more_binds, let_bind, more_lets, sort_key, more_keys, clause, more_clauses}
 use Rattle.xq_parse.specs.Reads.{Takes}

@@ -1,5 +1,5 @@
 -- What is read from the left is exactly what the relations say.
-use Rattle.std.proofs.Common.{◌≡◌, ℕ, ◌<◌, ◌≤◌, Bool, true, false, ◌&&◌, List, [], ◌∷◌, length, Option, None, Some, refl, ap, sym, ◌∙◌, subst, arith}
+use Rattle.std.proofs.Common.{◌≡◌, ℕ, ◌<◌, ◌≤◌, Bool, true, false, ◌&&◌, List, length, Option, None, Some, refl, sym, ◌∙◌, arith}
 use Rattle.std.specs.Prelude.{nat_le, count_by, if◌then◌else◌, Result, Ok, Err}
 use Rattle.std.proofs.lemmas.Bool.{leb-true, leb-false}
 use Rattle.std.proofs.lemmas.Bool.Decides.{nat_tests}
@@ -16,7 +16,7 @@ use Rattle.xq_ast.specs.Functions.{has_known_functions}
 use Rattle.xq_ast.specs.Variables.{has_bound_variables}
 use Rattle.xq_ast.specs.Parsed as answers
 use Rattle.xq_ast.specs.Parsed.{Parsed, IsRead, is_nested_well, most_open, is_nesting_word}
-use Rattle.xq_ast.specs.Readings.{single, call_over, call_of, passed, named_well, read_tokens, parsed}
+use Rattle.xq_ast.specs.Readings.{call_of, named_well, read_tokens, parsed}
 use Rattle.xq_parse.proofs.Balance.{nest, words}
 use Rattle.xq_parse.proofs.Calls as calls
 

@@ -1,37 +1,19 @@
 -- What readings take: a front of the tokens that a fact holds of. Here for readings made of readings, and for what is
 -- looked at ahead.
-use Rattle.std.proofs.Common.{◌≡◌, ℕ, zero, suc, Bool, true, false, not, ◌||◌, List, [], ◌∷◌, ◌++◌, length, map, Option, Some, None, inl, inr, refl, ap, sym, ◌∙◌, subst, append_assoc}
-use Rattle.std.specs.Prelude.{bytes_eq, if◌then◌else◌, ◌&&◌, codes, ◌⊎◌, ℤ}
+use Rattle.std.proofs.Common.{◌≡◌, ℕ, zero, suc, Bool, true, false, List, [], ◌∷◌, ◌++◌, length, Option, Some, None, inl, inr, refl, ap, sym, ◌∙◌, subst, append_assoc}
+use Rattle.std.specs.Prelude.{bytes_eq, if◌then◌else◌, ◌&&◌, codes, ◌⊎◌}
 use Rattle.std.proofs.lemmas.Slice.Eq.{bytes_eq-Decides}
 use Rattle.std.proofs.lemmas.List.{append-nil}
-use Rattle.xq_ast.specs.declared.token.Symbol.{Symbol}
-use Rattle.xq_ast.specs.declared.token.Symbol.TheVariants.{OpenRound, CloseRound, OpenSquare, CloseSquare, OpenCurly, CloseCurly, Comma, Slash, SlashSlash, At, Dot, DotDot, ColonColon, Assign, Equal, NotEqual, Less, LessOrEqual, Greater, GreaterOrEqual, Plus, Minus, Star, Bar, Dollar}
+use Rattle.xq_ast.specs.declared.token.Symbol.TheVariants.{OpenRound, CloseRound, OpenSquare, CloseSquare, OpenCurly, CloseCurly, Comma, Slash, SlashSlash, ColonColon, Assign, Equal, NotEqual, Less, LessOrEqual, Greater, GreaterOrEqual, Plus, Minus, Star, Bar, Dollar}
 use Rattle.xq_ast.specs.declared.token.Token.{Token}
-use Rattle.xq_ast.specs.declared.token.Token.TheVariants.{Name, Text, Int, Symbol as Mark}
-use Rattle.xq_ast.specs.declared.step.Axis.{Axis}
-use Rattle.xq_ast.specs.declared.step.Axis.TheVariants as axis
-use Rattle.xq_ast.specs.declared.step.Test.{Test}
-use Rattle.xq_ast.specs.declared.step.Test.TheVariants as kind
+use Rattle.xq_ast.specs.declared.token.Token.TheVariants.{Name, Symbol as Mark}
 use Rattle.xq_ast.specs.declared.tree.CompareOp.{CompareOp}
 use Rattle.xq_ast.specs.declared.tree.CompareOp.TheVariants as compare
 use Rattle.xq_ast.specs.declared.tree.ProductOp.{ProductOp}
 use Rattle.xq_ast.specs.declared.tree.ProductOp.TheVariants.{Times, Idiv, Mod}
-use Rattle.xq_ast.specs.declared.tree.Sign.{Sign}
-use Rattle.xq_ast.specs.declared.tree.Sign.TheVariants as sign
-use Rattle.xq_ast.specs.declared.tree.Expr.{Expr}
-use Rattle.xq_ast.specs.declared.tree.Expr.TheVariants as expression
-use Rattle.xq_ast.specs.declared.tree.Bind.{Bind}
-use Rattle.xq_ast.specs.declared.tree.Bind.TheVariants as binding
-use Rattle.xq_ast.specs.declared.tree.SortKey.{SortKey}
-use Rattle.xq_ast.specs.declared.tree.SumPart.{SumPart}
-use Rattle.xq_ast.specs.declared.tree.ProductPart.{ProductPart}
-use Rattle.xq_ast.specs.declared.tree.Step.{Step}
 use Rattle.xq_ast.specs.Tokens.{◌>>=◌}
-use Rattle.xq_ast.specs.Grammar as grammar
-use Rattle.xq_ast.specs.Grammar.{IsTest, IsExpr, IsList, IsCommas, IsContent, IsArguments, IsSingle, IsFlwor, IsClause, IsClauses, IsBind, IsBinds, IsLet, IsLets, IsWhere, IsOrder, IsKey, IsKeys, IsIf, IsOr, IsOrs, IsAnd, IsAnds, IsComp, IsRange, IsSum, IsSumParts, IsProduct, IsProductParts, IsUnion, IsUnions, IsSigned, IsPath, IsSteps, IsFilter, IsPreds, IsPrimary, IsStep, is_keyword, is_test_word, is_doc_word, is_function_word, plain, name_token, axis_word, compare_symbol, sign_symbol, sequence_of, group_of, or_of, and_of, sum_of, product_of, union_of, signed_of, filter_of, path_of, steps_of, key, sum_part, product_part, step_behind}
-use Rattle.xq_ast.specs.Grammar.{step as step_with}
-use Rattle.xq_ast.specs.Readings as spec
-use Rattle.xq_ast.specs.Readings.{Reader, Behind, Operand, Begins, ClauseWord, comma, close_round, close_square, close_curly, open_square, assign, word, two_words, a_name, variable, compare_op, sum_op, product_op, union_op, slash, behind_name, repeated_at, repeated, items, followed, paired_at, paired, there, there_at, put, commas, list, expr, content_at, content, arguments_at, arguments, pred, preds, axis_of, kind_of, name_test, named_test, test, named_step, bare_step, step, steps, named_operand, operand, doc, primary, filtered, path_at, path, with_sign, signs, signed_at, signed, unions, union, product_parts, product, sum_parts, sum, range, comp, ands, and, ors, or, place, bind_in, bind, more_binds, binds, let_bind, more_lets, lets, clause_word, clause, more_clauses, first_clause, clauses, filter_at, filter, direction, key_at, sort_key, more_keys, sort_keys, order_at, order, flwor, an_if, named_begins, begins, single_at, single_over, single}
+use Rattle.xq_ast.specs.Grammar.{is_keyword, compare_symbol}
+use Rattle.xq_ast.specs.Readings.{Reader, Behind, ClauseWord, comma, close_round, close_square, close_curly, open_square, assign, word, two_words, a_name, variable, compare_op, sum_op, product_op, union_op, slash, behind_name, repeated_at, repeated, items, followed, paired_at, paired, there, there_at, clause_word}
 
 -- where one thing after another gives a value, the first gave one, and the second gave the value from it
 pub bind_some : {A B : Type 0} (o : Option A) (f : A → Option B) (y : B) → (o >>= f) ≡ Some y → (x : A) × (o ≡ Some x) × (f x ≡ Some y)

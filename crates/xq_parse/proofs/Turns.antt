@@ -1,5 +1,5 @@
 -- How often a repetition may turn does not tell, as long as it is as often as there are tokens: each turn leaves fewer.
-use Rattle.std.proofs.Common.{◌≡◌, ℕ, zero, suc, ◌+◌, ◌<◌, ◌≤◌, Bool, List, [], ◌∷◌, ◌++◌, length, Option, Some, None, refl, ap, sym, ◌∙◌, arith, append_assoc, length-append}
+use Rattle.std.proofs.Common.{◌≡◌, ℕ, zero, suc, ◌+◌, ◌<◌, ◌≤◌, List, ◌++◌, length, Option, Some, None, refl, ap, sym, ◌∙◌, arith, append_assoc, length-append}
 use Rattle.xq_ast.specs.declared.token.Token.{Token}
 use Rattle.xq_ast.specs.Tokens.{◌>>=◌}
 use Rattle.xq_ast.specs.Readings.{Reader, repeated_at, repeated, items, followed, paired_at, paired}

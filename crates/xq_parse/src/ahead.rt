@@ -69,19 +69,12 @@ pub(crate) fn word<'a>(word: &str, tokens: &'a [Token]) -> Option<&'a [Token]>
 }
 
 /// Behind these two words.
-pub(crate) fn two_words<'a>(
-    first: &str,
-    second: &str,
-    tokens: &'a [Token],
-) -> Option<&'a [Token]>
+pub(crate) fn two_words<'a>(first: &str, second: &str, tokens: &'a [Token]) -> Option<&'a [Token]>
     ensures { spec.two_words first.now second.now tokens.now ≡ option_map (λ rest. rest.now) result }
 {
     match tokens {
         [Token::Name(one), Token::Name(other), rest @ ..]
-            if one.as_str() == first && other.as_str() == second =>
-        {
-            Some(rest)
-        }
+            if one.as_str() == first && other.as_str() == second => { Some(rest) }
         _ => None,
     }
 }

@@ -98,11 +98,7 @@ impl<'a> Parser<'a> {
         ensures { Reads (λ name. (name, self.new)) result (spec.variable self.old) }
     {
         match self.left() {
-            [
-                Token::Symbol(Symbol::Dollar),
-                Token::Name(name),
-                rest @ ..,
-            ] => {
+            [Token::Symbol(Symbol::Dollar), Token::Name(name), rest @ ..] => {
                 self.goes_on(rest);
                 Ok(name.copy()?)
             }

@@ -103,31 +103,31 @@ abbrev pub decreases-or : goal.decreases-or
 decreases-or l = 32 * l.depth + 15
 
 abbrev pub invariant-or-parts : goal.invariant-or-parts
-invariant-or-parts l = behind l.rest (spec.ors (spec.single l.depth) l.self) ≡ spec.ors (spec.single l.depth) l.initial.self
+invariant-or-parts l = (l.first ≡ l.initial.first) × (behind l.rest (spec.ors (spec.single l.depth) l.self) ≡ spec.ors (spec.single l.depth) l.initial.self)
 
 abbrev pub decreases-or-parts : goal.decreases-or-parts
 decreases-or-parts l = length l.self
 
 abbrev pub invariant-and-parts : goal.invariant-and-parts
-invariant-and-parts l = behind l.rest (spec.ands (spec.single l.depth) l.self) ≡ spec.ands (spec.single l.depth) l.initial.self
+invariant-and-parts l = (l.first ≡ l.initial.first) × (behind l.rest (spec.ands (spec.single l.depth) l.self) ≡ spec.ands (spec.single l.depth) l.initial.self)
 
 abbrev pub decreases-and-parts : goal.decreases-and-parts
 decreases-and-parts l = length l.self
 
 abbrev pub invariant-union-parts : goal.invariant-union-parts
-invariant-union-parts l = behind l.rest (spec.unions (spec.single l.depth) l.self) ≡ spec.unions (spec.single l.depth) l.initial.self
+invariant-union-parts l = (l.first ≡ l.initial.first) × (behind l.rest (spec.unions (spec.single l.depth) l.self) ≡ spec.unions (spec.single l.depth) l.initial.self)
 
 abbrev pub decreases-union-parts : goal.decreases-union-parts
 decreases-union-parts l = length l.self
 
 abbrev pub invariant-sum-parts : goal.invariant-sum-parts
-invariant-sum-parts l = behind l.rest (spec.sum_parts (spec.single l.depth) l.self) ≡ spec.sum_parts (spec.single l.depth) l.initial.self
+invariant-sum-parts l = (l.first ≡ l.initial.first) × (behind l.rest (spec.sum_parts (spec.single l.depth) l.self) ≡ spec.sum_parts (spec.single l.depth) l.initial.self)
 
 abbrev pub decreases-sum-parts : goal.decreases-sum-parts
 decreases-sum-parts l = length l.self
 
 abbrev pub invariant-product-parts : goal.invariant-product-parts
-invariant-product-parts l = behind l.rest (spec.product_parts (spec.single l.depth) l.self) ≡ spec.product_parts (spec.single l.depth) l.initial.self
+invariant-product-parts l = (l.first ≡ l.initial.first) × (behind l.rest (spec.product_parts (spec.single l.depth) l.self) ≡ spec.product_parts (spec.single l.depth) l.initial.self)
 
 abbrev pub decreases-product-parts : goal.decreases-product-parts
 decreases-product-parts l = length l.self

@@ -1,7 +1,7 @@
 use Rattle.std.proofs.Common.{◌≡◌, ◌+◌, ◌++◌, map, drop, vec_len}
 use Rattle.xml_model.specs.Numbering.{attr_rows}
 use Rattle.xml_model.specs.TreeRows.{row_of}
-use Rattle.xml_model.proofs.tree_nav.add_attrs.Given as goal
+use Rattle.xml_model.proofs.tree_rows.add_attrs.Given as goal
 
 abbrev pub invariant-loop-i : goal.invariant-loop-i
 invariant-loop-i l =
