@@ -97,19 +97,3 @@ impl Doc {
         }
     }
 }
-
-impl Node {
-    /// How deep the node is, how many nodes and how many bytes of values it has, itself counted.
-    /// Takes no memory.
-    pub fn measure(&self) -> Measure
-        ensures depth { result.depth ≡ min (depth_node self.now) (2 ^ 32 - 1) }
-        ensures nodes { result.nodes ≡ min (count_node self.now) (2 ^ 64 - 1) }
-        ensures bytes { result.bytes ≡ min (bytes_node self.now) (2 ^ 64 - 1) }
-    {
-        Measure {
-            depth: depth_in_node(self),
-            nodes: count_node(self),
-            bytes: bytes_in_node(self),
-        }
-    }
-}

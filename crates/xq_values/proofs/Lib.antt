@@ -1,3 +1,4 @@
+pub mod Contents
 pub mod Fronts
 pub mod Keys
 pub mod Longs

@@ -1,3 +1,4 @@
+pub mod Contents
 pub mod Digits
 pub mod Gives
 pub mod Lists

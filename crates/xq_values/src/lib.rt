@@ -10,6 +10,7 @@
 mod arithmetic;
 mod cast;
 mod compare;
+mod content;
 mod end;
 mod item;
 mod key;
@@ -23,6 +24,7 @@ mod truth;
 pub use arithmetic::{Operands, added, multiplied};
 pub use cast::{to_boolean, to_integer};
 pub use compare::compares;
+pub use content::{Content, items_make_content};
 pub use end::ValueEnd;
 pub use item::{Item, ItemList, MadeList, MadePlace, MadeRoot, NodeId};
 pub use key::{joined_type, key_of, keys_order, type_of};
