@@ -58,7 +58,8 @@ closed_stands (b ∷ text) c ps h =
     record {
       attrs = h.attrs ∙ sym (attributes-append ps more ∙ append-nil (attributes_of ps));
       kids = ap (λ k. k ++ Text (b ∷ text) ∷ []) h.kids ∙ sym (children-append ps more);
-      late = h.late ∙ sym (late-append false ps more ∙ or_false (has_late_attribute false ps)) }
+      late = h.late ∙ sym (late-append false ps more ∙ or_false (has_late_attribute false ps));
+    }
 
 attribute_stands : (c : Content) (ps : List Piece) (a : Attr) → StandsFor c ps → StandsFor (attribute_behind c a) (ps ++ an_attribute_piece a ∷ [])
 attribute_stands c ps a h =
@@ -67,7 +68,8 @@ attribute_stands c ps a h =
       attrs = ap (λ k. k ++ a ∷ []) h.attrs ∙ sym (attributes-append ps more);
       kids = h.kids ∙ sym (children-append ps more ∙ append-nil (children_of ps));
       late = ap (λ b. b || some c.kids) h.late ∙ (ap (λ k. has_late_attribute false ps || some k) h.kids
-        ∙ (ap (λ b. has_late_attribute false ps || b) (sym (or_false (some (children_of ps)))) ∙ sym (late-append false ps more))) }
+          ∙ (ap (λ b. has_late_attribute false ps || b) (sym (or_false (some (children_of ps)))) ∙ sym (late-append false ps more)));
+    }
 
 node_stands : (c : Content) (ps : List Piece) (n : Node) → StandsFor c ps → StandsFor (node_behind c n) (ps ++ a_child n ∷ [])
 node_stands c ps n h =
@@ -75,7 +77,8 @@ node_stands c ps n h =
     record {
       attrs = h.attrs ∙ sym (attributes-append ps more ∙ append-nil (attributes_of ps));
       kids = ap (λ k. k ++ n ∷ []) h.kids ∙ sym (children-append ps more);
-      late = h.late ∙ sym (late-append false ps more ∙ or_false (has_late_attribute false ps)) }
+      late = h.late ∙ sym (late-append false ps more ∙ or_false (has_late_attribute false ps));
+    }
 
 -- ---- what pieces make behind a text
 
@@ -106,7 +109,8 @@ one_child None n c whole done h rest =
       done = (done ++ text_child c.text) ++ a_child n ∷ [];
       stands = node_stands (closed c) (done ++ text_child c.text) n (closed_stands c.text c done h);
       ended = refl;
-      rest = λ ps. moved done (text_child c.text) (a_child n) (content_from [] ps) ∙ rest ps }
+      rest = λ ps. moved done (text_child c.text) (a_child n) (content_from [] ps) ∙ rest ps;
+    }
 
 one_piece : (p : Piece) (c : Content) (whole : List Piece → List Piece) → Steps whole c → Steps (λ ps. whole (p ∷ ps)) (with_piece c p)
 one_piece (an_attribute_piece a) c whole s =
@@ -114,7 +118,8 @@ one_piece (an_attribute_piece a) c whole s =
       done = (s.done ++ text_child c.text) ++ an_attribute_piece a ∷ [];
       stands = attribute_stands (closed c) (s.done ++ text_child c.text) a (closed_stands c.text c s.done s.stands);
       ended = refl;
-      rest = λ ps. moved s.done (text_child c.text) (an_attribute_piece a) (content_from [] ps) ∙ s.rest (an_attribute_piece a ∷ ps) }
+      rest = λ ps. moved s.done (text_child c.text) (an_attribute_piece a) (content_from [] ps) ∙ s.rest (an_attribute_piece a ∷ ps);
+    }
 one_piece (a_child n) c whole s = one_child (text_in (out-Node n)) n c whole s.done s.stands (λ ps. s.rest (a_child n ∷ ps))
 
 all_pieces : (xs : List Piece) (c : Content) (whole : List Piece → List Piece) → Steps whole c → Steps (λ ps. whole (xs ++ ps)) (with_pieces c xs)
@@ -150,22 +155,26 @@ as_text whole before c r ps =
 first_value : (whole : List Piece → List Piece) (c : Content) (a : Atom) → Steps whole c → Running whole (atom_text a ∷ []) (with_value c a)
 first_value whole c a s =
     record {
-      done = s.done; base = c.text;
+      done = s.done;
+      base = c.text;
       stands = record { attrs = s.stands.attrs; kids = s.stands.kids; late = s.stands.late };
       running = refl;
       text = ap (λ b. c.text ++ word b a) s.ended;
-      rest = s.rest }
+      rest = s.rest;
+    }
 
 next_value : (whole : List Piece → List Piece) (w : List ℕ) (ws : List (List ℕ)) (c : Content) (a : Atom) → Running whole (w ∷ ws) c
     → Running whole (w ∷ (ws ++ atom_text a ∷ [])) (with_value c a)
 next_value whole w ws c a r =
     record {
-      done = r.done; base = r.base;
+      done = r.done;
+      base = r.base;
       stands = record { attrs = r.stands.attrs; kids = r.stands.kids; late = r.stands.late };
       running = refl;
       text = ap (λ b. c.text ++ word b a) r.running ∙ (ap (λ t. t ++ (32 ∷ atom_text a)) r.text
-        ∙ (append_assoc r.base (join_with_byte 32 (w ∷ ws)) (32 ∷ atom_text a) ∙ ap (λ t. r.base ++ t) (sym (join_more w ws (atom_text a)))));
-      rest = r.rest }
+          ∙ (append_assoc r.base (join_with_byte 32 (w ∷ ws)) (32 ∷ atom_text a) ∙ ap (λ t. r.base ++ t) (sym (join_more w ws (atom_text a)))));
+      rest = r.rest;
+    }
 
 at_node_steps : (whole : List Piece → List Piece) (c : Content) → Steps whole c → Steps whole (at_node c)
 at_node_steps whole c s =
@@ -197,7 +206,7 @@ mutual
       let xs = pieces_of (node_at docs made n) in
       let run : Piece = a_child (Text (join_with_byte 32 (w ∷ ws))) in
       after_node docs made items (with_pieces (at_node c) xs) (λ ps. whole (run ∷ (xs ++ ps)))
-        (all_pieces xs (at_node c) (λ ps. whole (run ∷ ps)) (at_node_runs whole (w ∷ ws) c r))
+      (all_pieces xs (at_node c) (λ ps. whole (run ∷ ps)) (at_node_runs whole (w ∷ ws) c r))
   after_value docs made (string text ∷ items) c whole w ws r =
       after_value docs made items (with_value c (atom.Text text)) whole w (ws ++ atom_text (atom.Text text) ∷ []) (next_value whole w ws c (atom.Text text) r)
   after_value docs made (integer n ∷ items) c whole w ws r =
@@ -297,4 +306,4 @@ nothing_yet = record { done = []; stands = record { attrs = refl; kids = refl; l
 pub items_make : (docs : Documents) (made : Made) (items : Items) → StandsFor (closed (with_items docs made no_content items)) (content_of docs made items)
 items_make docs made items =
     subst (StandsFor (closed (with_items docs made no_content items))) (from_nothing (pieces docs made [] items))
-      (after_node docs made items no_content (content_from []) nothing_yet)
+    (after_node docs made items no_content (content_from []) nothing_yet)

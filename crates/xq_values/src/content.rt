@@ -196,5 +196,4 @@ impl Content {
 pub fn items_make_content()
     ensures { (docs : items.Documents) (made : items.Made) (all : items.Items) →
         spec.StandsFor (spec.closed (spec.with_items docs made spec.no_content all)) (content_of docs made all) }
-{
-}
+{}

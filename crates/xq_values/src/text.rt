@@ -45,7 +45,12 @@ pub fn atom_text(alloc: Global, atom: &Atom) -> Result<Str, NoMemory>
 }
 
 // Adds the text of a value at the end, with a space before it where it is not the first.
-pub(crate) fn push_word(alloc: Global, all: &mut Str, later: bool, atom: &Atom) -> Result<(), NoMemory>
+pub(crate) fn push_word(
+    alloc: Global,
+    all: &mut Str,
+    later: bool,
+    atom: &Atom,
+) -> Result<(), NoMemory>
     ensures { OnOk result (all.new ≡ all.old ++ words.word later atom.now) }
 {
     if later {
