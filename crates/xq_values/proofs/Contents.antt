@@ -1,5 +1,5 @@
 -- Content: items one after another make the attributes and children of the content that all of them make.
-use Rattle.std.proofs.Common.{◌≡◌, ℕ, Bool, true, false, not, ◌||◌, List, [], ◌∷◌, ◌++◌, map, refl, ap, sym, ◌∙◌, subst, append_assoc, append-nil, Option, Some, None}
+use Rattle.std.proofs.Common.{◌≡◌, ℕ, Bool, true, false, not, ◌||◌, List, [], ◌∷◌, ◌++◌, refl, ap, sym, ◌∙◌, subst, append_assoc, append-nil, Option, Some, None}
 use Rattle.std.specs.Prelude.{filter, if◌then◌else◌}
 use Rattle.std.specs.List.{join_with_byte}
 use Rattle.xml_model.specs.declared.node.Attr.{Attr}
@@ -12,7 +12,7 @@ use Rattle.xml_model.specs.Atoms.{atom_text}
 use Rattle.xml_model.specs.Constructors.{Piece, an_attribute_piece, a_child, text_in, piece_text, pieces_of, pieces, joined_two, joined_to, joined_texts, is_empty_text, content_of, attributes_of, children_of, has_late_attribute}
 use Rattle.xq_values.specs.declared.content.Content.{Content}
 use Rattle.xq_values.specs.Words.{word}
-use Rattle.xq_values.specs.Contents.{some, no_content, closed_by, closed, with_value, with_text, attribute_behind, node_behind, with_attribute, child_by, with_child, with_piece, with_pieces, at_node, with_items, StandsFor}
+use Rattle.xq_values.specs.Contents.{some, no_content, closed_by, closed, with_value, attribute_behind, node_behind, child_by, with_piece, with_pieces, at_node, with_items, StandsFor}
 
 -- ---- pieces one after another
 
