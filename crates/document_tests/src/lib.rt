@@ -7,6 +7,8 @@
 #[cfg(test)]
 mod byte_edge_calls;
 #[cfg(test)]
+mod navigation;
+#[cfg(test)]
 mod pyx_text_calls;
 #[cfg(test)]
 mod xml_model_calls;

@@ -76,7 +76,7 @@ fn refusals(rt: HostRuntime) -> Result<(), Fail> {
     let alloc = rt.alloc();
     for (text, want) in [
         ("", Code::XPST0003),
-        ("begin", Code::XPST0003),
+        ("begin transaction", Code::XPST0003),
         ("BEGIN READ - ONLY", Code::XPST0003),
         ("COMMIT 'now'", Code::XPST0003),
         ("CREATE DOCUMENT", Code::XPST0003),

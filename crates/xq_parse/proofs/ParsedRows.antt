@@ -190,6 +190,18 @@ word_cases_hold : spelled word_cases ≡ expected word_cases
 unfolding spec.expr spec.list spec.commas spec.content spec.arguments spec.pred spec.preds spec.bare_step spec.step spec.steps spec.primary spec.filtered spec.path spec.signed spec.unions spec.union spec.product_parts spec.product spec.sum_parts spec.sum spec.range spec.comp spec.ands spec.and spec.ors spec.or spec.bind spec.more_binds spec.binds spec.let_bind spec.more_lets spec.lets spec.clause spec.more_clauses spec.first_clause spec.clauses spec.filter spec.sort_key spec.more_keys spec.sort_keys spec.order spec.flwor spec.an_if spec.single_over
 word_cases_hold = refl
 
+-- words that are names where no row begins with them
+abbrev name_cases : List Case
+name_cases =
+    (codes "1 + if(1)", Some (call.Query (e.Sum (int 1) (sum_part false (e.Fun (codes "if") (int 1 ∷ [])) ∷ []))))
+    ∷ (codes "fn:if(1)", Some (call.Query (e.Fun (codes "if") (int 1 ∷ []))))
+    ∷ (codes "processing-instruction, descendant, descendant-or-self, self, parent", Some (call.Query (e.Seq (name (codes "processing-instruction") ∷ name (codes "descendant") ∷ name (codes "descendant-or-self") ∷ name (codes "self") ∷ name (codes "parent") ∷ []))))
+    ∷ (codes "insert, delete_undeep, replace, rename, READ-ONLY, a/COMMIT", Some (call.Query (e.Seq (name (codes "insert") ∷ name (codes "delete_undeep") ∷ name (codes "replace") ∷ name (codes "rename") ∷ name (codes "READ-ONLY") ∷ e.Path (First (child (codes "a"))) (child (codes "COMMIT") ∷ []) ∷ [])))) ∷ []
+
+name_cases_hold : spelled name_cases ≡ expected name_cases
+unfolding spec.expr spec.list spec.commas spec.content spec.arguments spec.pred spec.preds spec.bare_step spec.step spec.steps spec.primary spec.filtered spec.path spec.signed spec.unions spec.union spec.product_parts spec.product spec.sum_parts spec.sum spec.range spec.comp spec.ands spec.and spec.ors spec.or spec.bind spec.more_binds spec.binds spec.let_bind spec.more_lets spec.lets spec.clause spec.more_clauses spec.first_clause spec.clauses spec.filter spec.sort_key spec.more_keys spec.sort_keys spec.order spec.flwor spec.an_if spec.single_over
+name_cases_hold = refl
+
 -- updates and calls
 abbrev call_cases : List Case
 call_cases =

@@ -1,0 +1,6 @@
+-- Chains of nodes.
+pub mod Chain
+pub mod Copying
+pub mod Parts
+pub mod StringValues
+pub mod Unions

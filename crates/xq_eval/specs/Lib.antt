@@ -1,0 +1,3 @@
+-- What evaluation says of the nodes of a `Nav`.
+pub mod Walks
+pub mod Copies

@@ -1,0 +1,10 @@
+pub mod Contents
+pub mod Digits
+pub mod Gives
+pub mod Lists
+pub mod Ranges
+pub mod Rows
+pub mod Seen
+pub mod Signs
+pub mod Sums
+pub mod Words
