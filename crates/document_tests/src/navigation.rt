@@ -7,7 +7,7 @@ use std::process::Abort;
 use std::test::Fail;
 use xml_model::{Attr, Doc, DocMap, Id, Nav, NavEnd, NoFault, Node, PlacedRef, TreeNav, TreeRows};
 use xq_ast::{Axis, Kind, NoMemory, Str, is_document_name};
-use xq_eval::{IdList, merge, on_axis, string_value};
+use xq_nodes::{IdList, merge, on_axis, string_value};
 
 fn read(alloc: Global, text: &str) -> Result<Doc, PyxFault> {
     let mut reader = PyxReader::new(alloc);
@@ -26,7 +26,7 @@ fn keep(alloc: Global, docs: &mut DocMap, name: &str, doc: Doc) -> Result<(), No
 }
 
 /// `e` is `<r>8<b/><i n="w" k="f">7</i></r>`, and `B` is `<a/>`.
-fn two_documents(alloc: Global) -> Result<DocMap, PyxFault> {
+pub(crate) fn two_documents(alloc: Global) -> Result<DocMap, PyxFault> {
     let mut docs = DocMap::new(alloc);
     let e = read(alloc, "(r\n-8\n(b\n)b\n(i\nAn w\nAk f\n-7\n)i\n)r")?;
     keep(alloc, &mut docs, "e", e)?;
@@ -150,11 +150,11 @@ fn nodes_that_stand_alone(rt: HostRuntime) -> Result<(), Fail> {
 
 /// The fault of a `Nav` that fails.
 #[derive(Clone, Copy, Debug, PartialEq, Eq)]
-struct Broken;
+pub(crate) struct Broken;
 
 /// Plain trees whose calls fail once so many have been answered.
 #[derive(Drop)]
-struct Failing<'a> {
+pub(crate) struct Failing<'a> {
     nav: TreeNav<'a>,
     left: Cell<u32>,
 }
@@ -257,12 +257,17 @@ impl<'a> Nav for Failing<'a> {
     ghost valid = { λ f honest. honest };
 }
 
-/// Whether the nodes below the document `e` are found where so many calls are answered.
-fn is_found(alloc: Global, docs: &DocMap, calls: u32) -> Result<bool, NoMemory> {
-    let nav = Failing {
+/// The documents, of which so many calls are answered.
+pub(crate) fn failing(docs: &DocMap, calls: u32) -> Result<Failing, NoMemory> {
+    Ok(Failing {
         nav: TreeNav::of(docs)?,
         left: Cell::new(calls),
-    };
+    })
+}
+
+/// Whether the nodes below the document `e` are found where so many calls are answered.
+fn is_found(alloc: Global, docs: &DocMap, calls: u32) -> Result<bool, NoMemory> {
+    let nav = failing(docs, calls)?;
     match on_axis(alloc, &nav, Axis::Descendant, id(1, 0)) {
         Ok(all) => Ok(all.len() == 5),
         Err(NavEnd::Nav(Broken)) => Ok(false),

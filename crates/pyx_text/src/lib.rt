@@ -2,7 +2,8 @@
 //!
 //! Contracts see a `PyxReader` as what has been read so far, or as the first refusal. `line` takes a line
 //! as the definition `Pyx` says, and `end` gives the document. `write_doc` writes a document's canonical
-//! text to a sink, and `lines_of` lists its canonical lines.
+//! text to a sink, and `lines_of` lists its canonical lines; `push_node`, `push_nodes`, `attribute_line` and
+//! `value_line` list those of parts of answers.
 //! A line is refused, with its number, that is of no kind, has a bad name, ends another element than the
 //! innermost, has a late or repeated attribute, or passes a limit; and the end, where an element is open
 //! (`PyxRefusal`). A refusal stays. After `NoMemory` a line counts as not given.
@@ -21,6 +22,6 @@ mod room;
 mod write;
 
 pub use fault::PyxFault;
-pub use listing::lines_of;
+pub use listing::{attribute_line, lines_of, push_node, push_nodes, value_line};
 pub use reader::PyxReader;
 pub use write::write_doc;

@@ -17,12 +17,23 @@ fn marked(alloc: Global, mark: &str, name: &Str) -> Result<Str, NoMemory>
     Ok(line)
 }
 
-fn attribute_of(alloc: Global, attr: &Attr) -> Result<Str, NoMemory>
+/// The line of an attribute, without its newline.
+pub fn attribute_line(alloc: Global, attr: &Attr) -> Result<Str, NoMemory>
     ensures { IfOk result (λ line. line ≡ attribute_line attr.now) }
 {
     let mut line = marked(alloc, "A", &attr.name)?;
     line.push_str(" ")?;
     push_escaped(&mut line, attr.value.as_str())?;
+    Ok(line)
+}
+
+/// The line of an atomic value in an answer, without its newline: its text with its escapes, behind
+/// `=`.
+pub fn value_line(alloc: Global, text: &str) -> Result<Str, NoMemory>
+    ensures { IfOk result (λ line. line ≡ 61 ∷ escaped text.now) }
+{
+    let mut line = Str::of(alloc, "=")?;
+    push_escaped(&mut line, text)?;
     Ok(line)
 }
 
@@ -58,13 +69,14 @@ fn push_attributes(alloc: Global, lines: &mut StrList, attrs: &AttrList) -> Resu
     ensures { OnOk result (lines.new ≡ lines.old ++ map attribute_line attrs.now) }
 {
     for attr in attrs.as_slice() {
-        lines.push(attribute_of(alloc, attr)?)?;
+        lines.push(attribute_line(alloc, attr)?)?;
     }
     Ok(())
 }
 
+/// Adds the canonical lines of nodes, one after another.
 #[cycle(list)]
-fn push_nodes(alloc: Global, lines: &mut StrList, nodes: &NodeList) -> Result<(), NoMemory>
+pub fn push_nodes(alloc: Global, lines: &mut StrList, nodes: &NodeList) -> Result<(), NoMemory>
     ensures { OnOk result (lines.new ≡ lines.old ++ pyx_of nodes.now) }
 {
     for node in nodes.as_slice() {
@@ -73,8 +85,9 @@ fn push_nodes(alloc: Global, lines: &mut StrList, nodes: &NodeList) -> Result<()
     Ok(())
 }
 
+/// Adds a node's canonical lines.
 #[cycle(list)]
-fn push_node(alloc: Global, lines: &mut StrList, node: &Node) -> Result<(), NoMemory>
+pub fn push_node(alloc: Global, lines: &mut StrList, node: &Node) -> Result<(), NoMemory>
     ensures { OnOk result (lines.new ≡ lines.old ++ pyx_node node.now) }
 {
     match node {

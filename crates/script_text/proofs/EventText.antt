@@ -5,8 +5,8 @@ use Rattle.std.specs.Fmt.{decimal}
 use Rattle.xq_ast.specs.declared.need.Need.{Need}
 use Rattle.xml_model.specs.Pyx.{Line, text_of}
 use Rattle.std.proofs.lemmas.Grind.{common_steps}
-use Rattle.session_core.specs.declared.event.Says.TheVariants as answers
-use Rattle.session_core.specs.declared.event.Event.{Event}
+use Rattle.session_core.specs.declared.history.event.Says.TheVariants as answers
+use Rattle.session_core.specs.declared.history.event.Event.{Event}
 use Rattle.script_text.specs.declared.journals.pieces.Piece.{Piece}
 use Rattle.script_text.specs.Pieces.{piece_text, pieces_text, others_text}
 use Rattle.script_text.specs.JournalText.{doubled, need_text, needs_text, line_of, answer_lines, event_lines, journal_lines, text}

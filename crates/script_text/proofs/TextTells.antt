@@ -2,7 +2,7 @@
 use Rattle.std.proofs.Common.{◌≡◌, ◌≢◌, ℕ, List, [], ◌∷◌, ◌++◌, map, Option, None, Some, Result, Ok, Err, IfOk, IsUtf8, refl, ap, sym, subst, ◌∙◌, append_assoc}
 use Rattle.xq_ast.specs.declared.memory.NoMemory.{NoMemory}
 use Rattle.xml_model.specs.Pyx.{Line, IsPlain, IsCutLine, text_of}
-use Rattle.session_core.specs.declared.event.Event.{Event}
+use Rattle.session_core.specs.declared.history.event.Event.{Event}
 use Rattle.script_text.specs.declared.journals.rows.Row.{Row}
 use Rattle.script_text.specs.declared.journals.reading.EventText.{EventText}
 use Rattle.script_text.specs.JournalText.{line_of, event_lines, journal_lines, text, told, AreLines, IsSession, IsPrinted, ArePrinted}

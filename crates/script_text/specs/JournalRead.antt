@@ -1,6 +1,6 @@
 -- The journal that some bytes are the text of.
 use Rattle.std.specs.Prelude.{◌≡◌, ℕ, List, map, Option, None, Some}
-use Rattle.session_core.specs.declared.event.Event.{Event}
+use Rattle.session_core.specs.declared.history.event.Event.{Event}
 use Rattle.script_text.specs.JournalText.{text, told, ArePrinted}
 
 -- the bytes are the text of this journal, and it keeps nothing besides

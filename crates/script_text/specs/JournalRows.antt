@@ -5,11 +5,11 @@ use Rattle.xq_ast.specs.CodeText.{code_text, InRange, HasNoMark, no_mark}
 use Rattle.xq_ast.specs.declared.code.Code.{Code}
 use Rattle.xq_ast.specs.declared.need.Need.{Need}
 use Rattle.xml_model.specs.Pyx.{Line}
-use Rattle.session_core.specs.declared.event.BeginKind.TheVariants.{Updating, Reading}
-use Rattle.session_core.specs.declared.event.Says.{Says}
-use Rattle.session_core.specs.declared.event.Says.TheVariants as says
-use Rattle.session_core.specs.declared.event.Event.{Event}
-use Rattle.session_core.specs.declared.event.Event.TheVariants.{Began, Granted, Refused, Answered, Committed, Ended, RolledBack, Doubt, Settled, Left}
+use Rattle.session_core.specs.declared.history.event.BeginKind.TheVariants.{Updating, Reading}
+use Rattle.session_core.specs.declared.history.event.Says.{Says}
+use Rattle.session_core.specs.declared.history.event.Says.TheVariants as says
+use Rattle.session_core.specs.declared.history.event.Event.{Event}
+use Rattle.session_core.specs.declared.history.event.Event.TheVariants.{Began, Granted, Refused, Answered, Committed, Ended, RolledBack, Doubt, Settled, Left}
 use Rattle.script_text.specs.declared.journals.rows.Row.{Row}
 use Rattle.script_text.specs.declared.journals.rows.Row.TheVariants as rows
 use Rattle.script_text.specs.JournalText.{quoted, needs_text, stands_text, AreLines, IsSession}

@@ -3,7 +3,7 @@ use Rattle.std.specs.Prelude.{◌≡◌, ◌≢◌, ℕ, ◌<◌, ◌==◌, ◌|
 use Rattle.xq_ast.specs.declared.need.LockMode.{LockMode}
 use Rattle.xq_ast.specs.declared.need.Need.{Need}
 use Rattle.xml_model.specs.Pyx.{Line, text_of}
-use Rattle.session_core.specs.declared.event.Event.{Event}
+use Rattle.session_core.specs.declared.history.event.Event.{Event}
 use Rattle.script_text.specs.declared.journals.rows.Row.{Row}
 use Rattle.script_text.specs.declared.journals.parts.NameText.{NameText}
 use Rattle.script_text.specs.declared.journals.parts.ModeText.{ModeText}

@@ -6,12 +6,12 @@ use Rattle.xq_ast.specs.declared.need.LockMode.{LockMode}
 use Rattle.xq_ast.specs.declared.need.LockMode.TheVariants.{S, X}
 use Rattle.xq_ast.specs.declared.need.Need.{Need}
 use Rattle.xml_model.specs.Pyx.{Line, text_of, IsPlain}
-use Rattle.session_core.specs.declared.event.BeginKind.{BeginKind}
-use Rattle.session_core.specs.declared.event.BeginKind.TheVariants.{Updating, Reading}
-use Rattle.session_core.specs.declared.event.Says.{Says}
-use Rattle.session_core.specs.declared.event.Says.TheVariants as says
-use Rattle.session_core.specs.declared.event.Event.{Event}
-use Rattle.session_core.specs.declared.event.Event.TheVariants.{Began, Granted, Refused, Answered, Committed, Ended, RolledBack, Doubt, Settled, Left}
+use Rattle.session_core.specs.declared.history.event.BeginKind.{BeginKind}
+use Rattle.session_core.specs.declared.history.event.BeginKind.TheVariants.{Updating, Reading}
+use Rattle.session_core.specs.declared.history.event.Says.{Says}
+use Rattle.session_core.specs.declared.history.event.Says.TheVariants as says
+use Rattle.session_core.specs.declared.history.event.Event.{Event}
+use Rattle.session_core.specs.declared.history.event.Event.TheVariants.{Began, Granted, Refused, Answered, Committed, Ended, RolledBack, Doubt, Settled, Left}
 
 -- each quote twice
 abbrev pub doubled : List ℕ → List ℕ

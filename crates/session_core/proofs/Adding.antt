@@ -13,26 +13,26 @@ use Rattle.xq_ast.specs.declared.code.Mark.{Mark}
 use Rattle.xq_ast.specs.declared.need.Need.{Need}
 use Rattle.xml_model.specs.Forest.{Forest, IsForest}
 use Rattle.doc_locks.specs.Names.{Locks}
-use Rattle.session_core.specs.declared.event.BeginKind.{BeginKind}
-use Rattle.session_core.specs.declared.event.BeginKind.TheVariants as kinds
-use Rattle.session_core.specs.declared.event.State.{State}
-use Rattle.session_core.specs.declared.event.State.TheVariants.{Idle, Updating, Reading, InDoubt}
-use Rattle.session_core.specs.declared.event.Reply.{Reply}
-use Rattle.session_core.specs.declared.event.Event.{Event}
-use Rattle.session_core.specs.declared.event.Event.TheVariants.{Began, Granted, Refused, Answered, Committed, Ended, RolledBack, Doubt, Settled, Left}
+use Rattle.session_core.specs.declared.history.event.BeginKind.{BeginKind}
+use Rattle.session_core.specs.declared.history.event.BeginKind.TheVariants as kinds
+use Rattle.session_core.specs.declared.history.event.State.{State}
+use Rattle.session_core.specs.declared.history.event.State.TheVariants.{Idle, Updating, Reading, InDoubt}
+use Rattle.session_core.specs.declared.history.event.Reply.{Reply}
+use Rattle.session_core.specs.declared.history.event.Event.{Event}
+use Rattle.session_core.specs.declared.history.event.Event.TheVariants.{Began, Granted, Refused, Answered, Committed, Ended, RolledBack, Doubt, Settled, Left}
 use Rattle.session_core.specs.History.{past_of, last_of}
-use Rattle.session_core.specs.Transactions.{Base, Transaction, open_of, with_reply, commits, commit_count, ran, ran_all, run_calls, serial, after, newest, next_number}
-use Rattle.session_core.specs.States.{state_with, state, is_open, is_reading, held_with, held_in, in_doubt}
-use Rattle.session_core.specs.Locks.{IsGranted, IsRefused, IsBehindGrant}
-use Rattle.session_core.specs.Replies.{RunsNext}
-use Rattle.session_core.specs.Refusals.{RefusalsAt, IsBehindSettling, is_apart}
-use Rattle.session_core.specs.Settling.{last_number, MaySettle, ClosesBehind, IsBehindSettled, HasCommitLeft}
-use Rattle.session_core.specs.Marks.{IsNextMark}
-use Rattle.session_core.specs.Legal.{SoFar}
-use Rattle.session_core.specs.Steps.{IsStep}
-use Rattle.session_core.specs.Table.{States, entry_of, state_at}
-use Rattle.session_core.specs.Kept.{Follows, forest_in}
-use Rattle.session_core.specs.Ties.{holding, AllForests, DoubtIsForest, forests_of, IsDoubt, DoubtIs, Ties, IsCore}
+use Rattle.session_core.specs.History.Transactions.{Base, Transaction, open_of, with_reply, commits, commit_count, ran, ran_all, run_calls, serial, after, newest, next_number}
+use Rattle.session_core.specs.History.States.{state_with, state, is_open, is_reading, held_with, held_in, in_doubt}
+use Rattle.session_core.specs.History.Locks.{IsGranted, IsRefused, IsBehindGrant}
+use Rattle.session_core.specs.History.Replies.{RunsNext}
+use Rattle.session_core.specs.History.Refusals.{RefusalsAt, IsBehindSettling, is_apart}
+use Rattle.session_core.specs.History.Settling.{last_number, MaySettle, ClosesBehind, IsBehindSettled, HasCommitLeft}
+use Rattle.session_core.specs.History.Marks.{IsNextMark}
+use Rattle.session_core.specs.History.Legal.{SoFar}
+use Rattle.session_core.specs.History.Steps.{IsStep}
+use Rattle.session_core.specs.Keeping.Table.{States, entry_of, state_at}
+use Rattle.session_core.specs.Keeping.Kept.{Follows, forest_in}
+use Rattle.session_core.specs.Keeping.Ties.{holding, AllForests, DoubtIsForest, forests_of, IsDoubt, DoubtIs, Ties, IsCore}
 use Rattle.session_core.proofs.CallOrder.{in_order}
 use Rattle.session_core.proofs.Covering.{apart_not_run, none_ran, ran_all-one}
 use Rattle.session_core.proofs.Growing.{past-more, newest-more}

@@ -17,29 +17,34 @@ use Rattle.xml_model.specs.declared.node.RefusedLine.{RefusedLine}
 use Rattle.xml_model.specs.Forest.{Forest}
 use Rattle.xml_model.specs.Needs.{needs, has_exclusive}
 use Rattle.xml_model.specs.Pyx.{Line, read, pyx, text_of}
-use Rattle.xml_model.specs.Statement.{is_statement, stmt, error, lines, answer_of, added_where_free, dropped, exported}
-use Rattle.session_core.specs.declared.event.BeginKind.{BeginKind}
-use Rattle.session_core.specs.declared.event.BeginKind.TheVariants as kinds
-use Rattle.session_core.specs.declared.event.State.{State}
-use Rattle.session_core.specs.declared.event.State.TheVariants.{Idle, Updating, Reading, InDoubt}
-use Rattle.session_core.specs.declared.event.Reply.{Reply}
-use Rattle.session_core.specs.declared.event.Says.{Says}
-use Rattle.session_core.specs.declared.event.Says.TheVariants as says
-use Rattle.session_core.specs.declared.event.Event.{Event}
-use Rattle.session_core.specs.declared.event.Event.TheVariants.{Granted, Answered}
+use Rattle.xml_model.specs.Items.{Documents, Items, Made}
+use Rattle.xml_model.specs.Evaluation.{eval}
+use Rattle.xml_model.specs.ItemLines.{lines_of}
+use Rattle.xml_model.specs.QueryCodes.{is_query_code}
+use Rattle.xml_model.proofs.QueryTrees.{ends_coded}
+use Rattle.xml_model.specs.Statement.{name_lines, said_by, is_statement, stmt, error, lines, answer_of, added_where_free, dropped, exported}
+use Rattle.session_core.specs.declared.history.event.BeginKind.{BeginKind}
+use Rattle.session_core.specs.declared.history.event.BeginKind.TheVariants as kinds
+use Rattle.session_core.specs.declared.history.event.State.{State}
+use Rattle.session_core.specs.declared.history.event.State.TheVariants.{Idle, Updating, Reading, InDoubt}
+use Rattle.session_core.specs.declared.history.event.Reply.{Reply}
+use Rattle.session_core.specs.declared.history.event.Says.{Says}
+use Rattle.session_core.specs.declared.history.event.Says.TheVariants as says
+use Rattle.session_core.specs.declared.history.event.Event.{Event}
+use Rattle.session_core.specs.declared.history.event.Event.TheVariants.{Granted, Answered}
 use Rattle.session_core.specs.History.{AtEach, past_of, last_of}
-use Rattle.session_core.specs.Transactions.{Base, Transaction, Ran, open_of, updating, where_updating, ran, ran_by, ran_all, run_calls, serial, after, newest, says_of, says_run, is_without_run, AnsweredInTurn, AnsweredAt}
-use Rattle.session_core.specs.States.{state, state_with, state_in, blocks}
+use Rattle.session_core.specs.History.Transactions.{Base, Transaction, Ran, open_of, updating, where_updating, ran, ran_by, ran_all, run_calls, serial, after, newest, says_of, says_run, is_without_run, AnsweredInTurn, AnsweredAt}
+use Rattle.session_core.specs.History.States.{state, state_with, state_in, blocks}
 use Rattle.xq_ast.specs.Modes.{conflicts, is_exclusive}
-use Rattle.session_core.specs.Locks.{AllFree, AreGranted, RanGranted, MeetsNoConflict, IsAnsweredWithLocks, LocksAt}
-use Rattle.session_core.specs.Replies.{AnsweredFrom}
-use Rattle.session_core.specs.Refusals.{Work, begins, ends, checkpoints, reads, shows, changes, work_of, refused_in, passes_with, answers_statement, is_text_refusal, is_state_refusal, IsByTable, IsBehindSettling, RefusalsAt}
-use Rattle.session_core.specs.Settling.{last_number, makes_pages, IsSettledForCheckpoint, SettlingOfAnswer}
-use Rattle.session_core.specs.Marks.{IsNextMark, mark_in, FailsRightly}
-use Rattle.session_core.specs.Steps.{IsNextReply, IsStep}
-use Rattle.session_core.specs.Kept.{Follows}
-use Rattle.session_core.specs.Answering.{is_of_store, is_told, is_damaged, RefusesText, RefusesCall, MakesCheckpoint, FindsNoNumber, RunsUpdating, RunsReading, HasItsLocks, FailsOnDevice, FindsNoPage, FindsDamage, AnswersInOrder, forest_for, IsSaidOf, IsToldBy, IsRightAnswer, AnswersKeepLegal}
-use Rattle.session_core.specs.Answering.AnswersInOrder.{lacks_memory, refuses_text, refuses_call, makes_checkpoint, finds_no_number, runs_updating, runs_reading, fails, finds_no_page, finds_damage}
+use Rattle.session_core.specs.History.Locks.{AllFree, AreGranted, RanGranted, MeetsNoConflict, IsAnsweredWithLocks, LocksAt}
+use Rattle.session_core.specs.History.Replies.{AnsweredFrom}
+use Rattle.session_core.specs.History.Refusals.{Work, begins, ends, checkpoints, reads, shows, changes, work_of, refused_in, passes_with, answers_statement, is_text_refusal, is_state_refusal, IsByTable, IsBehindSettling, RefusalsAt}
+use Rattle.session_core.specs.History.Settling.{last_number, makes_pages, IsSettledForCheckpoint, SettlingOfAnswer}
+use Rattle.session_core.specs.History.Marks.{IsNextMark, mark_in, FailsRightly}
+use Rattle.session_core.specs.History.Steps.{IsNextReply, IsStep}
+use Rattle.session_core.specs.Keeping.Kept.{Follows}
+use Rattle.session_core.specs.History.Answering.{is_of_store, is_told, is_damaged, RefusesText, RefusesCall, MakesCheckpoint, FindsNoNumber, RunsUpdating, RunsReading, HasItsLocks, FailsOnDevice, FindsNoPage, FindsDamage, AnswersInOrder, forest_for, IsSaidOf, IsToldBy, IsRightAnswer, AnswersKeepLegal}
+use Rattle.session_core.specs.History.Answering.AnswersInOrder.{lacks_memory, refuses_text, refuses_call, makes_checkpoint, finds_no_number, runs_updating, runs_reading, fails, finds_no_page, finds_damage}
 use Rattle.session_core.proofs.CallOrder.{in_order}
 use Rattle.session_core.proofs.Holding.{has_name, locks_by, locks_in, locks_of, mode_by, held_is, all_apart}
 use Rattle.session_core.proofs.Covering.{AreHeld, LastHeldBy, LastHeldIn, last_held, none_ran}
@@ -103,11 +108,10 @@ plain_marks x call code past is = (tt, tt)
 
 abbrev tells_code : Code → Bool
 tells_code codes.Exists = true
-tells_code codes.FODC0002 = true
 tells_code codes.ReplyTooLong = true
 tells_code codes.NotBuilt = true
 tells_code (codes.Pyx why line) = true
-tells_code _ = false
+tells_code code = is_query_code code
 
 abbrev tells : Says → Bool
 tells says.Done = true
@@ -132,6 +136,19 @@ exported_tells : (o : Option Doc) → tells (says_of (exported o)) ≡ true
 exported_tells (Some doc) = lines_tell (pyx doc)
 exported_tells None = refl
 
+-- a code with which a query ends is one of them
+query_code_tells : (code : Code) → IsTrue (is_query_code code) → tells_code code ≡ true
+query_code_tells codes.Exists is = refl
+query_code_tells codes.ReplyTooLong is = refl
+query_code_tells codes.NotBuilt is = refl
+query_code_tells (codes.Pyx why line) is = refl
+query_code_tells code is = is
+
+said_tells : (docs : Documents) (r : Result (Items × Made) Code) → ((code : Code) → r ≡ Err code → IsTrue (is_query_code code))
+    → tells (says_of (said_by docs r)) ≡ true
+said_tells docs (Ok found) coded = lines_tell (lines_of docs found.1 found.0)
+said_tells docs (Err code) coded = query_code_tells code (coded code refl)
+
 -- a statement's answer is done, lines or one of the codes that the documents decide
 pub stmt_tells : (F : Forest) (call : Call) → tells (says_of (stmt F call).says) ≡ true
 stmt_tells F Begin = refl
@@ -139,13 +156,32 @@ stmt_tells F BeginRead = refl
 stmt_tells F Commit = refl
 stmt_tells F Rollback = refl
 stmt_tells F Checkpoint = refl
-stmt_tells F ShowDocuments = refl
+stmt_tells F ShowDocuments = lines_tell (name_lines F)
 stmt_tells F (Create name) = added_tells (forests.get F name) name (Ok (record { kids = [] })) F
 stmt_tells F (Drop name) = dropped_tells (forests.get F name) name F
 stmt_tells F (Load name pyx_lines) = added_tells (forests.get F name) name (read pyx_lines) F
 stmt_tells F (Export name) = exported_tells (forests.get F name)
 stmt_tells F (Update what) = refl
-stmt_tells F (Query expr) = refl
+stmt_tells F (Query expr) = said_tells (forests.get F) (eval F expr) (ends_coded F expr)
+
+-- a code with which a query ends may be told by the documents
+query_code_told : (code : Code) → is_query_code code ≡ true → is_told (says.Error code) ≡ true
+query_code_told codes.XPDY0002 is = refl
+query_code_told codes.XPTY0004 is = refl
+query_code_told codes.XPTY0019 is = refl
+query_code_told codes.XPTY0020 is = refl
+query_code_told codes.XQTY0024 is = refl
+query_code_told codes.XQDY0025 is = refl
+query_code_told codes.FOAR0001 is = refl
+query_code_told codes.FOAR0002 is = refl
+query_code_told codes.FODC0002 is = refl
+query_code_told codes.FORG0001 is = refl
+query_code_told codes.FORG0006 is = refl
+query_code_told codes.TooDeep is = refl
+query_code_told codes.TooManyNodes is = refl
+query_code_told codes.TooMuchText is = refl
+query_code_told codes.TooManyItems is = refl
+query_code_told code is = absurd (true≢false (sym is))
 
 -- and such an answer the documents may tell
 tells_told : (answer : Says) → tells answer ≡ true → is_told answer ≡ true
@@ -155,11 +191,10 @@ tells_told (says.Error code) is = by_code code is
   where
     by_code : (code : Code) → tells_code code ≡ true → is_told (says.Error code) ≡ true
     by_code codes.Exists is = refl
-    by_code codes.FODC0002 is = refl
     by_code codes.ReplyTooLong is = refl
     by_code codes.NotBuilt is = refl
     by_code (codes.Pyx why line) is = refl
-    by_code code is = absurd (true≢false (sym is))
+    by_code code is = query_code_told code is
 tells_told answer is = absurd (true≢false (sym is))
 
 -- what a statement answers is something that the documents may tell

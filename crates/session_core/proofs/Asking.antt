@@ -12,12 +12,12 @@ use Rattle.doc_locks.specs.Locks as table
 use Rattle.doc_locks.specs.Locks.{mode_held, is_blocked_by, IsLeastHolder, IsFirstConflict}
 use Rattle.doc_locks.specs.Refusal.{IsRefusal}
 use Rattle.doc_locks.specs.declared.end.AskEnd.TheVariants.{Held}
-use Rattle.session_core.specs.declared.event.State.TheVariants.{Updating}
-use Rattle.session_core.specs.declared.event.Event.{Event}
-use Rattle.session_core.specs.States.{state, blocks}
+use Rattle.session_core.specs.declared.history.event.State.TheVariants.{Updating}
+use Rattle.session_core.specs.declared.history.event.Event.{Event}
+use Rattle.session_core.specs.History.States.{state, blocks}
 use Rattle.xq_ast.specs.Modes.{conflicts}
-use Rattle.session_core.specs.Refusals.{refused_in, work_of}
-use Rattle.session_core.specs.Locks.{IsFree, AllFree, IsGranted, IsRefused}
+use Rattle.session_core.specs.History.Refusals.{refused_in, work_of}
+use Rattle.session_core.specs.History.Locks.{IsFree, AllFree, IsGranted, IsRefused}
 use Rattle.session_core.proofs.Holding.{and_parts}
 use Rattle.session_core.proofs.Tying.{LocksAre}
 

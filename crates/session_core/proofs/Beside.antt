@@ -8,19 +8,19 @@ use Rattle.std.proofs.lemmas.Bool.{eqb-true, eqb-false}
 use Rattle.xq_ast.specs.declared.need.Need.{Need}
 use Rattle.xml_model.specs.Forest.{Forest}
 use Rattle.xml_model.specs.Needs.{has_exclusive, AgreeAt}
-use Rattle.session_core.specs.declared.event.BeginKind.{BeginKind}
-use Rattle.session_core.specs.declared.event.BeginKind.TheVariants as kinds
-use Rattle.session_core.specs.declared.event.Reply.{Reply}
-use Rattle.session_core.specs.declared.event.State.TheVariants.{InDoubt}
-use Rattle.session_core.specs.declared.event.Event.{Event}
-use Rattle.session_core.specs.declared.event.Event.TheVariants.{Began, Granted, Refused, Answered, Committed, Ended, RolledBack, Doubt, Settled, Left}
+use Rattle.session_core.specs.declared.history.event.BeginKind.{BeginKind}
+use Rattle.session_core.specs.declared.history.event.BeginKind.TheVariants as kinds
+use Rattle.session_core.specs.declared.history.event.Reply.{Reply}
+use Rattle.session_core.specs.declared.history.event.State.TheVariants.{InDoubt}
+use Rattle.session_core.specs.declared.history.event.Event.{Event}
+use Rattle.session_core.specs.declared.history.event.Event.TheVariants.{Began, Granted, Refused, Answered, Committed, Ended, RolledBack, Doubt, Settled, Left}
 use Rattle.session_core.specs.History.{AtEach, session_of, last_of, past_of}
-use Rattle.session_core.specs.Transactions.{Base, Transaction, open_of, begun, with_locks, with_reply, with_doubt, updating, where_updating, committed_by, ran_all, serial, newest}
-use Rattle.session_core.specs.States.{state, state_with, in_doubt}
-use Rattle.session_core.specs.Locks.{LocksAt}
-use Rattle.session_core.specs.Refusals.{RefusalsAt}
-use Rattle.session_core.specs.Settling.{SettlingAt}
-use Rattle.session_core.specs.Legal.{SoFar}
+use Rattle.session_core.specs.History.Transactions.{Base, Transaction, open_of, begun, with_locks, with_reply, with_doubt, updating, where_updating, committed_by, ran_all, serial, newest}
+use Rattle.session_core.specs.History.States.{state, state_with, in_doubt}
+use Rattle.session_core.specs.History.Locks.{LocksAt}
+use Rattle.session_core.specs.History.Refusals.{RefusalsAt}
+use Rattle.session_core.specs.History.Settling.{SettlingAt}
+use Rattle.session_core.specs.History.Legal.{SoFar}
 use Rattle.session_core.proofs.Holding.{has_name, locks_by, locks_in, locks_of, all_apart, same_name}
 use Rattle.session_core.proofs.Covering.{AreHeld, CoveredBy, CoveredIn, covered, held_if}
 use Rattle.session_core.proofs.Turning.{Agree, AreApartLocks, agree_needs, stays_elsewhere}

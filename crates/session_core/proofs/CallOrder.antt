@@ -1,13 +1,13 @@
 -- What a session's last event lets follow keeps the order of a call's events.
 use Rattle.std.proofs.Common.{ℕ, Bool, true, false, ◌==◌, ◌||◌, IsTrue, List, Option, None, Some, refl}
 use Rattle.xq_ast.specs.declared.need.Need.{Need}
-use Rattle.session_core.specs.declared.event.Event.{Event}
-use Rattle.session_core.specs.declared.event.Event.TheVariants.{Granted, Settled, Left}
+use Rattle.session_core.specs.declared.history.event.Event.{Event}
+use Rattle.session_core.specs.declared.history.event.Event.TheVariants.{Granted, Settled, Left}
 use Rattle.session_core.specs.History.{session_of, is_closing, last_of}
-use Rattle.session_core.specs.CallOrder.{is_grant, comes_behind, CallOrderAt}
-use Rattle.session_core.specs.Locks.{ClosesGrant, IsBehindGrant}
-use Rattle.session_core.specs.Settling.{ClosesBehind, IsBehindSettled}
-use Rattle.session_core.specs.Kept.{Follows}
+use Rattle.session_core.specs.History.CallOrder.{is_grant, comes_behind, CallOrderAt}
+use Rattle.session_core.specs.History.Locks.{ClosesGrant, IsBehindGrant}
+use Rattle.session_core.specs.History.Settling.{ClosesBehind, IsBehindSettled}
+use Rattle.session_core.specs.Keeping.Kept.{Follows}
 
 closes_grant : (granted : List Need) (e : Event) → ClosesGrant granted e → IsTrue (is_closing e)
 closes_grant granted (Granted s asked) is = absurd is

@@ -9,23 +9,23 @@ use Rattle.xq_ast.specs.declared.need.Need.{Need}
 use Rattle.xml_model.specs.Forest.{Forest, IsForest}
 use Rattle.doc_locks.specs.Names.{Locks}
 use Rattle.doc_locks.specs.Locks.{granted}
-use Rattle.session_core.specs.declared.event.BeginKind.TheVariants as kinds
-use Rattle.session_core.specs.declared.event.State.{State}
-use Rattle.session_core.specs.declared.event.State.TheVariants.{Idle, Updating, Reading, InDoubt}
-use Rattle.session_core.specs.declared.event.Reply.{Reply}
-use Rattle.session_core.specs.declared.event.Event.{Event}
-use Rattle.session_core.specs.declared.event.Event.TheVariants.{Began, Granted, Refused, Answered, Committed, Ended, RolledBack, Doubt, Settled, Left}
+use Rattle.session_core.specs.declared.history.event.BeginKind.TheVariants as kinds
+use Rattle.session_core.specs.declared.history.event.State.{State}
+use Rattle.session_core.specs.declared.history.event.State.TheVariants.{Idle, Updating, Reading, InDoubt}
+use Rattle.session_core.specs.declared.history.event.Reply.{Reply}
+use Rattle.session_core.specs.declared.history.event.Event.{Event}
+use Rattle.session_core.specs.declared.history.event.Event.TheVariants.{Began, Granted, Refused, Answered, Committed, Ended, RolledBack, Doubt, Settled, Left}
 use Rattle.session_core.specs.History.{AtEach, past_of}
-use Rattle.session_core.specs.Transactions.{Base, commit_count, newest_number, next_number}
-use Rattle.session_core.specs.States.{state, state_with, is_open, is_reading, in_doubt}
-use Rattle.session_core.specs.Locks.{IsGranted, IsRefused}
-use Rattle.session_core.specs.Refusals.{RefusalsAt}
-use Rattle.session_core.specs.Settling.{MaySettle, HasCommitLeft}
-use Rattle.session_core.specs.Marks.{IsNextMark}
-use Rattle.session_core.specs.Legal.{SoFar}
-use Rattle.session_core.specs.Table.{States, entry_of}
-use Rattle.session_core.specs.Kept.{Follows, forest_behind}
-use Rattle.session_core.specs.Ties.{holding, AllForests, DoubtIsForest, IsDoubt, DoubtIs, Ties, IsCore}
+use Rattle.session_core.specs.History.Transactions.{Base, commit_count, newest_number, next_number}
+use Rattle.session_core.specs.History.States.{state, state_with, is_open, is_reading, in_doubt}
+use Rattle.session_core.specs.History.Locks.{IsGranted, IsRefused}
+use Rattle.session_core.specs.History.Refusals.{RefusalsAt}
+use Rattle.session_core.specs.History.Settling.{MaySettle, HasCommitLeft}
+use Rattle.session_core.specs.History.Marks.{IsNextMark}
+use Rattle.session_core.specs.History.Legal.{SoFar}
+use Rattle.session_core.specs.Keeping.Table.{States, entry_of}
+use Rattle.session_core.specs.Keeping.Kept.{Follows, forest_behind}
+use Rattle.session_core.specs.Keeping.Ties.{holding, AllForests, DoubtIsForest, IsDoubt, DoubtIs, Ties, IsCore}
 use Rattle.session_core.proofs.Growing.{past-more, grows, begins}
 use Rattle.session_core.proofs.Tying.{opened as opened_by}
 use Rattle.session_core.proofs.Stepping.{count_same, count_one, ties_began, ties_granted, ties_refused, ties_ended, ties_rolled_back, ties_left, ties_committed, ties_doubted, ties_settled_yes, ties_settled_no}

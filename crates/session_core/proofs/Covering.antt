@@ -13,20 +13,20 @@ use Rattle.xq_ast.specs.declared.need.Need.{Need}
 use Rattle.xml_model.specs.Needs.{needs, has_exclusive}
 use Rattle.xq_ast.specs.Modes.{is_exclusive}
 use Rattle.xml_model.specs.Statement.{is_statement}
-use Rattle.session_core.specs.declared.event.BeginKind.{BeginKind}
-use Rattle.session_core.specs.declared.event.BeginKind.TheVariants as kinds
-use Rattle.session_core.specs.declared.event.Reply.{Reply}
-use Rattle.session_core.specs.declared.event.Says.{Says}
-use Rattle.session_core.specs.declared.event.Says.TheVariants as says
-use Rattle.session_core.specs.declared.event.State.{State}
-use Rattle.session_core.specs.declared.event.State.TheVariants.{Updating, InDoubt}
-use Rattle.session_core.specs.declared.event.Event.{Event}
-use Rattle.session_core.specs.declared.event.Event.TheVariants.{Began, Granted, Refused, Answered, Committed, Ended, RolledBack, Doubt, Settled, Left}
+use Rattle.session_core.specs.declared.history.event.BeginKind.{BeginKind}
+use Rattle.session_core.specs.declared.history.event.BeginKind.TheVariants as kinds
+use Rattle.session_core.specs.declared.history.event.Reply.{Reply}
+use Rattle.session_core.specs.declared.history.event.Says.{Says}
+use Rattle.session_core.specs.declared.history.event.Says.TheVariants as says
+use Rattle.session_core.specs.declared.history.event.State.{State}
+use Rattle.session_core.specs.declared.history.event.State.TheVariants.{Updating, InDoubt}
+use Rattle.session_core.specs.declared.history.event.Event.{Event}
+use Rattle.session_core.specs.declared.history.event.Event.TheVariants.{Began, Granted, Refused, Answered, Committed, Ended, RolledBack, Doubt, Settled, Left}
 use Rattle.session_core.specs.History.{AtEach, session_of, last_of}
-use Rattle.session_core.specs.Transactions.{Transaction, Ran, open_of, open_behind, with_locks, with_reply, with_doubt, begun, is_without_run, says_run, ran_by, ran, ran_all}
-use Rattle.session_core.specs.States.{state, state_with, state_in}
-use Rattle.session_core.specs.Locks.{LocksAt, IsAnsweredWithLocks, AreGranted, RanGranted}
-use Rattle.session_core.specs.Refusals.{RefusalsAt, IsBehindSettling, is_apart}
+use Rattle.session_core.specs.History.Transactions.{Transaction, Ran, open_of, open_behind, with_locks, with_reply, with_doubt, begun, is_without_run, says_run, ran_by, ran, ran_all}
+use Rattle.session_core.specs.History.States.{state, state_with, state_in}
+use Rattle.session_core.specs.History.Locks.{LocksAt, IsAnsweredWithLocks, AreGranted, RanGranted}
+use Rattle.session_core.specs.History.Refusals.{RefusalsAt, IsBehindSettling, is_apart}
 use Rattle.session_core.proofs.Holding.{has_name, has_name-append, has_exclusive-append}
 
 -- ---- needs that some locks cover

@@ -8,21 +8,21 @@ use Rattle.xq_ast.specs.declared.need.Need.{Need}
 use Rattle.xml_model.specs.Forest.{Forest}
 use Rattle.xml_model.specs.Needs.{has_exclusive}
 use Rattle.xml_model.specs.Statement.{stmt}
-use Rattle.session_core.specs.declared.event.BeginKind.{BeginKind}
-use Rattle.session_core.specs.declared.event.BeginKind.TheVariants as kinds
-use Rattle.session_core.specs.declared.event.Reply.{Reply}
-use Rattle.session_core.specs.declared.event.Event.{Event}
-use Rattle.session_core.specs.declared.event.Event.TheVariants.{Began, Granted, Refused, Answered, Committed, Ended, RolledBack, Doubt, Settled, Left}
+use Rattle.session_core.specs.declared.history.event.BeginKind.{BeginKind}
+use Rattle.session_core.specs.declared.history.event.BeginKind.TheVariants as kinds
+use Rattle.session_core.specs.declared.history.event.Reply.{Reply}
+use Rattle.session_core.specs.declared.history.event.Event.{Event}
+use Rattle.session_core.specs.declared.history.event.Event.TheVariants.{Began, Granted, Refused, Answered, Committed, Ended, RolledBack, Doubt, Settled, Left}
 use Rattle.session_core.specs.History.{AtEach, past_of}
-use Rattle.session_core.specs.CallOrder.{CallOrderAt}
-use Rattle.session_core.specs.Transactions.{Base, Transaction, Ran, open_of, open_behind, begun, with_locks, with_reply, with_doubt, updating, where_updating, commits, committed_by, ran, ran_all, run_calls, serial, newest, AnsweredInTurn}
-use Rattle.session_core.specs.Locks.{LocksAt}
-use Rattle.session_core.specs.Replies.{AllInTurn, RunsNext, SerialAt, SnapshotsAt, UnfinishedAt, UnfinishedAtEnd}
-use Rattle.session_core.specs.Refusals.{RefusalsAt}
-use Rattle.session_core.specs.Settling.{SettlingAt}
-use Rattle.session_core.specs.Marks.{MarksAt}
-use Rattle.session_core.specs.Legal.{SoFar}
-use Rattle.session_core.specs.Steps.{IsNextReply, IsNext, IsStep}
+use Rattle.session_core.specs.History.CallOrder.{CallOrderAt}
+use Rattle.session_core.specs.History.Transactions.{Base, Transaction, Ran, open_of, open_behind, begun, with_locks, with_reply, with_doubt, updating, where_updating, commits, committed_by, ran, ran_all, run_calls, serial, newest, AnsweredInTurn}
+use Rattle.session_core.specs.History.Locks.{LocksAt}
+use Rattle.session_core.specs.History.Replies.{AllInTurn, RunsNext, SerialAt, SnapshotsAt, UnfinishedAt, UnfinishedAtEnd}
+use Rattle.session_core.specs.History.Refusals.{RefusalsAt}
+use Rattle.session_core.specs.History.Settling.{SettlingAt}
+use Rattle.session_core.specs.History.Marks.{MarksAt}
+use Rattle.session_core.specs.History.Legal.{SoFar}
+use Rattle.session_core.specs.History.Steps.{IsNextReply, IsNext, IsStep}
 use Rattle.session_core.proofs.Holding.{locks_of, all_apart}
 use Rattle.session_core.proofs.Covering.{covered, ran_all-one}
 use Rattle.session_core.proofs.Turning.{beside_commit, AreApartLocks}

@@ -9,15 +9,15 @@ use Rattle.xq_ast.specs.declared.need.LockMode.{LockMode}
 use Rattle.xq_ast.specs.declared.need.LockMode.TheVariants.{S, X}
 use Rattle.xq_ast.specs.declared.need.Need.{Need}
 use Rattle.xml_model.specs.Needs.{has_exclusive}
-use Rattle.session_core.specs.declared.event.BeginKind.{BeginKind}
-use Rattle.session_core.specs.declared.event.BeginKind.TheVariants as kinds
-use Rattle.session_core.specs.declared.event.Reply.{Reply}
-use Rattle.session_core.specs.declared.event.Event.{Event}
-use Rattle.session_core.specs.declared.event.Event.TheVariants.{Began, Granted, Refused, Answered, Committed, Ended, RolledBack, Doubt, Settled, Left}
-use Rattle.session_core.specs.Transactions.{Transaction, open_of, open_behind, with_locks, with_reply, with_doubt, begun}
-use Rattle.session_core.specs.States.{strongest, held_with, held_in}
+use Rattle.session_core.specs.declared.history.event.BeginKind.{BeginKind}
+use Rattle.session_core.specs.declared.history.event.BeginKind.TheVariants as kinds
+use Rattle.session_core.specs.declared.history.event.Reply.{Reply}
+use Rattle.session_core.specs.declared.history.event.Event.{Event}
+use Rattle.session_core.specs.declared.history.event.Event.TheVariants.{Began, Granted, Refused, Answered, Committed, Ended, RolledBack, Doubt, Settled, Left}
+use Rattle.session_core.specs.History.Transactions.{Transaction, open_of, open_behind, with_locks, with_reply, with_doubt, begun}
+use Rattle.session_core.specs.History.States.{strongest, held_with, held_in}
 use Rattle.xq_ast.specs.Modes.{stronger, conflicts, is_exclusive}
-use Rattle.session_core.specs.Locks.{IsFree, AllFree, LocksAt}
+use Rattle.session_core.specs.History.Locks.{IsFree, AllFree, LocksAt}
 use Rattle.session_core.specs.History.{AtEach}
 
 -- ---- a name in a list of needs

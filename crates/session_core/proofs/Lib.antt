@@ -12,12 +12,4 @@ pub mod Cores
 pub mod Answering
 pub mod Beside
 pub mod Making
-mod Worked
-mod WorkedCalls
-mod WorkedStatements
-mod ReaderBesideLoader
-mod RefusedLock
-mod SettledYes
-mod SettledNo
-pub mod MadeHistories
-mod NotLegal
+pub mod Worked

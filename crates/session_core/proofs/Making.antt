@@ -1,8 +1,8 @@
 -- Calls of a core, made one after another.
 use Rattle.std.proofs.Common.{◌≡◌, List, [], ◌∷◌, ◌++◌, length, refl, subst, arith}
-use Rattle.session_core.specs.declared.calls.CoreCall.{CoreCall}
-use Rattle.session_core.specs.Kept.{Kept}
-use Rattle.session_core.specs.CoreCalls.{Makes, AreMade}
+use Rattle.session_core.specs.declared.keeping.calls.CoreCall.{CoreCall}
+use Rattle.session_core.specs.Keeping.Kept.{Kept}
+use Rattle.session_core.specs.Keeping.CoreCalls.{Makes, AreMade}
 
 -- one call more
 pub made_more : (calls : List CoreCall) (call : CoreCall) (old between new : Kept) → AreMade calls old between → Makes call between new

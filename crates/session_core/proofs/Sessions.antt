@@ -2,11 +2,11 @@
 use Rattle.std.proofs.Common.{◌≡◌, ℕ, ◌==◌, None, true, false, List, refl, sym, ap, subst}
 use Rattle.std.proofs.lemmas.Bool.{eqb-true}
 use Rattle.xq_ast.specs.declared.need.Need.{Need}
-use Rattle.session_core.specs.declared.event.Event.{Event}
-use Rattle.session_core.specs.Transactions.{open_of}
-use Rattle.session_core.specs.States.{blocks, held_with}
+use Rattle.session_core.specs.declared.history.event.Event.{Event}
+use Rattle.session_core.specs.History.Transactions.{open_of}
+use Rattle.session_core.specs.History.States.{blocks, held_with}
 use Rattle.xq_ast.specs.Modes.{conflicts}
-use Rattle.session_core.specs.Locks.{IsFree}
+use Rattle.session_core.specs.History.Locks.{IsFree}
 
 -- the fact of the newest event, and those of the events before it
 infixr 5 ◌⊳◌

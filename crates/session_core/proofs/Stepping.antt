@@ -7,17 +7,17 @@ use Rattle.xq_ast.specs.declared.need.Need.{Need}
 use Rattle.xml_model.specs.Forest.{Forest}
 use Rattle.doc_locks.specs.Names.{Locks}
 use Rattle.doc_locks.specs.Locks.{granted}
-use Rattle.session_core.specs.declared.event.BeginKind.{BeginKind}
-use Rattle.session_core.specs.declared.event.BeginKind.TheVariants as kinds
-use Rattle.session_core.specs.declared.event.State.TheVariants.{Idle, Updating, InDoubt}
-use Rattle.session_core.specs.declared.event.Event.{Event}
-use Rattle.session_core.specs.declared.event.Event.TheVariants.{Began, Granted, Refused, Committed, Ended, RolledBack, Doubt, Settled, Left}
-use Rattle.session_core.specs.Transactions.{Base, Transaction, open_of, updating, begun, with_locks, with_doubt, commits, committed_by, commit_count, ran_all, run_calls, serial, newest}
-use Rattle.session_core.specs.States.{state_in, state_with, state, is_open, held_with, held_in, in_doubt}
-use Rattle.session_core.specs.Settling.{last_number}
-use Rattle.session_core.specs.Table.{States, entry_of}
-use Rattle.session_core.specs.Kept.{forest_behind}
-use Rattle.session_core.specs.Ties.{forests_of, IsDoubt, DoubtIs, Ties}
+use Rattle.session_core.specs.declared.history.event.BeginKind.{BeginKind}
+use Rattle.session_core.specs.declared.history.event.BeginKind.TheVariants as kinds
+use Rattle.session_core.specs.declared.history.event.State.TheVariants.{Idle, Updating, InDoubt}
+use Rattle.session_core.specs.declared.history.event.Event.{Event}
+use Rattle.session_core.specs.declared.history.event.Event.TheVariants.{Began, Granted, Refused, Committed, Ended, RolledBack, Doubt, Settled, Left}
+use Rattle.session_core.specs.History.Transactions.{Base, Transaction, open_of, updating, begun, with_locks, with_doubt, commits, committed_by, commit_count, ran_all, run_calls, serial, newest}
+use Rattle.session_core.specs.History.States.{state_in, state_with, state, is_open, held_with, held_in, in_doubt}
+use Rattle.session_core.specs.History.Settling.{last_number}
+use Rattle.session_core.specs.Keeping.Table.{States, entry_of}
+use Rattle.session_core.specs.Keeping.Kept.{forest_behind}
+use Rattle.session_core.specs.Keeping.Ties.{forests_of, IsDoubt, DoubtIs, Ties}
 use Rattle.session_core.proofs.Growing.{newest-more}
 use Rattle.session_core.proofs.Tying.{elsewhere, here, states_set, states_gone, states_same, state-with_locks, idle_none, opened, updating_is, locks_same, locks_gone, locks_granted, commits_same, forests_of-more, newest_is}
 

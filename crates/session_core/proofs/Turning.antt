@@ -10,10 +10,10 @@ use Rattle.xml_model.specs.Needs.{needs, has_exclusive, AgreeAt}
 use Rattle.xq_ast.specs.Modes.{is_exclusive}
 use Rattle.xml_model.specs.Statement.{stmt}
 use Rattle.xml_model.proofs.Framing.{keeps}
-use Rattle.session_core.specs.declared.event.BeginKind.{BeginKind}
-use Rattle.session_core.specs.declared.event.BeginKind.TheVariants as kinds
-use Rattle.session_core.specs.Transactions.{Transaction, Ran, run_calls, ran_all, serial, updating, where_updating, says_of, AnsweredInTurn}
-use Rattle.session_core.specs.Replies.{AllInTurn}
+use Rattle.session_core.specs.declared.history.event.BeginKind.{BeginKind}
+use Rattle.session_core.specs.declared.history.event.BeginKind.TheVariants as kinds
+use Rattle.session_core.specs.History.Transactions.{Transaction, Ran, run_calls, ran_all, serial, updating, where_updating, says_of, AnsweredInTurn}
+use Rattle.session_core.specs.History.Replies.{AllInTurn}
 use Rattle.session_core.proofs.Holding.{has_name, locks_by, locks_in, and_parts}
 use Rattle.session_core.proofs.Covering.{AreHeld, IsCovered, AllCovered, CoveredBy, CoveredIn}
 

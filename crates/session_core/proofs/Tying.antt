@@ -16,16 +16,16 @@ use Rattle.xq_ast.specs.declared.need.Need.{Need}
 use Rattle.xml_model.specs.Forest.{Forest}
 use Rattle.doc_locks.specs.Names.{Names, Locks}
 use Rattle.doc_locks.specs.Locks.{names_of, mode_held, with_need, with_needs, granted}
-use Rattle.session_core.specs.declared.event.BeginKind.{BeginKind}
-use Rattle.session_core.specs.declared.event.BeginKind.TheVariants as kinds
-use Rattle.session_core.specs.declared.event.State.{State}
-use Rattle.session_core.specs.declared.event.State.TheVariants.{Idle, Updating, Reading, InDoubt}
-use Rattle.session_core.specs.declared.event.Event.{Event}
-use Rattle.session_core.specs.Transactions.{Base, Transaction, open_of, updating, where_updating, with_locks, commits, committed_by, ran_all, run_calls, serial, newest}
-use Rattle.session_core.specs.States.{state_in, state_with, state, strongest, held_with, held_in, held}
+use Rattle.session_core.specs.declared.history.event.BeginKind.{BeginKind}
+use Rattle.session_core.specs.declared.history.event.BeginKind.TheVariants as kinds
+use Rattle.session_core.specs.declared.history.event.State.{State}
+use Rattle.session_core.specs.declared.history.event.State.TheVariants.{Idle, Updating, Reading, InDoubt}
+use Rattle.session_core.specs.declared.history.event.Event.{Event}
+use Rattle.session_core.specs.History.Transactions.{Base, Transaction, open_of, updating, where_updating, with_locks, commits, committed_by, ran_all, run_calls, serial, newest}
+use Rattle.session_core.specs.History.States.{state_in, state_with, state, strongest, held_with, held_in, held}
 use Rattle.xq_ast.specs.Modes.{stronger}
-use Rattle.session_core.specs.Table.{States, entry_of, state_at}
-use Rattle.session_core.specs.Ties.{forests_of}
+use Rattle.session_core.specs.Keeping.Table.{States, entry_of, state_at}
+use Rattle.session_core.specs.Keeping.Ties.{forests_of}
 use Rattle.session_core.proofs.Holding.{same_name}
 
 -- ---- sessions as keys

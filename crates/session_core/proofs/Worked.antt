@@ -1,19 +1,27 @@
 -- What the worked histories share: their base, how session 1 begins, and what holds of every session but two.
+mod Calls
+mod Statements
+mod ReaderBesideLoader
+mod RefusedLock
+mod SettledYes
+mod SettledNo
+pub mod MadeHistories
+mod NotLegal
 use Rattle.std.proofs.Common.{◌≡◌, ℕ, ◌==◌, false, List, [], ◌∷◌, length, None, Some, refl, sym, ap, subst}
 use Rattle.xq_ast.specs.declared.call.Call.{Call}
 use Rattle.xq_ast.specs.declared.code.Mark.{Mark}
 use Rattle.xq_ast.specs.declared.need.Need.{Need}
 use Rattle.xml_model.specs.Forest.{no_documents}
-use Rattle.session_core.specs.declared.event.BeginKind.TheVariants as kinds
-use Rattle.session_core.specs.declared.event.Reply.{Reply}
-use Rattle.session_core.specs.declared.event.Says.{Says}
-use Rattle.session_core.specs.declared.event.Event.{Event}
-use Rattle.session_core.specs.declared.event.Event.TheVariants.{Began, Granted}
-use Rattle.session_core.specs.Transactions.{Base, updating, open_of, newest}
-use Rattle.session_core.specs.States.{state, state_with, is_open}
-use Rattle.session_core.specs.Locks.{IsFree}
-use Rattle.session_core.specs.Replies.{RunsNext, AllInTurn, UnfinishedAtEnd}
-use Rattle.session_core.specs.Closes.{Scripts, ClosesAtEnd, calls_of, closed_of}
+use Rattle.session_core.specs.declared.history.event.BeginKind.TheVariants as kinds
+use Rattle.session_core.specs.declared.history.event.Reply.{Reply}
+use Rattle.session_core.specs.declared.history.event.Says.{Says}
+use Rattle.session_core.specs.declared.history.event.Event.{Event}
+use Rattle.session_core.specs.declared.history.event.Event.TheVariants.{Began, Granted}
+use Rattle.session_core.specs.History.Transactions.{Base, updating, open_of, newest}
+use Rattle.session_core.specs.History.States.{state, state_with, is_open}
+use Rattle.session_core.specs.History.Locks.{IsFree}
+use Rattle.session_core.specs.History.Replies.{RunsNext, AllInTurn, UnfinishedAtEnd}
+use Rattle.session_core.specs.History.Closes.{Scripts, ClosesAtEnd, calls_of, closed_of}
 use Rattle.session_core.proofs.Sessions.{by_session, free_where_none}
 
 -- nothing is there, the commit number is 0

@@ -1,7 +1,20 @@
 -- Events of a journal. All that is said of a place in a journal is said of the events before it, the newest first.
+pub mod CallOrder
+pub mod Transactions
+pub mod States
+pub mod Locks
+pub mod Replies
+pub mod Refusals
+pub mod Settling
+pub mod Marks
+pub mod Closes
+pub mod Legal
+pub mod Steps
+pub mod Unsettled
+pub mod Answering
 use Rattle.std.specs.Prelude.{ℕ, ◌==◌, Bool, true, false, if◌then◌else◌, List, [], ◌∷◌, reverse, Option, Some, None}
-use Rattle.session_core.specs.declared.event.Event.{Event}
-use Rattle.session_core.specs.declared.event.Event.TheVariants.{Began, Granted, Refused, Answered, Committed, Ended, RolledBack, Doubt, Settled, Left}
+use Rattle.session_core.specs.declared.history.event.Event.{Event}
+use Rattle.session_core.specs.declared.history.event.Event.TheVariants.{Began, Granted, Refused, Answered, Committed, Ended, RolledBack, Doubt, Settled, Left}
 
 -- a whole journal, the newest event first
 abbrev pub past_of : List Event → List Event

@@ -21,15 +21,12 @@
 //! between.
 #![tactic(auto)]
 
-mod calls;
-mod event;
+mod history;
 mod keeping;
-mod laws;
-mod states;
 
-pub use calls::CoreCall;
-pub use event::{BeginKind, Event, Journal, Reply, Says, State};
-pub use keeping::Core;
-pub use laws::{
+pub use history::event::{BeginKind, Event, Journal, Reply, Says, State};
+pub use history::laws::{
     a_legal_journal_grows, an_empty_journal_is_legal, right_answers_keep_a_journal_legal,
 };
+pub use keeping::calls::CoreCall;
+pub use keeping::sessions::Core;

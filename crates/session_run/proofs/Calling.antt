@@ -8,22 +8,22 @@ use Rattle.xq_ast.specs.declared.need.Need.{Need}
 use Rattle.xml_model.specs.Forest.{Forest}
 use Rattle.xml_model.specs.Needs.{needs, AgreeAt}
 use Rattle.xml_model.specs.Statement.{is_statement, stmt}
-use Rattle.session_core.specs.declared.event.BeginKind.{BeginKind}
-use Rattle.session_core.specs.declared.event.BeginKind.TheVariants as kinds
-use Rattle.session_core.specs.declared.event.Says.{Says}
-use Rattle.session_core.specs.declared.event.Says.TheVariants as says
-use Rattle.session_core.specs.declared.event.State.{State}
-use Rattle.session_core.specs.declared.event.State.TheVariants.{Idle, Updating, Reading, InDoubt}
-use Rattle.session_core.specs.declared.event.Event.{Event}
-use Rattle.session_core.specs.declared.event.Event.TheVariants.{Granted}
-use Rattle.session_core.specs.Answering as answers
+use Rattle.session_core.specs.declared.history.event.BeginKind.{BeginKind}
+use Rattle.session_core.specs.declared.history.event.BeginKind.TheVariants as kinds
+use Rattle.session_core.specs.declared.history.event.Says.{Says}
+use Rattle.session_core.specs.declared.history.event.Says.TheVariants as says
+use Rattle.session_core.specs.declared.history.event.State.{State}
+use Rattle.session_core.specs.declared.history.event.State.TheVariants.{Idle, Updating, Reading, InDoubt}
+use Rattle.session_core.specs.declared.history.event.Event.{Event}
+use Rattle.session_core.specs.declared.history.event.Event.TheVariants.{Granted}
+use Rattle.session_core.specs.History.Answering as answers
 use Rattle.session_core.specs.History.{last_of}
-use Rattle.session_core.specs.Transactions.{Base, Transaction, open_of, with_locks, updating, where_updating, ran_by, run_calls, serial, newest, says_of, says_run, newest_number}
-use Rattle.session_core.specs.States.{state, state_with, state_in, is_open, is_reading, in_doubt}
-use Rattle.session_core.specs.Refusals.{refused_in, work_of, begins, ends, checkpoints}
-use Rattle.session_core.specs.Locks.{AreGranted}
-use Rattle.session_core.specs.Kept.{Kept, with_event, past, Follows, forest_behind, forest_in}
-use Rattle.session_core.specs.Settling.{last_number, HasNoCommitLeft}
+use Rattle.session_core.specs.History.Transactions.{Base, Transaction, open_of, with_locks, updating, where_updating, ran_by, run_calls, serial, newest, says_of, says_run, newest_number}
+use Rattle.session_core.specs.History.States.{state, state_with, state_in, is_open, is_reading, in_doubt}
+use Rattle.session_core.specs.History.Refusals.{refused_in, work_of, begins, ends, checkpoints}
+use Rattle.session_core.specs.History.Locks.{AreGranted}
+use Rattle.session_core.specs.Keeping.Kept.{Kept, with_event, past, Follows, forest_behind, forest_in}
+use Rattle.session_core.specs.History.Settling.{last_number, HasNoCommitLeft}
 use Rattle.session_core.proofs.Covering.{AreHeld, none_ran}
 use Rattle.session_core.proofs.Holding.{locks_by, locks_in}
 use Rattle.session_core.proofs.Turning.{agree_needs}

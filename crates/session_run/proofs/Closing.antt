@@ -5,16 +5,16 @@ use mathlib.Core.Logic.{inl}
 use Rattle.std.proofs.lemmas.Bool.{eq-eqb}
 use Rattle.xq_ast.specs.declared.call.Call.{Call}
 use Rattle.xml_model.specs.Needs.{needs}
-use Rattle.session_core.specs.declared.event.Says.{Says}
-use Rattle.session_core.specs.declared.event.Event.{Event}
-use Rattle.session_core.specs.declared.event.Event.TheVariants.{Began, Granted, Refused, Answered, Committed, Ended, RolledBack, Doubt, Settled, Left}
+use Rattle.session_core.specs.declared.history.event.Says.{Says}
+use Rattle.session_core.specs.declared.history.event.Event.{Event}
+use Rattle.session_core.specs.declared.history.event.Event.TheVariants.{Began, Granted, Refused, Answered, Committed, Ended, RolledBack, Doubt, Settled, Left}
 use Rattle.session_core.specs.History.{session_of, last_of}
 use Rattle.session_run.specs.Calls.{IsAnswerInMemory}
-use Rattle.session_core.specs.Transactions.{ran_by}
-use Rattle.session_core.specs.States.{in_doubt, doubt_behind}
-use Rattle.session_core.specs.Locks.{IsBehindGrant}
-use Rattle.session_core.specs.Settling.{IsBehindSettled}
-use Rattle.session_core.specs.Kept.{Kept, with_event, past, Follows}
+use Rattle.session_core.specs.History.Transactions.{ran_by}
+use Rattle.session_core.specs.History.States.{in_doubt, doubt_behind}
+use Rattle.session_core.specs.History.Locks.{IsBehindGrant}
+use Rattle.session_core.specs.History.Settling.{IsBehindSettled}
+use Rattle.session_core.specs.Keeping.Kept.{Kept, with_event, past, Follows}
 use Rattle.session_core.proofs.Growing.{past-more}
 use Rattle.session_run.specs.Answers.{answered}
 use Rattle.session_run.specs.Called.{AddsClosing}

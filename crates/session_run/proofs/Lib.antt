@@ -8,3 +8,4 @@ pub mod Calling
 pub mod Untouched
 pub mod Outcomes
 pub mod Plain
+pub mod QueryLines

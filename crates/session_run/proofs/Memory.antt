@@ -4,15 +4,15 @@ use Rattle.xq_ast.specs.declared.call.Call.{Call}
 use Rattle.xq_ast.specs.declared.code.Code.{Code}
 use Rattle.xq_ast.specs.declared.code.Code.TheVariants as codes
 use Rattle.xml_model.specs.Statement.{is_statement, stmt}
-use Rattle.session_core.specs.declared.event.State.{State}
-use Rattle.session_core.specs.declared.event.Says.{Says}
-use Rattle.session_core.specs.declared.event.Says.TheVariants as says
-use Rattle.session_core.specs.declared.event.Event.{Event}
-use Rattle.session_core.specs.Transactions.{Base, ran_by, says_of}
-use Rattle.session_core.specs.States.{state}
-use Rattle.session_core.specs.Refusals.{refused_in, work_of, is_state_refusal}
-use Rattle.session_core.specs.Answering as answers
-use Rattle.session_core.specs.Answering.{AnswersInOrder, IsRightAnswer, is_told, is_damaged, is_of_device, forest_for}
+use Rattle.session_core.specs.declared.history.event.State.{State}
+use Rattle.session_core.specs.declared.history.event.Says.{Says}
+use Rattle.session_core.specs.declared.history.event.Says.TheVariants as says
+use Rattle.session_core.specs.declared.history.event.Event.{Event}
+use Rattle.session_core.specs.History.Transactions.{Base, ran_by, says_of}
+use Rattle.session_core.specs.History.States.{state}
+use Rattle.session_core.specs.History.Refusals.{refused_in, work_of, is_state_refusal}
+use Rattle.session_core.specs.History.Answering as answers
+use Rattle.session_core.specs.History.Answering.{AnswersInOrder, IsRightAnswer, is_told, is_damaged, is_of_device, forest_for}
 use Rattle.session_core.proofs.Covering.{none_ran}
 use Rattle.session_core.proofs.Answering.{stmt_told, right_unrun, right_lacking, right_ran, state_unrun, refused_code}
 use Rattle.session_run.specs.Calls.{HasPlainLines, IsAnswerInMemory}

@@ -1,12 +1,12 @@
 -- Right answers are Done, lines or an error.
 use Rattle.std.proofs.Common.{◌≡◌, ℕ, true, true≢false, List, Option, Some, refl, sym, ap}
 use Rattle.xq_ast.specs.declared.call.Call.{Call}
-use Rattle.session_core.specs.declared.event.Says.{Says}
-use Rattle.session_core.specs.declared.event.Says.TheVariants as says
-use Rattle.session_core.specs.declared.event.Event.{Event}
-use Rattle.session_core.specs.Transactions.{Numbers}
-use Rattle.session_core.specs.Kept.{Kept, with_event}
-use Rattle.session_core.specs.Answering.{AnswersInOrder, is_told, is_damaged, lacks_memory, refuses_text, refuses_call, makes_checkpoint, finds_no_number, runs_updating, runs_reading, fails, finds_no_page, finds_damage}
+use Rattle.session_core.specs.declared.history.event.Says.{Says}
+use Rattle.session_core.specs.declared.history.event.Says.TheVariants as says
+use Rattle.session_core.specs.declared.history.event.Event.{Event}
+use Rattle.session_core.specs.History.Transactions.{Numbers}
+use Rattle.session_core.specs.Keeping.Kept.{Kept, with_event}
+use Rattle.session_core.specs.History.Answering.{AnswersInOrder, is_told, is_damaged, lacks_memory, refuses_text, refuses_call, makes_checkpoint, finds_no_number, runs_updating, runs_reading, fails, finds_no_page, finds_damage}
 use Rattle.session_run.specs.declared.outcome.Outcome.{Outcome}
 use Rattle.session_run.specs.Outcomes.{is_answer, outcome_of, EndsWith}
 

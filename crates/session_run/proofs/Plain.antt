@@ -1,4 +1,4 @@
--- The canonical lines of a valid document and the names of documents have no newlines.
+-- Lines of answers have no newlines: the canonical lines of a valid document, and names of documents.
 use Rattle.std.proofs.Common.{◌≡◌, ℕ, ◌==◌, nat_le, Bool, true, false, ◌||◌, ◌&&◌, length, true≢false, IsTrue, IfSome, List, [], ◌∷◌, ◌++◌, map as list_map, Option, None, Some, refl, sym, ap, subst, ◌∙◌, arith, append_assoc}
 use Rattle.std.specs.Prelude.{if◌then◌else◌, is_some}
 use Rattle.std.specs.List.{list_all, list_any}
@@ -12,9 +12,8 @@ use Rattle.xq_ast.specs.Names.{is_document_name}
 use Rattle.xml_model.specs.declared.node.Doc.{Doc}
 use Rattle.xml_model.specs.Document.{IsValid}
 use Rattle.xml_model.specs.Forest.{Forest, IsForest}
-use Rattle.xml_model.specs.Pyx.{Line, IsPlain, in_front, split_lines, pyx, text_of}
+use Rattle.xml_model.specs.Pyx.{Line, IsPlain, ArePlain, in_front, split_lines, pyx, text_of}
 use Rattle.xml_model.proofs.TextAgain.{text_again}
-use Rattle.session_run.specs.Calls.{ArePlain}
 
 -- ---- the lines of a document
 
@@ -49,3 +48,31 @@ plain_bytes (b ∷ bs) all = let parts = and_parts _ _ all in (plain_byte b part
 pub plain_name : (name : List ℕ) → IsTrue (is_document_name name) → IsPlain name
 plain_name name named =
     plain_bytes name (and_parts (nat_le 1 (length name) && nat_le (length name) DOCUMENT_NAME_BYTES_MAX) (list_all (nat_le 32) name) named).1
+
+any_there : (p : Line → Bool) (front rest : List Line) (k : Line) → p k ≡ true → list_any p (front ++ k ∷ rest) ≡ true
+any_there p [] rest k here = rw here refl
+any_there p (x ∷ front) rest k here = by_test (p x) (any_there p front rest k here)
+  where
+    by_test : (b : Bool) → list_any p (front ++ k ∷ rest) ≡ true → (b || list_any p (front ++ k ∷ rest)) ≡ true
+    by_test true there = refl
+    by_test false there = there
+
+module _ (F : Forest) (are : IsForest F) where
+  named_by : (k : Line) (o : Option Doc) → is_some o ≡ true → IfSome o (λ doc. IsTrue (is_document_name k) × IsValid doc) → IsTrue (is_document_name k)
+  named_by k None there is = absurd (true≢false (sym there))
+  named_by k (Some doc) there is = is.0
+
+  plain_keys : (front rest : List Line) → map.keys F ≡ front ++ rest → ArePlain (list_map (λ name. 61 ∷ name) rest)
+  plain_keys front [] is = tt
+  plain_keys front (k ∷ rest) is = (
+    (
+      refl,
+      plain_name k (named_by k (map.get F k) (map.contains_key-keys F k ∙ ap (list_any (eq_by_cmp (slice_cmp nat_cmp) k)) is
+          ∙ any_there (eq_by_cmp (slice_cmp nat_cmp) k) front rest k ((eq_by_cmp_equiv nat_list_cmp_total).refl k)) (are k)),
+    ),
+    plain_keys (front ++ k ∷ []) rest (is ∙ sym (append_assoc front (k ∷ []) rest)),
+  )
+
+  -- the names of a forest, each behind a mark, have none
+  pub plain_names : ArePlain (list_map (λ name. 61 ∷ name) (map.keys F))
+  plain_names = plain_keys [] (map.keys F) refl

@@ -13,8 +13,8 @@ use Rattle.xml_model.specs.Forest.{Forest}
 use Rattle.xml_model.specs.Needs.{needs, AgreeAt}
 use Rattle.xml_model.specs.Pyx.{Line, read, pyx}
 use Rattle.xml_model.specs.Statement.{stmt, added_where_free, dropped, exported, answer_of}
-use Rattle.session_core.specs.declared.event.Says.TheVariants as says
-use Rattle.session_core.specs.Transactions.{says_of}
+use Rattle.session_core.specs.declared.history.event.Says.TheVariants as says
+use Rattle.session_core.specs.History.Transactions.{says_of}
 use Rattle.session_run.specs.declared.statement.Effect.{Effect}
 use Rattle.xml_model.specs.Changes.{ChangeMap, laid_over}
 use Rattle.session_run.specs.Effects.{with_change, IsEffect, IsPut}

@@ -13,14 +13,14 @@ use Rattle.xq_parse.specs.Answers.{code_of}
 use Rattle.xq_parse.specs.declared.answer.ParseEnd.{ParseEnd}
 use Rattle.xq_parse.specs.declared.answer.ParseEnd.TheVariants.{TooLong, XPST0003, NestedTooDeep, BadName, XPST0017, XPST0008, NoMemory}
 use Rattle.xml_model.specs.Needs.{needs}
-use Rattle.session_core.specs.declared.event.Says.TheVariants as says
-use Rattle.session_core.specs.declared.event.State.TheVariants.{InDoubt}
-use Rattle.session_core.specs.declared.event.Event.{Event}
-use Rattle.session_core.specs.declared.event.Event.TheVariants.{Began, Granted, Refused, Answered, Committed, Ended, RolledBack, Doubt, Settled, Left}
-use Rattle.session_core.specs.Answering as answers
-use Rattle.session_core.specs.Transactions.{Base}
-use Rattle.session_core.specs.States.{state}
-use Rattle.session_core.specs.Kept.{Kept, with_event, past}
+use Rattle.session_core.specs.declared.history.event.Says.TheVariants as says
+use Rattle.session_core.specs.declared.history.event.State.TheVariants.{InDoubt}
+use Rattle.session_core.specs.declared.history.event.Event.{Event}
+use Rattle.session_core.specs.declared.history.event.Event.TheVariants.{Began, Granted, Refused, Answered, Committed, Ended, RolledBack, Doubt, Settled, Left}
+use Rattle.session_core.specs.History.Answering as answers
+use Rattle.session_core.specs.History.Transactions.{Base}
+use Rattle.session_core.specs.History.States.{state}
+use Rattle.session_core.specs.Keeping.Kept.{Kept, with_event, past}
 use Rattle.session_core.proofs.Growing.{past-more}
 use Rattle.session_run.specs.Answers.{answered}
 use Rattle.session_run.proofs.Memory.{lacking, unrun_here}

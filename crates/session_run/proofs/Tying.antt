@@ -4,17 +4,17 @@ use Rattle.xq_ast.specs.declared.need.Need.{Need}
 use Rattle.xml_model.specs.Forest.{Forest}
 use Rattle.xml_model.specs.Needs.{AgreeAt}
 use Rattle.xml_model.specs.Statement.{stmt}
-use Rattle.session_core.specs.declared.event.BeginKind.{BeginKind}
-use Rattle.session_core.specs.declared.event.BeginKind.TheVariants as kinds
-use Rattle.session_core.specs.declared.event.State.TheVariants.{Idle}
-use Rattle.session_core.specs.declared.event.Reply.{Reply}
-use Rattle.session_core.specs.declared.event.Event.{Event}
-use Rattle.session_core.specs.declared.event.Event.TheVariants.{Began, Granted, Refused, Answered}
+use Rattle.session_core.specs.declared.history.event.BeginKind.{BeginKind}
+use Rattle.session_core.specs.declared.history.event.BeginKind.TheVariants as kinds
+use Rattle.session_core.specs.declared.history.event.State.TheVariants.{Idle}
+use Rattle.session_core.specs.declared.history.event.Reply.{Reply}
+use Rattle.session_core.specs.declared.history.event.Event.{Event}
+use Rattle.session_core.specs.declared.history.event.Event.TheVariants.{Began, Granted, Refused, Answered}
 use Rattle.session_core.specs.History.{AtEach}
-use Rattle.session_core.specs.Transactions.{Base, Transaction, Ran, open_of, begun, with_locks, with_reply, updating, where_updating, committed_by, ran, ran_all, run_calls, serial, newest}
-use Rattle.session_core.specs.States.{state}
-use Rattle.session_core.specs.Locks.{LocksAt}
-use Rattle.session_core.specs.Refusals.{RefusalsAt}
+use Rattle.session_core.specs.History.Transactions.{Base, Transaction, Ran, open_of, begun, with_locks, with_reply, updating, where_updating, committed_by, ran, ran_all, run_calls, serial, newest}
+use Rattle.session_core.specs.History.States.{state}
+use Rattle.session_core.specs.History.Locks.{LocksAt}
+use Rattle.session_core.specs.History.Refusals.{RefusalsAt}
 use Rattle.session_core.proofs.Covering.{ran_all-one}
 use Rattle.session_core.proofs.Growing.{newest-more}
 use Rattle.session_core.proofs.Tying.{here, idle_none}

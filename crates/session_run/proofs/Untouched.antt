@@ -2,20 +2,20 @@
 use Rattle.std.proofs.Common.{◌≡◌, ℕ, true, true≢false, List, [], ◌∷◌, None, Result, Ok, Err, OnOk, OnErr, refl, sym, ap, subst, ◌∙◌, append_assoc}
 use mathlib.Core.Logic.{inl, inr}
 use Rattle.xq_ast.specs.declared.call.CallText.{CallText}
-use Rattle.session_core.specs.declared.event.Event.{Event}
-use Rattle.session_core.specs.declared.event.Event.TheVariants.{Began, Granted, Refused, Answered, Committed, Ended, RolledBack, Doubt, Settled, Left}
+use Rattle.session_core.specs.declared.history.event.Event.{Event}
+use Rattle.session_core.specs.declared.history.event.Event.TheVariants.{Began, Granted, Refused, Answered, Committed, Ended, RolledBack, Doubt, Settled, Left}
 use Rattle.session_core.specs.History.{AtEach, session_of, is_closing, last_of}
-use Rattle.session_core.specs.Transactions.{Base, open_of}
-use Rattle.session_core.specs.Locks.{LocksAt}
-use Rattle.session_core.specs.Refusals.{RefusalsAt}
-use Rattle.session_core.specs.Legal.{SoFar}
-use Rattle.session_core.specs.Kept.{Kept, with_event, past}
+use Rattle.session_core.specs.History.Transactions.{Base, open_of}
+use Rattle.session_core.specs.History.Locks.{LocksAt}
+use Rattle.session_core.specs.History.Refusals.{RefusalsAt}
+use Rattle.session_core.specs.History.Legal.{SoFar}
+use Rattle.session_core.specs.Keeping.Kept.{Kept, with_event, past}
 use Rattle.session_core.proofs.Growing.{past-more}
 use Rattle.session_core.proofs.Beside.{whose, open-beside, last-beside}
 use Rattle.session_run.specs.Calls as calls
 use Rattle.session_run.specs.Calls.{ClosesText, AreOfCall}
 use Rattle.session_run.specs.Called.{with_events, IsCalled, IsUnclosed, IsUntouched}
-use Rattle.session_core.specs.States.{in_doubt}
+use Rattle.session_core.specs.History.States.{in_doubt}
 use Rattle.xml_model.specs.Changes.{ChangeMap}
 use Rattle.session_run.specs.Tied.{IsTied, EndsCall, IsReady}
 use Rattle.session_run.proofs.Tying.{tied_beside}

@@ -4,12 +4,12 @@ use Rattle.xq_ast.specs.declared.call.Call.{Call}
 use Rattle.xq_ast.specs.declared.call.CallText.{CallText}
 use Rattle.xq_ast.specs.declared.need.Need.{Need}
 use Rattle.xml_model.specs.Needs.{needs}
-use Rattle.session_core.specs.declared.event.Event.{Event}
-use Rattle.session_core.specs.declared.event.Event.TheVariants.{Granted}
+use Rattle.session_core.specs.declared.history.event.Event.{Event}
+use Rattle.session_core.specs.declared.history.event.Event.TheVariants.{Granted}
 use Rattle.session_core.specs.History.{session_of, is_closing, last_of}
-use Rattle.session_core.specs.Transactions.{open_of}
-use Rattle.session_core.specs.Closes.{ClosesCall, NeedsThese}
-use Rattle.session_core.specs.Kept.{Kept, with_event, past}
+use Rattle.session_core.specs.History.Transactions.{open_of}
+use Rattle.session_core.specs.History.Closes.{ClosesCall, NeedsThese}
+use Rattle.session_core.specs.Keeping.Kept.{Kept, with_event, past}
 use Rattle.session_run.specs.Calls.{TakesNoDevice, AreOfCall}
 use Rattle.xml_model.specs.Changes.{ChangeMap}
 use Rattle.session_run.specs.Tied.{IsTied}

@@ -2,27 +2,22 @@
 use Rattle.std.specs.Prelude.{◌≡◌, ℕ, ◌<◌, true, false, List, [], ◌∷◌, length, Option}
 use Rattle.xq_ast.specs.declared.call.CallText.{CallText}
 use Rattle.xq_ast.specs.declared.need.Need.{Need}
-use Rattle.xml_model.specs.Pyx.{Line, IsPlain}
-use Rattle.session_core.specs.declared.event.Event.{Event}
-use Rattle.session_core.specs.declared.event.Event.TheVariants.{Began, Granted, Refused, Answered, Committed, Ended, RolledBack, Doubt, Settled, Left}
+use Rattle.xml_model.specs.Pyx.{ArePlain}
+use Rattle.session_core.specs.declared.history.event.Event.{Event}
+use Rattle.session_core.specs.declared.history.event.Event.TheVariants.{Began, Granted, Refused, Answered, Committed, Ended, RolledBack, Doubt, Settled, Left}
 use Rattle.session_core.specs.History.{session_of, is_closing}
-use Rattle.session_core.specs.Transactions.{Base}
-use Rattle.session_core.specs.States.{state}
-use Rattle.session_core.specs.Closes.{ClosesBy, NeedsThese, IsAnswerTo}
-use Rattle.session_core.specs.Answering.{IsRightAnswer, is_of_device}
-use Rattle.session_core.specs.declared.event.Says.{Says}
-use Rattle.session_core.specs.declared.event.Says.TheVariants as says
+use Rattle.session_core.specs.History.Transactions.{Base}
+use Rattle.session_core.specs.History.States.{state}
+use Rattle.session_core.specs.History.Closes.{ClosesBy, NeedsThese, IsAnswerTo}
+use Rattle.session_core.specs.History.Answering.{IsRightAnswer, is_of_device}
+use Rattle.session_core.specs.declared.history.event.Says.{Says}
+use Rattle.session_core.specs.declared.history.event.Says.TheVariants as says
 use Rattle.xq_ast.specs.declared.call.Call.{Call}
 
 -- an answer is one to the text
 abbrev pub AnswersText : CallText → Event → List Event → Type 0
 AnswersText text (Answered s reply) past = IsAnswerTo text (state s past) reply.says
 AnswersText text _ past = Unit {0}
-
--- lines without newlines
-abbrev pub ArePlain : List Line → Type 0
-ArePlain [] = Unit {0}
-ArePlain (line ∷ more) = IsPlain line × ArePlain more
 
 -- no line of an answer has a newline
 abbrev pub HasPlainLines : Says → Type 0

@@ -11,8 +11,8 @@ use Rattle.xml_model.specs.Needs.{needs, AgreeAt}
 use Rattle.xml_model.specs.Statement.{stmt}
 use Rattle.pyx_text.specs.declared.fault.PyxFault.{PyxFault}
 use Rattle.pyx_text.specs.declared.fault.PyxFault.TheVariants.{Refused, NoMemory}
-use Rattle.session_core.specs.declared.event.Says.TheVariants as says
-use Rattle.session_core.specs.Transactions.{says_of}
+use Rattle.session_core.specs.declared.history.event.Says.TheVariants as says
+use Rattle.session_core.specs.History.Transactions.{says_of}
 use Rattle.session_run.specs.declared.changes.Change.{Change}
 use Rattle.session_run.specs.declared.statement.Effect.{Effect}
 use Rattle.xml_model.specs.Changes.{ChangeMap, laid_over, unshared}

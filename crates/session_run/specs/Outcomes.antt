@@ -1,10 +1,10 @@
 -- What the event that closes a call says.
 use Rattle.std.specs.Prelude.{◌≡◌, Bool, true, false, Option, None, Some}
-use Rattle.session_core.specs.declared.event.Says.{Says}
-use Rattle.session_core.specs.declared.event.Says.TheVariants as says
-use Rattle.session_core.specs.declared.event.Event.{Event}
-use Rattle.session_core.specs.declared.event.Event.TheVariants as events
-use Rattle.session_core.specs.Kept.{Kept, with_event}
+use Rattle.session_core.specs.declared.history.event.Says.{Says}
+use Rattle.session_core.specs.declared.history.event.Says.TheVariants as says
+use Rattle.session_core.specs.declared.history.event.Event.{Event}
+use Rattle.session_core.specs.declared.history.event.Event.TheVariants as events
+use Rattle.session_core.specs.Keeping.Kept.{Kept, with_event}
 use Rattle.session_run.specs.declared.outcome.Outcome.{Outcome}
 use Rattle.session_run.specs.declared.outcome.Outcome.TheVariants.{Done, Lines, Error, Began, LockHeld, Committed, Ended, RolledBack}
 

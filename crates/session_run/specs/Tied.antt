@@ -2,12 +2,12 @@
 use Rattle.std.specs.Prelude.{◌≡◌, ℕ, List, [], ◌∷◌, Option, None, Some}
 use Rattle.xml_model.specs.Forest.{Forest}
 use Rattle.xml_model.specs.Needs.{AgreeAt}
-use Rattle.session_core.specs.declared.event.Event.{Event}
-use Rattle.session_core.specs.declared.event.Event.TheVariants.{Granted, Settled}
+use Rattle.session_core.specs.declared.history.event.Event.{Event}
+use Rattle.session_core.specs.declared.history.event.Event.TheVariants.{Granted, Settled}
 use Rattle.session_core.specs.History.{last_of}
-use Rattle.session_core.specs.Transactions.{Base, Transaction, open_of, updating, ran_all, run_calls, newest}
-use Rattle.session_core.specs.States.{in_doubt}
-use Rattle.session_core.specs.Kept.{Kept, past}
+use Rattle.session_core.specs.History.Transactions.{Base, Transaction, open_of, updating, ran_all, run_calls, newest}
+use Rattle.session_core.specs.History.States.{in_doubt}
+use Rattle.session_core.specs.Keeping.Kept.{Kept, past}
 use Rattle.xml_model.specs.Changes.{ChangeMap, no_changes, laid_over}
 
 -- outside of an updating transaction there are no changes; within one, they make of every forest that has the newest

@@ -1,9 +1,9 @@
 //! Answers.
 ghost use Rattle.std.specs.Prelude.{◌≡◌, [], Some, None, IfOk, OnOk, OnErr};
 ghost use Rattle.session_run.specs.Calls.{IsAnswerInMemory};
-ghost use Rattle.session_core.specs.Kept.{with_event, past, Follows};
-ghost use Rattle.session_core.specs.States.{in_doubt};
-ghost use Rattle.session_core.specs.Transactions.{ran_by};
+ghost use Rattle.session_core.specs.Keeping.Kept.{with_event, past, Follows};
+ghost use Rattle.session_core.specs.History.States.{in_doubt};
+ghost use Rattle.session_core.specs.History.Transactions.{ran_by};
 ghost use Rattle.session_run.specs.Answers.{answered};
 ghost use Rattle.session_run.specs.Called.{AddsClosing};
 ghost use Rattle.session_run.specs.Outcomes.{EndsWith};

@@ -16,6 +16,7 @@ mod answering;
 mod changes;
 mod locking;
 mod outcome;
+mod query;
 mod running;
 mod session;
 mod statement;

@@ -1,10 +1,10 @@
 //! A call, by its text and its session's state.
 ghost use Rattle.std.specs.Prelude.{◌≡◌, ◌≢◌, None, IsTrue, IfOk, OnOk, OnErr};
 ghost use Rattle.xq_ast.specs.GoodNames.{has_good_names};
-ghost use Rattle.session_core.specs.Kept.{past};
-ghost use Rattle.session_core.specs.Refusals.{refused_in, work_of};
-ghost use Rattle.session_core.specs.declared.event.State.TheVariants as states;
-ghost use Rattle.session_core.specs.States.{state as state_of};
+ghost use Rattle.session_core.specs.Keeping.Kept.{past};
+ghost use Rattle.session_core.specs.History.Refusals.{refused_in, work_of};
+ghost use Rattle.session_core.specs.declared.history.event.State.TheVariants as states;
+ghost use Rattle.session_core.specs.History.States.{state as state_of};
 ghost use Rattle.session_run.specs.Called.{ClosesRead, IsCalled, IsUnclosed, LeavesRead};
 ghost use Rattle.session_run.specs.Outcomes.{EndsWith};
 ghost use Rattle.session_run.specs.Tied.{IsReady};

@@ -1,8 +1,8 @@
 //! A session and its calls.
 ghost use Rattle.std.specs.Prelude.{◌≡◌, ◌≢◌, ℕ, false, None, IsTrue, IfOk, OnOk, OnErr};
-ghost use Rattle.session_core.specs.declared.event.Event.TheVariants as events;
-ghost use Rattle.session_core.specs.Kept.{with_event, past};
-ghost use Rattle.session_core.specs.States.{state as state_of, is_open};
+ghost use Rattle.session_core.specs.declared.history.event.Event.TheVariants as events;
+ghost use Rattle.session_core.specs.Keeping.Kept.{with_event, past};
+ghost use Rattle.session_core.specs.History.States.{state as state_of, is_open};
 ghost use Rattle.session_run.specs.Called.{IsCalled, IsUnclosed, IsUntouched};
 ghost use Rattle.xml_model.specs.Changes.{no_changes};
 ghost use Rattle.session_run.specs.Outcomes.{EndsWith};

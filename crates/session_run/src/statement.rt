@@ -1,21 +1,22 @@
 //! One statement over the documents that a session sees.
-ghost use Rattle.std.specs.Prelude.{◌≡◌, IfOk, length, nat_lt, None, IsTrue};
+ghost use Rattle.std.specs.Prelude.{◌≡◌, IfOk, map as list_map, ◌∷◌, length, nat_lt, None, IsTrue};
 ghost use Rattle.xml_model.specs.Statement.{answer_of};
-ghost use Rattle.xml_model.specs.Pyx.{read, text_of};
-ghost use Rattle.session_core.specs.Transactions.{says_of};
+ghost use Rattle.xml_model.specs.Pyx.{ArePlain, read, text_of};
+ghost use Rattle.session_core.specs.History.Transactions.{says_of};
 ghost use Rattle.xq_ast.specs.Names.{is_document_name};
 ghost use Rattle.xq_ast.specs.GoodNames.{has_good_names};
 ghost use Rattle.xml_model.specs.Document.{IsValid};
-ghost use Rattle.session_run.specs.Calls.{ArePlain, HasPlainLines};
+ghost use Rattle.session_run.specs.Calls.{HasPlainLines};
 ghost use Rattle.session_run.specs.Effects.{IsEffect, IsPut, IsValidChange, Spells};
 
 use crate::changes::Change;
+use crate::query::query;
 use pyx_text::{PyxFault, PyxReader, lines_of};
 use session_core::Says;
 use std::alloc::Global;
 use std::sync::Arc;
 use xml_model::{Doc, DocChanges, DocMap, REPLY_BYTES_MAX};
-use xq_ast::{Call, Code, Items, NoMemory, Str, StrList};
+use xq_ast::{Call, Code, Items, NoMemory, Sequence, Str, StrList};
 
 /// What a statement says, and the change that it makes, if any.
 #[derive(Drop)]
@@ -177,9 +178,37 @@ fn export(
     }
 }
 
+// A line for each name.
+fn name_lines(alloc: Global, names: &StrList) -> Result<StrList, NoMemory>
+    ensures { IfOk result (λ lines. lines ≡ list_map (λ name. 61 ∷ name) names.now) }
+{
+    let mut lines = Sequence::new(alloc);
+    for name in names.as_slice() {
+        let mut line = Str::of(alloc, "=")?;
+        line.push_str(name.as_str())?;
+        lines.push(line)?;
+    }
+    Ok(lines)
+}
+
+#[tactic(auto, using(crate::proofs::Plain::plain_names))]
+fn show(alloc: Global, base: &DocMap, changes: &DocChanges) -> Result<Effect, NoMemory>
+    ensures effect { IfOk result (IsEffect Call.ShowDocuments changes.now.changes base.now) }
+    ensures valid { IfOk result (λ effect. IsValidChange effect.change) }
+    ensures plain { IfOk result (λ effect. HasPlainLines effect.says) }
+{
+    let docs = base.with_changes(changes)?;
+    // Hands out that each name is a document's name, which has no newline.
+    docs.is_forest();
+    let names = docs.names()?;
+    Ok(Effect {
+        says: answer_with(name_lines(alloc, &names)?),
+        change: None,
+    })
+}
+
 /// What the call says over these documents with the changes laid over them, and what it changes.
-/// A call that is no statement is done and changes nothing. SHOW DOCUMENTS, updates and queries
-/// are answered with `NotBuilt`.
+/// A call that is no statement is done and changes nothing. Updates are answered with `NotBuilt`.
 pub(crate) fn effect_of(
     alloc: Global,
     base: &DocMap,
@@ -196,9 +225,9 @@ pub(crate) fn effect_of(
         Call::Load { name, pyx } => load(alloc, base, changes, name, pyx),
         Call::Drop { name } => take_away(base, changes, name),
         Call::Export { name } => export(alloc, base, changes, name),
-        Call::ShowDocuments | Call::Update { .. } | Call::Query { .. } => {
-            Ok(refused(Code::NotBuilt))
-        }
+        Call::ShowDocuments => show(alloc, base, changes),
+        Call::Query { expr } => query(alloc, base, changes, call, expr),
+        Call::Update { .. } => Ok(refused(Code::NotBuilt)),
         Call::Begin | Call::BeginRead | Call::Commit | Call::Rollback | Call::Checkpoint => {
             Ok(Effect {
                 says: Says::Done,

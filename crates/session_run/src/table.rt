@@ -1,6 +1,6 @@
 //! The table of states and calls.
 ghost use Rattle.std.specs.Prelude.{◌≡◌};
-ghost use Rattle.session_core.specs.Refusals.{refused_in, work_of};
+ghost use Rattle.session_core.specs.History.Refusals.{refused_in, work_of};
 
 use session_core::State;
 use xq_ast::{Call, Code};

@@ -1,13 +1,13 @@
 //! Calls that begin and end a transaction.
 ghost use Rattle.std.specs.Prelude.{◌≡◌, None, IsTrue, IfOk, OnOk, OnErr};
-ghost use Rattle.session_core.specs.Kept.{with_event, past};
-ghost use Rattle.session_core.specs.Settling.{HasCommitLeft};
-ghost use Rattle.session_core.specs.Transactions.{next_number};
-ghost use Rattle.session_core.specs.States.{state as state_of, in_doubt, is_open};
+ghost use Rattle.session_core.specs.Keeping.Kept.{with_event, past};
+ghost use Rattle.session_core.specs.History.Settling.{HasCommitLeft};
+ghost use Rattle.session_core.specs.History.Transactions.{next_number};
+ghost use Rattle.session_core.specs.History.States.{state as state_of, in_doubt, is_open};
 ghost use Rattle.session_run.specs.Called.{AddsClosing};
 ghost use Rattle.session_run.specs.Outcomes.{EndsWith};
 ghost use Rattle.session_run.specs.Tied.{IsBetweenCalls, IsReady, StaysReady};
-ghost use Rattle.session_core.specs.declared.event.Event.TheVariants as events;
+ghost use Rattle.session_core.specs.declared.history.event.Event.TheVariants as events;
 
 use crate::answering::answer_unchanged;
 use crate::outcome::Outcome;

@@ -2,8 +2,8 @@
 ghost use Rattle.std.specs.Prelude.{◌≡◌, [], ◌∷◌, IfOk, codes};
 ghost use Rattle.std.specs.FinMap as map;
 ghost use Rattle.xml_model.specs.Forest.{no_documents};
-ghost use Rattle.session_core.specs.Kept.{kept_of};
-ghost use Rattle.session_core.specs.CoreCalls.{CanMake};
+ghost use Rattle.session_core.specs.Keeping.Kept.{kept_of};
+ghost use Rattle.session_core.specs.Keeping.CoreCalls.{CanMake};
 
 use session_core::{Core, CoreCall, Event, Reply, Says, State};
 use std::alloc::Global;

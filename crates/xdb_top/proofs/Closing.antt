@@ -4,12 +4,12 @@ use Rattle.std.proofs.lemmas.Option.{slice_get_within}
 use Rattle.std.proofs.lemmas.Bool.Decides.{eqb_tells}
 use Rattle.xq_ast.specs.declared.call.CallText.{CallText}
 use Rattle.xq_ast.specs.declared.need.Need.{Need}
-use Rattle.session_core.specs.declared.event.Event.{Event}
-use Rattle.session_core.specs.declared.event.Event.TheVariants.{Began, Granted, Refused, Answered, Committed, Ended, RolledBack, Doubt, Settled, Left}
+use Rattle.session_core.specs.declared.history.event.Event.{Event}
+use Rattle.session_core.specs.declared.history.event.Event.TheVariants.{Began, Granted, Refused, Answered, Committed, Ended, RolledBack, Doubt, Settled, Left}
 use Rattle.session_core.specs.History.{session_of, is_closing}
-use Rattle.session_core.specs.Transactions.{Base, Transaction, open_of, open_behind}
-use Rattle.session_core.specs.States.{state, state_with, is_open}
-use Rattle.session_core.specs.Closes.{Scripts, calls_of, closed_of, next_call, is_left_by, has_left, ClosesBy, IsSomeText, IsForCall, IsAnswerTo, TextRefusalsAt, NeedsThese}
+use Rattle.session_core.specs.History.Transactions.{Base, Transaction, open_of, open_behind}
+use Rattle.session_core.specs.History.States.{state, state_with, is_open}
+use Rattle.session_core.specs.History.Closes.{Scripts, calls_of, closed_of, next_call, is_left_by, has_left, ClosesBy, IsSomeText, IsForCall, IsAnswerTo, TextRefusalsAt, NeedsThese}
 use Rattle.session_core.proofs.Tying.{here, elsewhere}
 use Rattle.xdb_top.specs.Turns.{LeavesAtOnce, FollowsAtOnce, IsAtRest, HasNext, IsOfNextTurn, IsBehindCall}
 use Rattle.session_run.specs.Calls.{AnswersText, ClosesText}

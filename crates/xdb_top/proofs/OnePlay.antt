@@ -2,12 +2,12 @@
 use Rattle.std.proofs.Common.{◌≡◌, ◌⊎◌, inl, inr, ℕ, Bool, true, false, true≢false, ◌&&◌, ◌==◌, if◌then◌else◌, List, [], ◌∷◌, ◌++◌, length, reverse, Option, refl, sym, ap, subst, ◌∙◌, arith, append-nil, append_assoc}
 use Rattle.std.proofs.lemmas.List.{reverse-append}
 use Rattle.std.proofs.lemmas.Option.{slice_get_within}
-use Rattle.session_core.specs.declared.event.Event.{Event}
-use Rattle.session_core.specs.declared.event.Event.TheVariants.{Began, Granted, Refused, Answered, Committed, Ended, RolledBack, Doubt, Settled, Left}
+use Rattle.session_core.specs.declared.history.event.Event.{Event}
+use Rattle.session_core.specs.declared.history.event.Event.TheVariants.{Began, Granted, Refused, Answered, Committed, Ended, RolledBack, Doubt, Settled, Left}
 use Rattle.session_core.specs.History.{session_of, is_closing, past_of, AtEach}
-use Rattle.session_core.specs.Transactions.{Base, Transaction, open_of, open_behind}
-use Rattle.session_core.specs.States.{state, state_with, is_open}
-use Rattle.session_core.specs.Closes.{Scripts, calls_of, closed_of, more_closed, ClosesAtEnd}
+use Rattle.session_core.specs.History.Transactions.{Base, Transaction, open_of, open_behind}
+use Rattle.session_core.specs.History.States.{state, state_with, is_open}
+use Rattle.session_core.specs.History.Closes.{Scripts, calls_of, closed_of, more_closed, ClosesAtEnd}
 use Rattle.session_core.proofs.Tying.{elsewhere}
 use Rattle.script_text.specs.declared.scripts.session_calls.Script.{Script}
 use Rattle.xdb_top.specs.Turns.{HasNext, IsBehindCall, turns_in}

@@ -1,13 +1,13 @@
 -- What holds of an event of a script that was played whole, at its place.
 use Rattle.std.proofs.Common.{List, [], ◌∷◌}
-use Rattle.session_core.specs.declared.event.Event.{Event}
+use Rattle.session_core.specs.declared.history.event.Event.{Event}
 use Rattle.session_core.specs.History.{AtEach}
-use Rattle.session_core.specs.Transactions.{Base}
-use Rattle.session_core.specs.Closes.{Scripts, ClosesAt, TextRefusalsAt}
-use Rattle.session_core.specs.Locks.{LocksAt}
-use Rattle.session_core.specs.Replies.{SerialAt, SnapshotsAt}
-use Rattle.session_core.specs.Refusals.{RefusalsAt}
-use Rattle.session_core.specs.Settling.{SettlingAt}
+use Rattle.session_core.specs.History.Transactions.{Base}
+use Rattle.session_core.specs.History.Closes.{Scripts, ClosesAt, TextRefusalsAt}
+use Rattle.session_core.specs.History.Locks.{LocksAt}
+use Rattle.session_core.specs.History.Replies.{SerialAt, SnapshotsAt}
+use Rattle.session_core.specs.History.Refusals.{RefusalsAt}
+use Rattle.session_core.specs.History.Settling.{SettlingAt}
 use Rattle.session_run.specs.Calls.{TakesNoDevice}
 use Rattle.xdb_top.specs.Turns.{LeavesAtOnce, FollowsAtOnce}
 

@@ -4,9 +4,9 @@ use Rattle.std.proofs.lemmas.Option.{slice_get_within, slice_get_past, slice_get
 use Rattle.std.proofs.lemmas.List.{take_more, get_or-set_same, get_or-set_other, length-set, append-nil}
 use Rattle.std.proofs.lemmas.Bool.Decides.{eqb_tells}
 use Rattle.xq_ast.specs.declared.call.CallText.{CallText}
-use Rattle.session_core.specs.States.{in_doubt}
-use Rattle.session_core.specs.Closes.{Scripts, calls_of, or_none, closed_of}
-use Rattle.session_core.specs.Kept.{Kept, past}
+use Rattle.session_core.specs.History.States.{in_doubt}
+use Rattle.session_core.specs.History.Closes.{Scripts, calls_of, or_none, closed_of}
+use Rattle.session_core.specs.Keeping.Kept.{Kept, past}
 use Rattle.session_run.specs.Called.{IsUntouched}
 use Rattle.session_run.specs.Tied.{EndsCall}
 use Rattle.xdb_top.specs.declared.play.Seat.{Seat}

@@ -10,16 +10,16 @@ use Rattle.xq_ast.specs.declared.need.Need.{Need}
 use Rattle.xq_ast.specs.Parsed.{Parsed}
 use Rattle.xq_ast.specs.GoodNames.{has_good_names}
 use Rattle.xml_model.specs.Needs.{needs}
-use Rattle.xml_model.specs.Pyx.{Line, IsPlain}
-use Rattle.session_core.specs.declared.event.Says.{Says}
-use Rattle.session_core.specs.declared.event.Says.TheVariants as says
-use Rattle.session_core.specs.declared.event.Event.{Event}
-use Rattle.session_core.specs.declared.event.Event.TheVariants.{Began, Granted, Refused, Answered, Committed, Ended, RolledBack, Doubt, Settled, Left}
+use Rattle.xml_model.specs.Pyx.{Line, IsPlain, ArePlain}
+use Rattle.session_core.specs.declared.history.event.Says.{Says}
+use Rattle.session_core.specs.declared.history.event.Says.TheVariants as says
+use Rattle.session_core.specs.declared.history.event.Event.{Event}
+use Rattle.session_core.specs.declared.history.event.Event.TheVariants.{Began, Granted, Refused, Answered, Committed, Ended, RolledBack, Doubt, Settled, Left}
 use Rattle.session_core.specs.History.{past_of, AtEach}
-use Rattle.session_core.specs.Transactions.{Base}
-use Rattle.session_core.specs.Locks.{LocksAt, IsRefused}
-use Rattle.session_core.specs.Closes.{Scripts, next_call, ClosesAt, ClosesBy, Closes, IsSomeText, NeedsThese}
-use Rattle.session_run.specs.Calls.{TakesNoDevice, ArePlain, HasPlainLines}
+use Rattle.session_core.specs.History.Transactions.{Base}
+use Rattle.session_core.specs.History.Locks.{LocksAt, IsRefused}
+use Rattle.session_core.specs.History.Closes.{Scripts, next_call, ClosesAt, ClosesBy, Closes, IsSomeText, NeedsThese}
+use Rattle.session_run.specs.Calls.{TakesNoDevice, HasPlainLines}
 use Rattle.session_run.specs.Outcomes.{is_answer}
 use Rattle.session_run.proofs.Outcomes.{order_answers}
 use Rattle.session_run.proofs.Plain.{plain_name}

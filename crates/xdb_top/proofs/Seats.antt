@@ -5,13 +5,13 @@ use Rattle.std.proofs.lemmas.Bool.{lt-ltb, le-ltb, ltb-true, ltb-false}
 use Rattle.std.proofs.lemmas.List.{reverse-append}
 use Rattle.xq_ast.specs.declared.call.CallText.{CallText}
 use Rattle.xq_ast.specs.declared.need.Need.{Need}
-use Rattle.session_core.specs.declared.event.Event.{Event}
-use Rattle.session_core.specs.declared.event.Event.TheVariants.{Granted, Left}
+use Rattle.session_core.specs.declared.history.event.Event.{Event}
+use Rattle.session_core.specs.declared.history.event.Event.TheVariants.{Granted, Left}
 use Rattle.session_core.specs.History.{past_of}
-use Rattle.session_core.specs.Transactions.{Base}
-use Rattle.session_core.specs.States.{state, is_open}
-use Rattle.session_core.specs.Closes.{Scripts, calls_of, or_none, closed_of, next_call, NeedsThese}
-use Rattle.session_core.specs.Kept.{Kept, with_event, past}
+use Rattle.session_core.specs.History.Transactions.{Base}
+use Rattle.session_core.specs.History.States.{state, is_open}
+use Rattle.session_core.specs.History.Closes.{Scripts, calls_of, or_none, closed_of, next_call, NeedsThese}
+use Rattle.session_core.specs.Keeping.Kept.{Kept, with_event, past}
 use Rattle.session_core.proofs.Growing.{past-more}
 use Rattle.session_run.specs.Calls.{ClosesText, AreOfCall, at_once, behind_grant}
 use Rattle.session_run.specs.Called.{IsCalled, IsUnclosed, IsUntouched, with_events}

@@ -3,9 +3,9 @@ use Rattle.std.proofs.Common.{◌≡◌, ◌≢◌, ℕ, ◌+◌, ◌<◌, ◌�
 use Rattle.std.proofs.lemmas.Option.{slice_get_within, slice_get-get_or, get_or_from_slice_get}
 use Rattle.std.proofs.lemmas.List.{get_or_push, get_or_append_left}
 use Rattle.std.proofs.lemmas.Bool.Decides.{eqb_tells}
-use Rattle.session_core.specs.Transactions.{Base}
-use Rattle.session_core.specs.Closes.{Scripts}
-use Rattle.session_core.specs.Kept.{Kept}
+use Rattle.session_core.specs.History.Transactions.{Base}
+use Rattle.session_core.specs.History.Closes.{Scripts}
+use Rattle.session_core.specs.Keeping.Kept.{Kept}
 use Rattle.xml_model.specs.Changes.{no_changes}
 use Rattle.session_run.specs.Sessions.{seat_of}
 use Rattle.script_text.specs.declared.scripts.session_calls.Script.{Script}

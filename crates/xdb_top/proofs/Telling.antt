@@ -9,19 +9,19 @@ use Rattle.xq_ast.specs.declared.need.Need.{Need}
 use Rattle.xq_ast.specs.Parsed.{Parsed}
 use Rattle.xq_parse.proofs.Readings.{one_answer}
 use Rattle.xml_model.specs.Needs.{needs}
-use Rattle.session_core.specs.declared.event.BeginKind.TheVariants as kinds
-use Rattle.session_core.specs.declared.event.State.TheVariants.{Idle, Updating}
-use Rattle.session_core.specs.declared.event.Reply.{Reply}
-use Rattle.session_core.specs.declared.event.Says.{Says}
-use Rattle.session_core.specs.declared.event.Says.TheVariants as says
-use Rattle.session_core.specs.declared.event.Event.{Event}
-use Rattle.session_core.specs.declared.event.Event.TheVariants.{Began, Granted, Refused, Answered, Committed, Ended, RolledBack, Doubt, Settled, Left}
+use Rattle.session_core.specs.declared.history.event.BeginKind.TheVariants as kinds
+use Rattle.session_core.specs.declared.history.event.State.TheVariants.{Idle, Updating}
+use Rattle.session_core.specs.declared.history.event.Reply.{Reply}
+use Rattle.session_core.specs.declared.history.event.Says.{Says}
+use Rattle.session_core.specs.declared.history.event.Says.TheVariants as says
+use Rattle.session_core.specs.declared.history.event.Event.{Event}
+use Rattle.session_core.specs.declared.history.event.Event.TheVariants.{Began, Granted, Refused, Answered, Committed, Ended, RolledBack, Doubt, Settled, Left}
 use Rattle.session_core.specs.History.{session_of, is_closing, last_of}
-use Rattle.session_core.specs.Transactions.{Base}
-use Rattle.session_core.specs.States.{state}
-use Rattle.session_core.specs.Closes.{Scripts, next_call, KeepsReading, ClosesCall, Closes, ClosesBy, IsSomeText, NeedsThese, IsFailure, IsTextAnswer, IsAnswerTo}
-use Rattle.session_core.specs.Locks.{AllFree, IsRefused, IsBehindGrant, IsAnsweredWithLocks}
-use Rattle.session_core.specs.Answering.{is_of_device}
+use Rattle.session_core.specs.History.Transactions.{Base}
+use Rattle.session_core.specs.History.States.{state}
+use Rattle.session_core.specs.History.Closes.{Scripts, next_call, KeepsReading, ClosesCall, Closes, ClosesBy, IsSomeText, NeedsThese, IsFailure, IsTextAnswer, IsAnswerTo}
+use Rattle.session_core.specs.History.Locks.{AllFree, IsRefused, IsBehindGrant, IsAnsweredWithLocks}
+use Rattle.session_core.specs.History.Answering.{is_of_device}
 use Rattle.session_run.specs.Calls.{IsAnswerInMemory}
 use Rattle.xdb_top.specs.Wants.{IsNoWant}
 use Rattle.xdb_top.proofs.Places.{IsPlace}

@@ -3,9 +3,9 @@ use Rattle.std.proofs.Common.{◌≡◌, ℕ, zero, suc, ◌+◌, ◌≤◌, ◌
 use Rattle.std.proofs.lemmas.List.{reverse-append, take-append-drop, take-replicate}
 use Rattle.std.proofs.lemmas.Bool.{ltb-true, ltb-false}
 use Rattle.std.proofs.lemmas.Bool.Decides.{eqb_tells}
-use Rattle.session_core.specs.declared.event.Event.{Event}
+use Rattle.session_core.specs.declared.history.event.Event.{Event}
 use Rattle.session_core.specs.History.{past_of, session_of, is_closing}
-use Rattle.session_core.specs.Closes.{Scripts, calls_of, or_none, closed_of, more_closed}
+use Rattle.session_core.specs.History.Closes.{Scripts, calls_of, or_none, closed_of, more_closed}
 use Rattle.session_core.proofs.Tying.{here, elsewhere}
 use Rattle.xdb_top.specs.Turns.{one_where, turns_of, with_turn, ordered, one_by_one, all_turns, turns_in}
 

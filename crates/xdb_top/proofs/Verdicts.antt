@@ -9,21 +9,21 @@ use Rattle.xq_ast.specs.declared.code.SpentKind.TheVariants as spent
 use Rattle.xq_ast.specs.declared.need.Need.{Need}
 use Rattle.xml_model.specs.Needs.{needs}
 use Rattle.xml_model.specs.Statement.{is_statement, stmt}
-use Rattle.session_core.specs.declared.event.BeginKind.TheVariants as kinds
-use Rattle.session_core.specs.declared.event.State.{State}
-use Rattle.session_core.specs.declared.event.State.TheVariants.{Idle, Updating, Reading, InDoubt}
-use Rattle.session_core.specs.declared.event.Says.{Says}
-use Rattle.session_core.specs.declared.event.Says.TheVariants as says
-use Rattle.session_core.specs.declared.event.Event.{Event}
-use Rattle.session_core.specs.declared.event.Event.TheVariants.{Began, Granted, Refused, Answered, Committed, Ended, RolledBack}
+use Rattle.session_core.specs.declared.history.event.BeginKind.TheVariants as kinds
+use Rattle.session_core.specs.declared.history.event.State.{State}
+use Rattle.session_core.specs.declared.history.event.State.TheVariants.{Idle, Updating, Reading, InDoubt}
+use Rattle.session_core.specs.declared.history.event.Says.{Says}
+use Rattle.session_core.specs.declared.history.event.Says.TheVariants as says
+use Rattle.session_core.specs.declared.history.event.Event.{Event}
+use Rattle.session_core.specs.declared.history.event.Event.TheVariants.{Began, Granted, Refused, Answered, Committed, Ended, RolledBack}
 use Rattle.session_core.specs.History.{last_of}
-use Rattle.session_core.specs.Transactions.{Base, commit_count, after, says_of}
-use Rattle.session_core.specs.States.{state, is_open, is_reading, blocks}
-use Rattle.session_core.specs.Locks.{IsFree, AllFree, IsRefused, AreGranted, IsBehindGrant, IsAnsweredWithLocks}
-use Rattle.session_core.specs.Refusals.{refused_in, work_of}
-use Rattle.session_core.specs.Settling.{last_number, HasNoCommitLeft}
-use Rattle.session_core.specs.Kept.{forest_behind}
-use Rattle.session_core.specs.Answering.{AnswersInOrder, IsToldBy, is_of_device, lacks_memory, refuses_call, makes_checkpoint, finds_no_number, runs_updating, runs_reading, fails, finds_no_page, finds_damage}
+use Rattle.session_core.specs.History.Transactions.{Base, commit_count, after, says_of}
+use Rattle.session_core.specs.History.States.{state, is_open, is_reading, blocks}
+use Rattle.session_core.specs.History.Locks.{IsFree, AllFree, IsRefused, AreGranted, IsBehindGrant, IsAnsweredWithLocks}
+use Rattle.session_core.specs.History.Refusals.{refused_in, work_of}
+use Rattle.session_core.specs.History.Settling.{last_number, HasNoCommitLeft}
+use Rattle.session_core.specs.Keeping.Kept.{forest_behind}
+use Rattle.session_core.specs.History.Answering.{AnswersInOrder, IsToldBy, is_of_device, lacks_memory, refuses_call, makes_checkpoint, finds_no_number, runs_updating, runs_reading, fails, finds_no_page, finds_damage}
 use Rattle.session_core.proofs.Answering.{told_by}
 use Rattle.session_run.specs.Calls.{IsAnswerInMemory}
 use Rattle.session_run.proofs.Memory.{undamaged}

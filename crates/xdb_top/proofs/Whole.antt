@@ -1,11 +1,11 @@
 -- A journal of played scripts is one legal history once all calls are closed.
 use Rattle.std.proofs.Common.{◌≡◌, ℕ, List, [], ◌++◌, length, Result, Ok, Err, OnOk, OnErr, is_ok, IsTrue, refl, sym, ap, subst, ◌∙◌, append-nil, rules}
-use Rattle.session_core.specs.declared.event.Event.{Event}
+use Rattle.session_core.specs.declared.history.event.Event.{Event}
 use Rattle.session_core.specs.History.{past_of}
-use Rattle.session_core.specs.Transactions.{Base}
-use Rattle.session_core.specs.Closes.{Scripts, calls_of, closed_of}
-use Rattle.session_core.specs.Legal.{Legal, SoFar}
-use Rattle.session_core.specs.Kept.{Kept, past}
+use Rattle.session_core.specs.History.Transactions.{Base}
+use Rattle.session_core.specs.History.Closes.{Scripts, calls_of, closed_of}
+use Rattle.session_core.specs.History.Legal.{Legal, SoFar}
+use Rattle.session_core.specs.Keeping.Kept.{Kept, past}
 use Rattle.session_core.proofs.Growing.{begins}
 use Rattle.script_text.specs.declared.scripts.session_calls.Script.{Script}
 use Rattle.script_text.specs.JournalText.{ArePrinted}

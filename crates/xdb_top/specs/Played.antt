@@ -2,12 +2,12 @@
 -- before their end.
 use Rattle.std.specs.Prelude.{◌≡◌, ℕ, true, false, List, ◌++◌, length}
 use Rattle.xml_model.specs.Forest.{no_documents}
-use Rattle.session_core.specs.declared.event.Event.{Event}
+use Rattle.session_core.specs.declared.history.event.Event.{Event}
 use Rattle.session_core.specs.History.{past_of, AtEach}
-use Rattle.session_core.specs.Transactions.{Base}
-use Rattle.session_core.specs.States.{state, is_open}
-use Rattle.session_core.specs.Closes.{Scripts, calls_of, closed_of, has_left, ClosesAt, TextRefusalsAt}
-use Rattle.session_core.specs.Legal.{SoFar, Legal}
+use Rattle.session_core.specs.History.Transactions.{Base}
+use Rattle.session_core.specs.History.States.{state, is_open}
+use Rattle.session_core.specs.History.Closes.{Scripts, calls_of, closed_of, has_left, ClosesAt, TextRefusalsAt}
+use Rattle.session_core.specs.History.Legal.{SoFar, Legal}
 use Rattle.session_run.specs.Calls.{TakesNoDevice}
 use Rattle.script_text.specs.declared.scripts.session_calls.Script.{Script}
 use Rattle.script_text.specs.JournalText.{ArePrinted}

@@ -1,8 +1,8 @@
 -- What holds between two calls while scripts are played: of the journal, and of the seats, one for each session.
 use Rattle.std.specs.Prelude.{◌≡◌, ◌≢◌, ℕ, ◌+◌, List, [], ◌∷◌, ◌++◌, length, slice_get, Some}
 use Rattle.xml_model.specs.Forest.{no_documents}
-use Rattle.session_core.specs.Closes.{Scripts, closed_of}
-use Rattle.session_core.specs.Kept.{Kept, kept_of, past}
+use Rattle.session_core.specs.History.Closes.{Scripts, closed_of}
+use Rattle.session_core.specs.Keeping.Kept.{Kept, kept_of, past}
 use Rattle.session_run.specs.Tied.{IsReady}
 use Rattle.session_run.specs.Called.{IsUntouched}
 use Rattle.xml_model.specs.Changes.{no_changes}

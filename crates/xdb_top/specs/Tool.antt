@@ -7,8 +7,8 @@ use Rattle.byte_edge.specs.Faults.{Rises}
 use Rattle.byte_edge.specs.Took.{AppendedPrefix}
 use Rattle.xml_model.specs.declared.node.Doc.{Doc}
 use Rattle.xml_model.specs.Pyx.{pyx, text_of}
-use Rattle.session_core.specs.declared.event.Event.{Event}
-use Rattle.session_core.specs.Legal.{SoFar}
+use Rattle.session_core.specs.declared.history.event.Event.{Event}
+use Rattle.session_core.specs.History.Legal.{SoFar}
 use Rattle.script_text.specs.declared.scripts.session_calls.Script.{Script}
 use Rattle.script_text.specs.JournalText as journals
 use Rattle.xdb_top.specs.declared.command.Command.{Command}

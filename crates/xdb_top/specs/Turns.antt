@@ -1,11 +1,11 @@
 -- The order in which calls are played on one thread: first the sessions that an order names, one call each, and then
 -- session by session the calls that are left.
 use Rattle.std.specs.Prelude.{◌≡◌, ℕ, ◌+◌, ◌==◌, ◌||◌, nat_lt, Bool, true, if◌then◌else◌, List, [], ◌∷◌, ◌++◌, length, replicate}
-use Rattle.session_core.specs.declared.event.Event.{Event}
-use Rattle.session_core.specs.declared.event.Event.TheVariants.{Granted, Settled, Left}
+use Rattle.session_core.specs.declared.history.event.Event.{Event}
+use Rattle.session_core.specs.declared.history.event.Event.TheVariants.{Granted, Settled, Left}
 use Rattle.session_core.specs.History.{session_of, is_closing}
-use Rattle.session_core.specs.CallOrder.{is_grant}
-use Rattle.session_core.specs.Closes.{Scripts, calls_of}
+use Rattle.session_core.specs.History.CallOrder.{is_grant}
+use Rattle.session_core.specs.History.Closes.{Scripts, calls_of}
 
 -- 1 where it holds, and else 0
 abbrev pub one_where : Bool → ℕ

@@ -1,9 +1,9 @@
 -- Journals in which no call was answered for want of memory.
 use Rattle.std.specs.Prelude.{◌≡◌, List, [], ◌∷◌}
 use Rattle.xq_ast.specs.declared.code.Code.TheVariants as codes
-use Rattle.session_core.specs.declared.event.Says.TheVariants as says
-use Rattle.session_core.specs.declared.event.Event.{Event}
-use Rattle.session_core.specs.declared.event.Event.TheVariants.{Answered}
+use Rattle.session_core.specs.declared.history.event.Says.TheVariants as says
+use Rattle.session_core.specs.declared.history.event.Event.{Event}
+use Rattle.session_core.specs.declared.history.event.Event.TheVariants.{Answered}
 
 -- the event does not say that memory was wanting
 abbrev pub IsNoWant : Event → Type 0

@@ -4,7 +4,7 @@ ghost use Rattle.script_text.specs.declared.limits.TheConstants.{SESSIONS_MAX};
 ghost use Rattle.std.specs.Io.KnownBytes.{append_known};
 ghost use Rattle.byte_edge.specs.Took.{AppendedPrefix};
 ghost use Rattle.script_text.specs.JournalText.{text};
-ghost use Rattle.session_core.specs.Legal.{SoFar};
+ghost use Rattle.session_core.specs.History.Legal.{SoFar};
 ghost use Rattle.xdb_top.specs.Tool as spec;
 ghost use Rattle.xdb_top.specs.Tool.{IsAnswered, DoesCommand, HasFaultCause, HasJournal, IsCanonical, IsPlayedText, LacksForDocument, LacksForPlay, is_read_fault, is_write_fault, words_of, command_of as command_by};
 ghost use Rattle.xdb_top.specs.Parts as parts;

@@ -1,11 +1,11 @@
 // These functions do nothing. The contract of each is a law, proved over the definitions alone.
 
 ghost use Rattle.std.specs.Prelude.{◌≡◌, ℕ, List, length};
-ghost use Rattle.session_core.specs.declared.event.Event.{Event};
+ghost use Rattle.session_core.specs.declared.history.event.Event.{Event};
 ghost use Rattle.session_core.specs.History.{past_of};
-ghost use Rattle.session_core.specs.Transactions.{Base};
-ghost use Rattle.session_core.specs.Closes.{Scripts, calls_of};
-ghost use Rattle.session_core.specs.Legal.{Legal, SoFar};
+ghost use Rattle.session_core.specs.History.Transactions.{Base};
+ghost use Rattle.session_core.specs.History.Closes.{Scripts, calls_of};
+ghost use Rattle.session_core.specs.History.Legal.{Legal, SoFar};
 ghost use Rattle.xdb_top.specs.Turns.{turns_of, turns_in, all_turns};
 ghost use Rattle.script_text.specs.declared.scripts.session_calls.Script.{Script};
 ghost use Rattle.xdb_top.specs.Played.{IsPlayed, IsWholePlay};

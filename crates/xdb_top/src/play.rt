@@ -1,6 +1,6 @@
 //! Scripts that are played on one thread over documents in memory.
 ghost use Rattle.std.specs.Prelude.{◌≡◌, ◌<◌, ◌+◌, ◌∷◌, ◌++◌, ◌^◌, [], length, replicate, slice_get, Some, IsTrue, IfOk, OnOk, OnErr};
-ghost use Rattle.session_core.specs.Kept.{past};
+ghost use Rattle.session_core.specs.Keeping.Kept.{past};
 ghost use Rattle.xdb_top.specs.Played.{start, IsPlayed, IsWholePlay, IsPartPlay};
 ghost use Rattle.xdb_top.specs.Playing.{IsSeated, IsPlaying, HasPlayed, HasHadTurn, HasBrokenOff, AreNewSeats, start_kept, IsPlayedWhole};
 ghost use Rattle.xdb_top.specs.Turns.{IsAtRest, one_by_one};

@@ -1,21 +1,20 @@
 -- Parts of expressions that answer alike by two look-ups of documents, where their variables and their context are known,
 -- make wholes that do: lists, predicates, paths and tuples.
-use Rattle.std.specs.Prelude.{◌≡◌, ℕ, ◌+◌, Bool, true, false, if◌then◌else◌, List, [], ◌∷◌, ◌++◌, map, length, bytes_eq, nat_lt, Option, None, Some, Result, Ok, Err, refl}
-use Rattle.std.proofs.Common.{ap, ◌∙◌}
-use Rattle.xq_ast.specs.declared.code.Code.{Code}
+use Rattle.std.specs.Prelude.{◌≡◌, ℕ, ◌+◌, Bool, true, false, if◌then◌else◌, List, [], ◌∷◌, ◌++◌, map, length, bytes_eq, nat_lt, Option, None, Some, Ok, refl}
+use Rattle.std.proofs.Common.{ap}
 use Rattle.xq_ast.specs.declared.code.Code.TheVariants.{XPTY0019, XPTY0020, TooManyItems}
 use Rattle.xq_ast.specs.declared.step.Axis.TheVariants.{DescendantOrSelf}
 use Rattle.xq_ast.specs.declared.step.Test.TheVariants.{AnyNode}
 use Rattle.xml_model.specs.declared.limits.TheConstants.{ITEMS_MAX}
 use Rattle.xml_model.specs.declared.value.KeyType.{KeyType}
 use Rattle.xml_model.specs.DocumentOrder.{union}
-use Rattle.xml_model.specs.Items.{Documents, NodeAt, Item, Items, node, Made, Making, give, fail, plain, look, ◌>>=◌, ◌>>?◌}
+use Rattle.xml_model.specs.Items.{Documents, NodeAt, Item, Items, node, Making, give, fail, ◌>>?◌}
 use Rattle.xml_model.specs.Atoms.{effective_boolean}
 use Rattle.xml_model.specs.Nodes.{node_cmp, nodes_or, atomized, tested}
-use Rattle.xml_model.specs.FunctionAnswers.{Focus, Context, context_item}
-use Rattle.xml_model.specs.Tuples.{Variable, Bindings, Means, BindMeans, KeyMeans, Row, Tuples, Keyed, key_of, joined_type, first_type, other_types, type_of, with_key, with_row, no_keys, keyed, stays, tuple, each, tuples, is_before, row_placed, rows_placed, sorted, returned}
-use Rattle.xml_model.specs.Evaluation.{counted, or_later, bound_value, or_nothing, one_after_another, values, parts, truth, any_of, all_of, content_or, holds_at, kept, filtered, StepMeans, from_each, below, stepped, path_from, first_step}
-use Rattle.xml_model.proofs.Alike.{Each, each_append, each_if, each_union, Any, Fine, any_fine, fine_then, Alike, give_alike, fail_alike, plain_alike, look_alike, bind_alike}
+use Rattle.xml_model.specs.FunctionAnswers.{Context, context_item}
+use Rattle.xml_model.specs.Tuples.{Bindings, Means, BindMeans, KeyMeans, Row, Tuples, Keyed, key_of, joined_type, first_type, other_types, type_of, with_key, with_row, no_keys, keyed, stays, tuple, each, tuples, is_before, row_placed, rows_placed, sorted, returned}
+use Rattle.xml_model.specs.Evaluation.{counted, or_later, bound_value, or_nothing, one_after_another, values, parts, truth, any_of, all_of, holds_at, kept, filtered, from_each, below, stepped, path_from, first_step}
+use Rattle.xml_model.proofs.Alike.{Each, each_append, each_if, each_union, Any, any_fine, fine_then, Alike, give_alike, fail_alike, plain_alike, look_alike, bind_alike}
 use Rattle.xml_model.proofs.Known.{KnownNode, KnownItem, KnownItems, KnownBindings, KnownContext, atoms_same, tested_same, tested_known, nodes_fine, nodes_as_items, context_fine}
 
 module _ (docs docs' : Documents) where

@@ -1,5 +1,5 @@
 -- What the rows of a node are once its entry, and then those of all that stands in it, have been added.
-use Rattle.std.proofs.Common.{◌≡◌, ℕ, suc, ◌+◌, ◌-◌, List, [], ◌∷◌, ◌++◌, map, length, slice_set, refl, sym, ap, ◌∙◌, subst, append_assoc, arith}
+use Rattle.std.proofs.Common.{◌≡◌, ℕ, ◌+◌, List, [], ◌∷◌, ◌++◌, map, length, slice_set, sym, ap, ◌∙◌, append_assoc, arith}
 use Rattle.std.proofs.lemmas.List.{map-append, map-set, length-append, length-map}
 use Rattle.std.proofs.Math.Seq.{set-append_seam}
 use Rattle.xml_model.specs.declared.node.Attr.{Attr}
@@ -7,7 +7,7 @@ use Rattle.xml_model.specs.declared.node.Node.{Node, Text, Pi}
 use Rattle.xml_model.specs.declared.node.Node.TheVariants.{Element}
 use Rattle.xml_model.specs.declared.tree_rows.Entry.{Entry}
 use Rattle.xml_model.specs.Nav.{told_of}
-use Rattle.xml_model.specs.Numbering.{Row, headed, attr_rows, kid_rows, node_rows}
+use Rattle.xml_model.specs.Numbering.{Row, attr_rows, kid_rows, node_rows}
 use Rattle.xml_model.specs.Place.{a_node}
 use Rattle.xml_model.specs.TreeRows.{row_of}
 use Rattle.xml_model.proofs.Numbers.{rows-Element, rows-Text, rows-Pi, length-attr_rows}

@@ -5,7 +5,7 @@ use Rattle.std.specs.Prelude.{nat_lt}
 use Rattle.std.specs.List.{slice_get}
 use Rattle.std.specs.Option.{option_map, option_or}
 use Rattle.std.proofs.lemmas.Bool.{ltb-true, ltb-false}
-use Rattle.std.proofs.lemmas.Option.{slice_get_within, none-some, same_Some}
+use Rattle.std.proofs.lemmas.Option.{slice_get_within}
 use Rattle.xml_model.specs.declared.place.PlaceStep.{PlaceStep}
 use Rattle.xml_model.specs.declared.place.PlaceStep.TheVariants as steps
 use Rattle.xml_model.specs.declared.node.Node.{Node}
@@ -14,7 +14,7 @@ use Rattle.xml_model.specs.Place.{Placed, a_node, an_attribute, attrs_of, kids_o
 use Rattle.xml_model.specs.Trees.{count_node, count_of}
 use Rattle.xml_model.proofs.Numbered.{offset, take_more, take_last}
 use Rattle.xml_model.proofs.Placing.{root, size}
-use Rattle.xml_model.proofs.Standing.{Mapped, mapped}
+use Rattle.xml_model.proofs.Standing.{mapped}
 
 -- a number below the length has an element
 pub within_some : {A : Type 0} (xs : List A) (i : ℕ) → i < length xs → (x : A) × (slice_get xs i ≡ Some x)

@@ -6,9 +6,8 @@ use Rattle.std.proofs.Common.{ap, sym, ◌∙◌}
 use Rattle.std.specs.Cmp.Lexicographic.{slice_cmp}
 use Rattle.std.specs.Fmt.{char_count, digits, signed_decimal}
 use Rattle.std.specs.List.{concat}
-use Rattle.std.specs.Option.{option_map_or}
 use Rattle.std.specs.Ordering.{nat_cmp}
-use Rattle.std.specs.Prelude.{Err, List, None, Ok, Option, Result, Some, T, [], codes, false, filter, if◌then◌else◌, length, map, nat_lt, not, pos, refl, true, ℕ, ◌∷◌, ◌≡◌}
+use Rattle.std.specs.Prelude.{Err, List, None, Ok, Option, Result, Some, T, [], codes, false, filter, if◌then◌else◌, length, map, nat_lt, not, pos, refl, true, unwrap_or, ℕ, ◌∷◌, ◌≡◌}
 use Rattle.xml_model.proofs.Bounded.{bounded, fits, run}
 use Rattle.xml_model.proofs.Nodes.{fold-Element', fold-Pi, fold-Text}
 use Rattle.xml_model.specs.Atoms.{Atoms, atom_text, boolean_text, chained, compares, effective_boolean, operated, product_op, range_of, signed_by, sum_of, sum_op}
@@ -19,7 +18,7 @@ use Rattle.xml_model.specs.Forest.{Forest}
 use Rattle.xml_model.specs.FunctionAnswers.{Context, FunctionRow, answer_of_row, begins_with, boolean_answer, concat_arguments, context_item, first_of, has_within, integer_answer, is_empty, name_of_one, of_focus, or_context, second_of, string_answer, string_argument, tested_texts}
 use Rattle.xml_model.specs.ItemLines.{atom_line, lines_of as spec_lines}
 use Rattle.xml_model.specs.Items.{Documents, Item, Items, Made, Making, NodeAt, boolean, construct, fail, give, integer, look, node, node_at, plain, string, tree_root, ◌>>=◌, ◌>>?◌}
-use Rattle.xml_model.specs.Nodes.{is_attribute_axis, nodes_or, passes_at, united_all}
+use Rattle.xml_model.specs.Nodes.{no_nodes, is_attribute_axis, nodes_or, passes_at, united_all}
 use Rattle.xml_model.specs.Place.{Placed, a_node, an_attribute, kids_of, the_document}
 use Rattle.xml_model.specs.Pyx.{Line, attribute_line, pyx_step}
 use Rattle.xml_model.specs.Trees.{bytes_step, count_step, depth_step, joined}
@@ -47,10 +46,8 @@ use Rattle.xml_model.specs.declared.value.Atom.TheVariants as atom
 use Rattle.xq_ast.specs.declared.step.Axis.TheVariants as axis
 use Rattle.xq_ast.specs.declared.tree.Bind.TheBlock as block
 use Rattle.std.specs.FinMap as forests
-use Rattle.xml_model.specs.declared.value.Key.TheVariants as key
 use Rattle.xml_model.specs.declared.node.Node.TheBlock as nodes
 use Rattle.xml_model.specs.Evaluation as spec
-use Rattle.xml_model.specs.declared.value.KeyType.TheVariants as types
 
 module _ (docs : Documents) (fold : (A : Type 0) → (Node-F A → A) → Node → A) where
   -- the ways to a node itself and to all below it
@@ -122,7 +119,7 @@ module _ (docs : Documents) (fold : (A : Type 0) → (Node-F A → A) → Node �
   abbrev pub tested : Made → Axis → Test → NodeAt → List NodeAt
   tested made way wanted n =
       filter (λ m. passes_at (is_attribute_axis way) wanted (node_at docs made m))
-      (option_map_or (λ root. map (λ place. record { tree = n.tree; place = place }) (axis_places way root n.place)) (tree_root docs made n.tree) [])
+      (map (λ place. record { tree = n.tree; place = place }) (axis_places way (unwrap_or (tree_root docs made n.tree) no_nodes) n.place))
 
   -- a tree that keeps to the three limits
   abbrev pub limited : Node → Result Node Code

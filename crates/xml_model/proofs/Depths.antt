@@ -1,18 +1,18 @@
 -- Each expression has a depth: `fits` holds of it at the number of expressions in it.
 use Rattle.std.specs.Prelude.{◌≡◌, ℕ, zero, suc, ◌+◌, ◌≤◌, Bool, true, false, ◌&&◌, List, [], ◌∷◌, map, Option, None, Some, refl}
 use Rattle.std.specs.List.{list_all}
-use Rattle.std.proofs.Common.{sym, ap, subst, ◌∙◌, arith}
+use Rattle.std.proofs.Common.{ap, subst, ◌∙◌, arith}
 use Rattle.xq_ast.specs.declared.tree.Bind.{Bind, out-Bind, map-Bind}
 use Rattle.xq_ast.specs.declared.tree.Expr.{Expr, out-Expr, map-Expr}
 use Rattle.xq_ast.specs.declared.tree.Start.{Start, out-Start, map-Start}
-use Rattle.xq_ast.specs.declared.tree.ProductPart.{ProductPart, out-ProductPart, outs-ProductPart', map-ProductPart}
-use Rattle.xq_ast.specs.declared.tree.SortKey.{SortKey, out-SortKey, outs-SortKey', map-SortKey}
-use Rattle.xq_ast.specs.declared.tree.Step.{Step, out-Step, outs-Step', map-Step}
-use Rattle.xq_ast.specs.declared.tree.SumPart.{SumPart, out-SumPart, outs-SumPart', map-SumPart}
+use Rattle.xq_ast.specs.declared.tree.ProductPart.{ProductPart, outs-ProductPart', map-ProductPart}
+use Rattle.xq_ast.specs.declared.tree.SortKey.{SortKey, outs-SortKey', map-SortKey}
+use Rattle.xq_ast.specs.declared.tree.Step.{Step, outs-Step', map-Step}
+use Rattle.xq_ast.specs.declared.tree.SumPart.{SumPart, outs-SumPart', map-SumPart}
 use Rattle.xq_ast.specs.declared.tree.Bind.TheOpen.{Bind-F, Expr-F, Start-F, ProductPart-F, SortKey-F, Step-F, SumPart-F}
 use Rattle.xq_ast.specs.declared.tree.Bind.TheFolds.{fold-Bind, fold-Expr, fold-Start, fold-ProductPart, fold-SortKey, fold-Step, fold-SumPart, fold_out-Bind, fold_out-Expr, fold_out-Start, fold_out-ProductPart, fold_out-SortKey, fold_out-Step, fold_out-SumPart}
 use Rattle.xml_model.specs.Trees.{total}
-use Rattle.xml_model.proofs.Bounded.{option_passes, bind_passes, step_passes, start_passes, passes, fits}
+use Rattle.xml_model.proofs.Bounded.{bind_passes, step_passes, start_passes, passes, fits}
 
 -- ---- how many expressions there are
 

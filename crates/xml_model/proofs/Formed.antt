@@ -8,7 +8,7 @@ use Rattle.xq_ast.specs.Names.{is_name}
 use Rattle.xml_model.specs.declared.limits.TheConstants.{DEPTH_MAX, NODES_MAX, TEXT_BYTES_MAX}
 use Rattle.xml_model.specs.declared.node.Attr.{Attr}
 use Rattle.xml_model.specs.declared.node.Doc.{Doc}
-use Rattle.xml_model.specs.declared.node.Node.{Node, Element', Text, Pi, Row_of-Node, end_of-Node, more_of-Node, items-the_row-Node, items_shown-the_row-Node-0, fold_out-Node, fold-Node}
+use Rattle.xml_model.specs.declared.node.Node.{Node, Element', Text, Pi, Row_of-Node, end_of-Node, more_of-Node, items-the_row-Node, items_shown-the_row-Node-0, fold_out-Node}
 use Rattle.xml_model.specs.declared.node.Node.TheVariants.{outs-Element', outs-Text, outs-Pi}
 use Rattle.xml_model.specs.Trees.{count_of, bytes_of, depth_of, has_attribute}
 use Rattle.xml_model.specs.Document.{IsValid, Sibling, are_attributes, are_formed, sibling_step, sibling}
@@ -89,7 +89,8 @@ text_is value = fold_out-Node Sibling sibling_step (Text value) ∙ rw (outs-Tex
 instruction_is : (target value : List ℕ) → sibling (Pi target value) ≡ record { is_text = false; is_formed = is_name target }
 instruction_is target value = fold_out-Node Sibling sibling_step (Pi target value) ∙ rw (outs-Pi target value) refl
 
-text_same : (n : Node) → (sibling n).is_text ≡ is_text n
+-- whether a node is a text, among its siblings and by its variant
+pub text_same : (n : Node) → (sibling n).is_text ≡ is_text n
 text_same (Element' name attrs s row) = ap (λ x. x.is_text) (element_is name attrs s row)
 text_same (Text value) = ap (λ x. x.is_text) (text_is value)
 text_same (Pi target value) = ap (λ x. x.is_text) (instruction_is target value)
@@ -135,7 +136,8 @@ list_rest after n more h =
 -- ---- trees
 
 mutual
-  node_holds : (n : Node) → IsFormed n → IsTrue (sibling n).is_formed
+  -- a well-formed node passes the test
+  pub node_holds : (n : Node) → IsFormed n → IsTrue (sibling n).is_formed
   node_holds (Element' name attrs s row) h =
       subst (λ x. IsTrue x.is_formed) (sym (element_is name attrs s row))
       (both (is_name name) _ h.0 (both (are_attributes attrs) _ (attributes_hold attrs h.1) (row_holds _ false row h.2 h.3)))
@@ -169,7 +171,8 @@ mutual
   row_of _ after (more_of-Node n row) h =
       (node_of n (list_first after n (items-the_row-Node _ row) h), row_of _ (is_text n) row (list_rest after n (items-the_row-Node _ row) h))
 
-all_hold : (after : Bool) (nodes : List Node) → IsApart after nodes → AllFormed nodes → IsTrue (are_formed after (map sibling nodes))
+-- so do well-formed nodes, no two neighbours of which are texts
+pub all_hold : (after : Bool) (nodes : List Node) → IsApart after nodes → AllFormed nodes → IsTrue (are_formed after (map sibling nodes))
 all_hold after [] apart h = refl
 all_hold after (n ∷ nodes) apart h = list_holds after n nodes apart.0 (node_holds n h.0) (all_hold (is_text n) nodes apart.1 h.1)
 

@@ -15,6 +15,7 @@ use Rattle.xml_model.specs.Needs.{KeepsToNeeds}
 use Rattle.xml_model.specs.Statement.{exported, added_where_free, dropped}
 use Rattle.xml_model.specs.Pyx.{read}
 use Rattle.xml_model.proofs.Lines.{bytes_eq_sym}
+use Rattle.xml_model.proofs.QueryNeeds.{query_says}
 
 -- a name is tied with itself, and names of other bytes are not
 tied : (name : List ℕ) → eq_by_cmp (slice_cmp nat_cmp) name name ≡ true
@@ -119,4 +120,4 @@ keeps (Export name) other = record {
   elsewhere = λ F q e. refl;
 }
 keeps (Update what) other = record { says = λ F G same. refl; after = λ F G same. same; elsewhere = λ F q e. refl }
-keeps (Query expr) other = record { says = λ F G same. refl; after = λ F G same. same; elsewhere = λ F q e. refl }
+keeps (Query expr) other = record { says = λ F G same. query_says F G expr same; after = λ F G same. same; elsewhere = λ F q e. refl }

@@ -1,8 +1,7 @@
 -- Two look-ups of documents, and the trees that both have: constructed ones, and documents on whose names they agree.
 -- What a node of such a tree holds, and what its axes find, is the same by both, and is again in such a tree.
-use Rattle.std.specs.Prelude.{◌≡◌, ℕ, pos, Bool, true, false, if◌then◌else◌, List, [], ◌∷◌, ◌++◌, map, filter, not, bytes_eq, codes, length, Option, None, Some, option_map, Result, Ok, Err, refl}
+use Rattle.std.specs.Prelude.{◌≡◌, ℕ, pos, Bool, true, false, if◌then◌else◌, List, [], ◌∷◌, ◌++◌, map, filter, not, bytes_eq, codes, Option, None, Some, option_map, unwrap_or, Result, Ok, refl}
 use Rattle.std.specs.List.{concat}
-use Rattle.std.specs.Option.{option_map_or}
 use Rattle.std.specs.Fmt.{char_count}
 use Rattle.std.proofs.Common.{ap, ◌∙◌}
 use Rattle.xq_ast.specs.declared.code.Code.{Code}
@@ -15,9 +14,9 @@ use Rattle.xml_model.specs.Axes.{axis_places}
 use Rattle.xml_model.specs.DocumentOrder.{union, in_order}
 use Rattle.xml_model.specs.Items.{Documents, Tree, stored, constructed, NodeAt, Item, Items, node, string, integer, boolean, Made, tree_root, node_at, ◌>>?◌}
 use Rattle.xml_model.specs.Atoms.{atom_text, effective_boolean, sum_of}
-use Rattle.xml_model.specs.Nodes.{node_cmp, nodes_or, united, united_all, value_at, atomized_item, atomized, is_attribute_axis, passes_at, tested}
+use Rattle.xml_model.specs.Nodes.{node_cmp, nodes_or, united, united_all, value_at, atomized_item, atomized, no_nodes, is_attribute_axis, passes_at, tested}
 use Rattle.xml_model.specs.Constructors.{words, pieces_of, pieces, piece_text, joined_texts, is_empty_text, content_of, limited_text}
-use Rattle.xml_model.specs.FunctionAnswers.{Focus, Context, context_item, or_context, first_of, second_of, is_empty, string_of, name_at, name_of_one, string_argument, concat_arguments, begins_with, has_within, string_answer, integer_answer, boolean_answer, of_focus, tested_texts, measured, FunctionRow, rows, answer_of_row, call_function}
+use Rattle.xml_model.specs.FunctionAnswers.{Focus, Context, context_item, or_context, first_of, second_of, string_of, name_at, name_of_one, string_argument, concat_arguments, begins_with, has_within, string_answer, integer_answer, boolean_answer, of_focus, tested_texts, measured, call_function}
 use Rattle.xml_model.specs.Tuples.{Bindings}
 use Rattle.xml_model.proofs.Alike.{Each, each_gives, each_filter, each_map, each_union, each_in_order, filter_same, Any, Fine, any_fine, fine_then, same_then}
 
@@ -79,13 +78,12 @@ module _ (docs docs' : Documents) where
 
   -- ---- axes
 
-  -- what an axis finds from a root that is there
+  -- what an axis finds
   abbrev found : Axis → NodeAt → Option Placed → List NodeAt
-  found way n root = option_map_or (λ r. map (λ place. record { tree = n.tree; place = place }) (axis_places way r n.place)) root []
+  found way n root = map (λ place. record { tree = n.tree; place = place }) (axis_places way (unwrap_or root no_nodes) n.place)
 
   found_known : (way : Axis) (n : NodeAt) (root : Option Placed) → KnownNode n → Each KnownNode (found way n root)
-  found_known way n None k = tt
-  found_known way n (Some r) k = each_map KnownNode (λ place. record { tree = n.tree; place = place }) (λ place. k) (axis_places way r n.place)
+  found_known way n root k = each_map KnownNode (λ place. record { tree = n.tree; place = place }) (λ place. k) (axis_places way (unwrap_or root no_nodes) n.place)
 
   -- a step without predicates finds the same
   pub tested_same : (made : Made) (way : Axis) (wanted : Test) (n : NodeAt) → KnownNode n → tested docs made way wanted n ≡ tested docs' made way wanted n

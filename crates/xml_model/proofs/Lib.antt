@@ -14,6 +14,7 @@ mod FunctionRows
 pub mod Known
 pub mod Laying
 pub mod Lines
+pub mod Needed
 pub mod Nodes
 pub mod ReadAgain
 pub mod ReadIsValid
@@ -40,5 +41,11 @@ pub mod Sorting
 pub mod TreeNumbers
 pub mod TreeCalls
 pub mod TreesMade
+pub mod Turns
 mod TupleRows
 pub mod Validity
+pub mod WellFormed
+pub mod Contents
+pub mod QueryCodes
+pub mod Keeping
+pub mod QueryTrees

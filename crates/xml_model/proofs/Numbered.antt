@@ -1,20 +1,18 @@
 -- The number of a place in a tree, and what it tells: the row of what stands there, and the place's turn.
-use Rattle.std.proofs.Common.{◌≡◌, ℕ, zero, suc, ◌+◌, ◌<◌, ◌≤◌, List, [], ◌∷◌, ◌++◌, map, length, take, Option, Some, None, refl, sym, ap, subst, ◌∙◌, arith}
+use Rattle.std.proofs.Common.{◌≡◌, ℕ, zero, suc, ◌+◌, ◌<◌, ◌≤◌, List, [], ◌∷◌, ◌++◌, length, take, Option, Some, None, refl, sym, ap, subst, ◌∙◌, arith}
 use Rattle.std.specs.List.{slice_get}
-use Rattle.std.specs.Option.{option_map}
 use Rattle.std.proofs.lemmas.Option.{slice_get_within, none-some, same_Some}
 use Rattle.xml_model.specs.declared.node.Attr.{Attr}
 use Rattle.xml_model.specs.declared.node.Node.{Node}
 use Rattle.xml_model.specs.declared.place.PlaceStep.{PlaceStep}
 use Rattle.xml_model.specs.declared.place.PlaceStep.TheVariants as steps
-use Rattle.xml_model.specs.Axes.{one_step_each, into_each}
-use Rattle.xml_model.specs.Nav.{told_of}
-use Rattle.xml_model.specs.Numbering.{Row, attr_rows, kid_rows, node_rows, all_ways}
+use Rattle.xml_model.specs.Axes.{one_step_each}
+use Rattle.xml_model.specs.Numbering.{Row, attr_rows, node_rows}
 use Rattle.xml_model.specs.Place.{Placed, a_node, an_attribute, attrs_of, kids_of, step_from, placed_from}
 use Rattle.xml_model.specs.Trees.{count_node, count_of}
 use Rattle.xml_model.proofs.Numbers.{length-attr_rows}
-use Rattle.xml_model.proofs.Placing.{Root, root, size, rows, row, ways, inner_rows, inner_ways}
-use Rattle.xml_model.proofs.Standing.{get_behind, get_before, Mapped, mapped, attr_row_at, one_step_at, length-one_step_each, kid_row_at, kid_way_at}
+use Rattle.xml_model.proofs.Placing.{root, size, rows, row, ways, inner_rows, inner_ways}
+use Rattle.xml_model.proofs.Standing.{get_behind, get_before, mapped, attr_row_at, one_step_at, length-one_step_each, kid_row_at, kid_way_at}
 
 -- how many rows come before those of what a step leads to, from the row of where it begins
 abbrev pub offset : Placed → PlaceStep → ℕ

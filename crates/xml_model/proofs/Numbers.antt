@@ -1,19 +1,15 @@
 -- Numbers of nodes: how many rows come before a place, and what its row is.
-use Rattle.std.proofs.Common.{◌≡◌, ℕ, zero, suc, ◌+◌, ◌<◌, ◌≤◌, List, [], ◌∷◌, ◌++◌, map, length, take, Option, Some, None, refl, sym, ap, subst, ◌∙◌, arith, rules}
-use Rattle.std.specs.List.{slice_get}
-use Rattle.std.specs.Option.{option_map}
-use Rattle.std.proofs.lemmas.List.{length-append, length-map}
+use Rattle.std.proofs.Common.{◌≡◌, ℕ, suc, ◌+◌, List, [], ◌∷◌, ◌++◌, map, length, refl, sym, ap, ◌∙◌, arith}
+use Rattle.std.proofs.lemmas.List.{length-append}
 use Rattle.xml_model.specs.declared.node.Attr.{Attr}
-use Rattle.xml_model.specs.declared.node.Node.{Node, Text, Pi, out-Node}
+use Rattle.xml_model.specs.declared.node.Node.{Node, Text, Pi}
 use Rattle.xml_model.specs.declared.node.Node.TheVariants.{Element, outs-Element, outs-Text, outs-Pi}
 use Rattle.xml_model.specs.declared.place.PlaceStep.{PlaceStep}
-use Rattle.xml_model.specs.declared.place.PlaceStep.TheVariants as steps
-use Rattle.xml_model.specs.Axes.{one_step_each, into_each}
-use Rattle.xml_model.specs.Nav.{told_of, of_document}
-use Rattle.xml_model.specs.Numbering.{Row, headed, attr_rows, kid_rows, rows_step, node_rows, all_step, all_ways}
-use Rattle.xml_model.specs.Place.{Placed, the_document, a_node, an_attribute, attrs_of, kids_of, step_from, placed_from}
+use Rattle.xml_model.specs.Nav.{told_of}
+use Rattle.xml_model.specs.Numbering.{Row, headed, attr_rows, kid_rows, rows_step, node_rows}
+use Rattle.xml_model.specs.Place.{a_node}
 use Rattle.xml_model.specs.Trees.{count_step, count_node, count_of}
-use Rattle.xml_model.proofs.NodeCases.{Each, node_has, nodes_have}
+use Rattle.xml_model.proofs.NodeCases.{Each, node_has}
 use Rattle.xml_model.proofs.Nodes.{fold-Element, fold-Text, fold-Pi}
 
 Ways : Type 0

@@ -1,13 +1,9 @@
 -- The number of a place is how many rows come before it. What stands at the place has its row, and the place itself its
 -- turn in document order, at this number.
-use Rattle.std.proofs.Common.{◌≡◌, ℕ, zero, suc, ◌+◌, ◌<◌, ◌≤◌, List, [], ◌∷◌, ◌++◌, map, length, take, Option, Some, None, refl, sym, ap, subst, ◌∙◌, arith}
-use Rattle.std.specs.List.{slice_get}
-use Rattle.std.specs.Option.{option_map}
-use Rattle.std.proofs.lemmas.List.{length-append, length-map}
-use Rattle.std.proofs.lemmas.Option.{slice_get_within, none-some, same_Some, slice_get-map}
+use Rattle.std.proofs.Common.{◌≡◌, ℕ, ◌+◌, List, [], ◌∷◌, ◌++◌, map, length, refl, ap, ◌∙◌, arith}
+use Rattle.std.proofs.lemmas.List.{length-append}
 use Rattle.xml_model.specs.declared.node.Attr.{Attr}
-use Rattle.xml_model.specs.declared.node.Doc.{Doc}
-use Rattle.xml_model.specs.declared.node.Node.{Node, Text, Pi, out-Node}
+use Rattle.xml_model.specs.declared.node.Node.{Node, Text, Pi}
 use Rattle.xml_model.specs.declared.node.Node.TheOpen.{Node-F}
 use Rattle.xml_model.specs.declared.node.Node.TheVariants.{Element, outs-Element, outs-Text, outs-Pi}
 use Rattle.xml_model.specs.declared.place.PlaceStep.{PlaceStep}
@@ -15,11 +11,11 @@ use Rattle.xml_model.specs.declared.place.PlaceStep.TheVariants as steps
 use Rattle.xml_model.specs.Axes.{one_step_each, into_each}
 use Rattle.xml_model.specs.Nav.{told_in, told_of, of_document}
 use Rattle.xml_model.specs.Numbering.{Row, headed, attr_rows, kid_rows, rows_step, node_rows, all_step, all_ways, tree_size, tree_places}
-use Rattle.xml_model.specs.Place.{Placed, the_document, a_node, an_attribute, attrs_of, kids_of, step_from, placed_from}
+use Rattle.xml_model.specs.Place.{Placed, the_document, a_node, an_attribute, attrs_of, kids_of}
 use Rattle.xml_model.specs.Trees.{count_step, count_node, count_of}
-use Rattle.xml_model.proofs.NodeCases.{Each, node_has, nodes_have}
+use Rattle.xml_model.proofs.NodeCases.{node_has}
 use Rattle.xml_model.proofs.Nodes.{fold-Element, fold-Text, fold-Pi}
-use Rattle.xml_model.proofs.Numbers.{length-node_rows, length-all_kid_rows, length-attr_rows, rows-Element, rows-Text, rows-Pi, count-Element}
+use Rattle.xml_model.proofs.Numbers.{length-all_kid_rows, length-attr_rows, count-Element}
 
 -- ---- what holds of each root: how many rows it has, which they are, and the ways to them
 

@@ -18,21 +18,21 @@ use Rattle.xq_ast.specs.declared.tree.Sign.{Sign}
 use Rattle.xq_ast.specs.declared.tree.SortKey.{SortKey}
 use Rattle.xq_ast.specs.declared.tree.Step.{Step}
 use Rattle.xq_ast.specs.declared.tree.SumPart.{SumPart}
-use Rattle.xq_ast.specs.declared.tree.Bind.TheOpen.{Bind-F, Expr-F, Start-F, ProductPart-F, SortKey-F, Step-F, SumPart-F}
+use Rattle.xq_ast.specs.declared.tree.Bind.TheOpen.{Bind-F, Expr-F, Start-F}
 use Rattle.xml_model.specs.declared.node.Doc.{Doc}
 use Rattle.xml_model.specs.declared.node.Node.TheVariants.{Text}
-use Rattle.xml_model.specs.declared.value.Atom.{Atom}
 use Rattle.xml_model.specs.declared.value.Atom.TheVariants as atom
 use Rattle.xml_model.specs.Place.{Placed, a_node, an_attribute}
 use Rattle.xml_model.specs.Items.{Documents, NodeAt, Item, Items, node, string, integer, boolean, Made, Making, give, fail, plain, look, ◌>>=◌, ◌>>?◌, construct}
-use Rattle.xml_model.specs.Atoms.{Atoms, operand, operated, within_long, long_or, divided, sum_op, product_op, chained, is_minus, signed_by, range_of, compares}
-use Rattle.xml_model.specs.Nodes.{nodes_or, united_all, atomized, tested}
+use Rattle.xml_model.specs.Atoms.{Atoms, operand, operated, within_long, long_or, sum_op, product_op, chained, is_minus, signed_by, range_of, compares}
+use Rattle.xml_model.specs.Nodes.{united_all, atomized, tested}
 use Rattle.xml_model.specs.Constructors.{content_of, element, limited_text, spaced}
 use Rattle.xml_model.specs.FunctionAnswers.{Context, context_item, call_function}
 use Rattle.xml_model.specs.Tuples.{Bindings, Means, BindMeans, KeyMeans, no_tuples, stays, tuples, sorted, returned}
-use Rattle.xml_model.specs.Evaluation.{counted, or_nothing, bound_value, boolean_value, truth, content_or, StepMeans, document_node, ProductMeans, SumMeans, bound_items, bind_step, value_of, expr_step, start_step, product_step, key_step, step_step, sum_step, meaning, eval}
+use Rattle.xml_model.specs.Evaluation.{or_nothing, bound_value, boolean_value, content_or, StepMeans, document_node, ProductMeans, SumMeans, bound_items, bind_step, value_of, expr_step, start_step, product_step, key_step, step_step, sum_step, meaning, eval}
 use Rattle.xml_model.specs.Forest.{Forest}
 use Rattle.xml_model.specs.ItemLines.{placed_lines, item_lines, lines_of}
+use Rattle.xml_model.specs.Statement.{answer_of, said_by, query_answer}
 use Rattle.std.specs.FinMap as forests
 use Rattle.xml_model.proofs.Depths.{size, fits_at_size}
 use Rattle.xml_model.proofs.Alike.{Each, each_front, each_rest, each_map, Any, Fine, any_fine, fine_then, same_then, Good, Alike, give_alike, fail_alike, plain_alike, look_alike, bind_alike}
@@ -370,6 +370,19 @@ module _ (docs docs' : Documents) where
   lines_same made [] k = refl
   lines_same made (item ∷ items) k = λ i. item_lines_same made item k.0 i ++ lines_same made items k.1 i
 
+  -- and so they say the same
+  said_same : (r : Result (Items × Made) Code) → Good (KnownItems docs docs') r → said_by docs r ≡ said_by docs' r
+  said_same (Ok found) k = ap answer_of (lines_same found.1 found.0 k)
+  said_same (Err code) k = refl
+
+  pub answered_by : (e : Expr) → Each (λ name. docs name ≡ docs' name) (names.documents e)
+      → said_by docs (meaning docs e [] None []) ≡ said_by docs' (meaning docs' e [] None [])
+  answered_by e h = let f = framed e h in said_same (meaning docs e [] None []) f.1 ∙ ap (said_by docs') f.0
+
 -- forests that have the same documents, or none, at the names in an expression give it one value
 pub evaluated_same : (F G : Forest) (e : Expr) → Each (λ name. forests.get F name ≡ forests.get G name) (names.documents e) → eval F e ≡ eval G e
 evaluated_same F G e h = (framed (forests.get F) (forests.get G) e h).0
+
+-- and such a query is answered the same
+pub answered_same : (F G : Forest) (e : Expr) → Each (λ name. forests.get F name ≡ forests.get G name) (names.documents e) → query_answer F e ≡ query_answer G e
+answered_same F G e h = answered_by (forests.get F) (forests.get G) e h

@@ -1,5 +1,5 @@
 -- Forests that agree on the locks that a query needs agree on each document that it names, and so give it one value.
-use Rattle.std.specs.Prelude.{◌≡◌, ℕ, Bool, true, false, List, [], ◌∷◌, map, Option, None, Some, is_some, refl}
+use Rattle.std.specs.Prelude.{◌≡◌, ℕ, Bool, true, false, List, [], ◌∷◌, map, Option, Some, is_some, refl}
 use Rattle.std.proofs.Common.{sym, ap, subst, ◌∙◌, cond, true≢false}
 use Rattle.std.specs.FinMap as forests
 use Rattle.std.specs.Ordering.{nat_cmp, eq_by_cmp}
@@ -19,10 +19,11 @@ use Rattle.xq_ast.specs.Documents.{documents}
 use Rattle.doc_locks.specs.Names.{Names}
 use Rattle.doc_locks.specs.Locks.{with_need, with_needs, need_of, needs_of}
 use Rattle.xml_model.specs.Forest.{Forest}
-use Rattle.xml_model.specs.Needs.{needs, each_once, all_in, AgreeAt}
+use Rattle.xml_model.specs.Needs.{needs, all_in, AgreeAt}
 use Rattle.xml_model.specs.Evaluation.{eval}
 use Rattle.xml_model.proofs.Alike.{Each}
-use Rattle.xml_model.proofs.QueryFrame.{evaluated_same}
+use Rattle.xml_model.specs.Statement.{query_answer}
+use Rattle.xml_model.proofs.QueryFrame.{evaluated_same, answered_same}
 
 -- ---- names that are there
 
@@ -83,3 +84,7 @@ module _ (F G : Forest) where
   -- forests that agree at the needs of a query give it one value
   pub query_same : (e : Expr) → AgreeAt (needs (Query e)) F G → eval F e ≡ eval G e
   query_same e h = evaluated_same F G e (query_agrees e h)
+
+  -- and it is answered the same
+  pub query_says : (e : Expr) → AgreeAt (needs (Query e)) F G → query_answer F e ≡ query_answer G e
+  query_says e h = answered_same F G e (query_agrees e h)

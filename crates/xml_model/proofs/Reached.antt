@@ -1,16 +1,16 @@
 -- Each number below the size of a tree is that of a place where something stands.
-use Rattle.std.proofs.Common.{◌≡◌, ℕ, zero, suc, ◌+◌, ◌-◌, ◌<◌, ◌≤◌, ◌⊎◌, inl, inr, List, [], ◌∷◌, length, take, Option, Some, None, refl, sym, ap, subst, ◌∙◌, arith}
+use Rattle.std.proofs.Common.{◌≡◌, ℕ, zero, suc, ◌+◌, ◌-◌, ◌<◌, ◌≤◌, inl, inr, List, [], ◌∷◌, length, take, Some, refl, sym, ap, ◌∙◌, arith}
 use Rattle.std.specs.List.{slice_get}
 use Rattle.std.specs.Option.{option_map}
 use Rattle.std.proofs.lemmas.Bool.{cases_lt}
-use Rattle.xml_model.specs.declared.node.Node.{Node, Text, Pi, out-Node}
+use Rattle.xml_model.specs.declared.node.Node.{Node, Text, Pi}
 use Rattle.xml_model.specs.declared.node.Node.TheVariants.{Element, outs-Element, outs-Text, outs-Pi}
 use Rattle.xml_model.specs.declared.place.PlaceStep.{PlaceStep}
 use Rattle.xml_model.specs.declared.place.PlaceStep.TheVariants as steps
-use Rattle.xml_model.specs.Place.{Placed, the_document, a_node, an_attribute, attrs_of, kids_of, step_from, placed_from}
+use Rattle.xml_model.specs.Place.{Placed, a_node, an_attribute, attrs_of, kids_of, step_from, placed_from}
 use Rattle.xml_model.specs.Trees.{count_node, count_of}
 use Rattle.xml_model.proofs.Chains.{within_some}
-use Rattle.xml_model.proofs.NodeCases.{Each, node_has, nodes_have}
+use Rattle.xml_model.proofs.NodeCases.{Each, node_has}
 use Rattle.xml_model.proofs.Numbered.{offset, number}
 use Rattle.xml_model.proofs.Placing.{root, size}
 

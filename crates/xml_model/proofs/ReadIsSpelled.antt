@@ -1,5 +1,5 @@
 -- What lines are read as is what they spell.
-use Rattle.std.proofs.Common.{◌≡◌, ℕ, ◌+◌, ◌<◌, Bool, true, false, IsTrue, List, [], ◌∷◌, ◌++◌, length, Option, None, Some, Result, Ok, Err, refl, sym, ap, ◌∙◌, subst, true≢false, append_assoc, append-nil, length-append, arith}
+use Rattle.std.proofs.Common.{◌≡◌, ℕ, ◌<◌, Bool, true, false, IsTrue, List, [], ◌∷◌, ◌++◌, length, Option, None, Some, Ok, refl, sym, ap, ◌∙◌, subst, true≢false, append_assoc, append-nil, length-append, arith}
 use Rattle.std.specs.Str.{bytes_eq}
 use Rattle.std.proofs.lemmas.Bool.{not-false}
 use Rattle.std.proofs.lemmas.Slice.Eq.{bytes_eq-Decides}
@@ -7,12 +7,11 @@ use Rattle.xq_ast.specs.declared.refusal.PyxRefusal.{PyxRefusal}
 use Rattle.xq_ast.specs.Names.{is_name}
 use Rattle.xml_model.specs.declared.node.Attr.{Attr}
 use Rattle.xml_model.specs.declared.node.Doc.{Doc}
-use Rattle.xml_model.specs.declared.node.RefusedLine.{RefusedLine}
 use Rattle.xml_model.specs.declared.node.Node.{Node, Element', Text, Pi}
 use Rattle.xml_model.specs.declared.node.Node.TheVariants.{Element, outs-Element', outs-Text, outs-Pi}
 use Rattle.xml_model.specs.Trees.{has_attribute}
-use Rattle.xml_model.specs.Document.{IsValid, are_attributes}
-use Rattle.xml_model.specs.Pyx.{Line, Form, no_form, begins, ends, attribute, characters, instruction, form, OpenElement, Reading, start, refusal, taken, next_line, closed, step, stepped, after, ended, ended_at, ◌>>=◌, read, closes, has_already, with_characters, with_attribute}
+use Rattle.xml_model.specs.Document.{are_attributes}
+use Rattle.xml_model.specs.Pyx.{Line, Form, no_form, begins, ends, attribute, characters, instruction, form, OpenElement, Reading, start, refusal, taken, next_line, closed, step, stepped, after, ended, ended_at, read, closes, has_already, with_characters, with_attribute}
 use Rattle.xml_model.specs.Spelling.{SpellAttributes, no_attributes, an_attribute, SpellCharacters, no_characters, some_characters, is_characters, begins_with_characters, Spell, no_nodes, an_element, an_instruction, a_text, no_text, SpellsWithinLimits}
 use Rattle.xml_model.proofs.Formed.{is_text, attributes_hold, attributes_of}
 use Rattle.xml_model.proofs.ReadIsValid.{passed, ok_parts, AreAttributes-push, read_is_valid}

@@ -1,12 +1,11 @@
 -- What the calls on the rows of a tree answer, by their entries.
-use Rattle.std.proofs.Common.{◌≡◌, ℕ, ◌+◌, ◌-◌, ◌<◌, ◌≤◌, ◌⊎◌, inl, inr, List, [], ◌∷◌, ◌++◌, map, length, Option, Some, None, refl, sym, ap, ◌∙◌, arith}
+use Rattle.std.proofs.Common.{◌≡◌, ℕ, ◌+◌, ◌-◌, ◌<◌, ◌≤◌, inl, inr, List, [], ◌∷◌, ◌++◌, map, length, Some, None, sym, ap, ◌∙◌, arith}
 use Rattle.std.specs.List.{slice_get}
 use Rattle.std.specs.Option.{option_map, option_and, option_and_then}
 use Rattle.std.proofs.lemmas.List.{length-map}
 use Rattle.std.proofs.lemmas.Option.{slice_get_within, slice_get_cases, slice_get-map, none-some, same_Some}
-use Rattle.xml_model.specs.declared.place.PlaceStep.{PlaceStep}
 use Rattle.xml_model.specs.declared.tree_rows.Entry.{Entry}
-use Rattle.xml_model.specs.Nav.{Told, told_at, told_of, of_document, first_place, next_place, parent_place, behind_ending, ending, first_step, standing}
+use Rattle.xml_model.specs.Nav.{told_at, told_of, of_document, first_place, next_place, parent_place, behind_ending, ending, first_step, standing}
 use Rattle.xml_model.specs.Numbering.{Row, tree_rows, place_of_number}
 use Rattle.xml_model.specs.Place.{Placed}
 use Rattle.xml_model.specs.TreeRows.{row_of, placed_by}

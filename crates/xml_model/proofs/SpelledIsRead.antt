@@ -1,5 +1,5 @@
 -- What lines spell within the limits is what they are read as.
-use Rattle.std.proofs.Common.{◌≡◌, ℕ, suc, ◌+◌, ◌<◌, ◌≤◌, Bool, true, false, ◌&&◌, IsTrue, List, [], ◌∷◌, ◌++◌, length, Ok, refl, ap, sym, ◌∙◌, subst, append_assoc, append-nil, length-append, true≢false, arith}
+use Rattle.std.proofs.Common.{◌≡◌, ℕ, ◌+◌, ◌<◌, ◌≤◌, Bool, true, false, ◌&&◌, IsTrue, List, [], ◌∷◌, ◌++◌, length, Ok, refl, ap, sym, ◌∙◌, subst, append_assoc, append-nil, length-append, arith}
 use Rattle.std.proofs.lemmas.Bool.{and_left, and_right, lt-leb, le-ltb}
 use Rattle.xml_model.specs.declared.limits.TheConstants.{DEPTH_MAX, NODES_MAX, TEXT_BYTES_MAX}
 use Rattle.xml_model.specs.declared.node.Attr.{Attr}
@@ -7,9 +7,8 @@ use Rattle.xml_model.specs.declared.node.Doc.{Doc}
 use Rattle.xml_model.specs.declared.node.Node.{Node, Text, Pi}
 use Rattle.xml_model.specs.declared.node.Node.TheVariants.{Element}
 use Rattle.xq_ast.specs.Names.{is_name}
-use Rattle.xml_model.specs.Trees.{count_of, count_node, count_step, bytes_of, bytes_node, bytes_step, depth_of, depth_step, has_attribute, value_bytes}
-use Rattle.xml_model.specs.Document.{are_attributes}
-use Rattle.xml_model.specs.Pyx.{Line, OpenElement, Form, begins, ends, attribute, characters, instruction, form, ends_in_text, texts_added, with_characters, after, next_line, start, ended, ◌>>=◌, read}
+use Rattle.xml_model.specs.Trees.{count_node, count_step, bytes_node, bytes_step, depth_step, has_attribute, value_bytes}
+use Rattle.xml_model.specs.Pyx.{Line, OpenElement, begins, ends, attribute, characters, instruction, form, ends_in_text, texts_added, with_characters, after, next_line, start, ended, ◌>>=◌, read}
 use Rattle.xml_model.specs.Spelling.{SpellAttributes, no_attributes, an_attribute, SpellCharacters, no_characters, some_characters, begins_with_characters, Spell, no_nodes, an_element, an_instruction, a_text, no_text, SpellsWithinLimits}
 use Rattle.xml_model.proofs.Formed.{AreAttributes, attributes_of}
 use Rattle.xml_model.proofs.Lines.{state, opened, taken_after, same_bytes, texts_added_one, with_characters_more}

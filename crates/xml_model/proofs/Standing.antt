@@ -1,23 +1,21 @@
 -- What stands at a place has its row, and the place its turn in document order, at the place's number.
-use Rattle.std.proofs.Common.{◌≡◌, ℕ, zero, suc, ◌+◌, ◌<◌, ◌≤◌, List, [], ◌∷◌, ◌++◌, map, length, take, Option, Some, None, refl, sym, ap, subst, ◌∙◌, arith}
+use Rattle.std.proofs.Common.{◌≡◌, ℕ, zero, suc, ◌+◌, List, [], ◌∷◌, ◌++◌, map, length, take, Option, Some, None, refl, sym, ap, ◌∙◌, arith}
 use Rattle.std.specs.List.{slice_get}
 use Rattle.std.specs.Option.{option_map}
 use Rattle.std.proofs.lemmas.List.{length-append, length-map}
-use Rattle.std.proofs.lemmas.Option.{slice_get_within, none-some, same_Some, slice_get-map}
+use Rattle.std.proofs.lemmas.Option.{none-some, same_Some, slice_get-map}
 use Rattle.xml_model.specs.declared.node.Attr.{Attr}
 use Rattle.xml_model.specs.declared.node.Node.{Node}
-use Rattle.xml_model.specs.declared.node.Node.TheVariants.{Element}
 use Rattle.xml_model.specs.declared.place.PlaceStep.{PlaceStep}
 use Rattle.xml_model.specs.declared.place.PlaceStep.TheVariants as steps
 use Rattle.xml_model.specs.Axes.{one_step_each, into_each}
 use Rattle.xml_model.specs.Nav.{told_of}
 use Rattle.xml_model.specs.Numbering.{Row, attr_rows, kid_rows, node_rows, all_step, all_ways}
-use Rattle.xml_model.specs.Place.{Placed, a_node, an_attribute, attrs_of, kids_of, step_from, placed_from}
+use Rattle.xml_model.specs.Place.{an_attribute}
 use Rattle.xml_model.specs.Trees.{count_node, count_of}
 use Rattle.xml_model.proofs.NodeCases.{Each, node_has}
 use Rattle.xml_model.proofs.Nodes.{fold-Element, fold-Text, fold-Pi}
-use Rattle.xml_model.proofs.Numbers.{length-node_rows, length-attr_rows, count-Element, count-Text, count-Pi}
-use Rattle.xml_model.proofs.Placing.{Root, root, size, rows, row, ways, inner_rows, inner_ways}
+use Rattle.xml_model.proofs.Numbers.{length-node_rows, count-Element, count-Text, count-Pi}
 
 -- ---- elements of lists by their number
 

@@ -9,13 +9,9 @@ use Rattle.xq_ast.specs.Names.{is_name, continues_name}
 use Rattle.xml_model.specs.Values.{escaped, escaped_byte}
 use Rattle.xml_model.specs.Document.{IsValid}
 use Rattle.xml_model.proofs.Formed.{IsFormed, AreFormed, AllFormed, AreAttributes, valid_has_form}
-use Rattle.xml_model.specs.Pyx.{Line, attribute_line, behind_target, pyx_step, pyx_node, pyx_of, pyx, text_of, in_front, split_lines, IsPlain}
+use Rattle.xml_model.specs.Pyx.{Line, attribute_line, behind_target, pyx_step, pyx_node, pyx_of, pyx, text_of, in_front, split_lines, IsPlain, ArePlain}
 use Rattle.xml_model.proofs.Lines.{name_continues}
 use Rattle.xml_model.proofs.Nodes.{fold-Text, fold-Pi, fold-Element'}
-
-abbrev ArePlain : List Line → Type 0
-ArePlain [] = Unit {0}
-ArePlain (line ∷ lines) = IsPlain line × ArePlain lines
 
 -- two plain lists in a row are plain
 IsPlain-append : (xs ys : List ℕ) → IsPlain xs → IsPlain ys → IsPlain (xs ++ ys)
@@ -23,7 +19,7 @@ IsPlain-append [] ys p q = q
 IsPlain-append (x ∷ xs) ys p q = (p.0, IsPlain-append xs ys p.1 q)
 
 -- two lists of plain lines in a row are plain
-ArePlain-append : (xs ys : List Line) → ArePlain xs → ArePlain ys → ArePlain (xs ++ ys)
+pub ArePlain-append : (xs ys : List Line) → ArePlain xs → ArePlain ys → ArePlain (xs ++ ys)
 ArePlain-append [] ys p q = q
 ArePlain-append (x ∷ xs) ys p q = (p.0, ArePlain-append xs ys p.1 q)
 
@@ -58,17 +54,24 @@ plain_byte b false false true e f g = rw (e, f, g) (refl, (refl, tt))
 plain_byte b false false false e f g = rw (e, f, g) (e, tt)
 
 -- an escaped value is plain
-plain_value : (value : List ℕ) → IsPlain (escaped value)
+pub plain_value : (value : List ℕ) → IsPlain (escaped value)
 plain_value [] = tt
 plain_value (b ∷ bs) = IsPlain-append (escaped_byte b) (escaped bs) (plain_byte b (b == 10) (b == 9) (b == 92) refl refl refl) (plain_value bs)
 
 -- the lines of attributes and nodes
 
+-- the line of an attribute is plain
+pub plain_attribute : (a : Attr) → IsTrue (is_name a.name) → IsPlain (attribute_line a)
+plain_attribute a named = (refl, IsPlain-append a.name (32 ∷ escaped a.value) (plain_name a.name named) (refl, plain_value a.value))
+
 -- the lines of attributes are plain
 plain_attributes : (attrs : List Attr) → AreAttributes attrs → ArePlain (map attribute_line attrs)
 plain_attributes [] are = tt
-plain_attributes (a ∷ attrs) are =
-    ((refl, IsPlain-append a.name (32 ∷ escaped a.value) (plain_name a.name are.0) (refl, plain_value a.value)), plain_attributes attrs are.2)
+plain_attributes (a ∷ attrs) are = (plain_attribute a are.0, plain_attributes attrs are.2)
+
+-- the line of a text is plain
+pub plain_text : (value : List ℕ) → ArePlain (pyx_node (Text value))
+plain_text value = rw (fold-Text (List Line) pyx_step value) ((refl, plain_value value), tt)
 
 -- the line of an instruction is plain
 plain_instruction : (target value : List ℕ) → IsTrue (is_name target) → IsPlain (target ++ behind_target value)
@@ -77,7 +80,7 @@ plain_instruction target (b ∷ bs) named = IsPlain-append target (32 ∷ escape
 
 mutual
   -- the lines of a node are plain
-  plain_node : (x : Node) → IsFormed x → ArePlain (pyx_node x)
+  pub plain_node : (x : Node) → IsFormed x → ArePlain (pyx_node x)
   plain_node (Element' name attrs s row) formed =
       let named = plain_name name formed.0 in
       rw (fold-Element' (List Line) pyx_step name attrs s row) (
@@ -85,7 +88,7 @@ mutual
         ArePlain-append (map attribute_line attrs) _ (plain_attributes attrs formed.1)
             (ArePlain-append (pyx_of (items-the_row-Node _ row)) ((41 ∷ name) ∷ []) (plain_row _ row formed.3) ((refl, named), tt)),
       )
-  plain_node (Text value) formed = rw (fold-Text (List Line) pyx_step value) ((refl, plain_value value), tt)
+  plain_node (Text value) formed = plain_text value
   plain_node (Pi target value) formed = rw (fold-Pi (List Line) pyx_step target value) ((refl, plain_instruction target value formed), tt)
 
   -- the lines of a row of nodes are plain
@@ -94,7 +97,7 @@ mutual
   plain_row _ (more_of-Node x row) formed = ArePlain-append (pyx_node x) _ (plain_node x formed.0) (plain_row _ row formed.1)
 
 -- the lines of a list of nodes are plain
-plain_list : (xs : List Node) → AllFormed xs → ArePlain (pyx_of xs)
+pub plain_list : (xs : List Node) → AllFormed xs → ArePlain (pyx_of xs)
 plain_list [] formed = tt
 plain_list (x ∷ xs) formed = ArePlain-append (pyx_node x) (pyx_of xs) (plain_node x formed.0) (plain_list xs formed.1)
 

@@ -1,5 +1,5 @@
 -- What the calls on the trees of a forest answer, by those of the one tree that they ask.
-use Rattle.std.proofs.Common.{◌≡◌, ℕ, zero, suc, ◌-◌, ◌<◌, ◌≤◌, ◌^◌, Bool, true, false, ◌||◌, true≢false, IsTrue, IfSome, List, [], ◌∷◌, map, length, Option, Some, None, refl, sym, ap, subst, ◌∙◌, arith}
+use Rattle.std.proofs.Common.{◌≡◌, ℕ, zero, suc, ◌-◌, ◌<◌, ◌≤◌, ◌^◌, false, ◌||◌, true≢false, IsTrue, IfSome, List, [], ◌∷◌, map, length, Option, Some, None, refl, sym, ap, subst, ◌∙◌, arith}
 use Rattle.std.specs.Prelude.{is_some, unwrap_or}
 use Rattle.std.specs.Cmp.Lexicographic.{slice_cmp}
 use Rattle.std.specs.FinMap as fin_map
@@ -19,7 +19,7 @@ use Rattle.xml_model.specs.declared.tree_nav.Tree.{Tree}
 use Rattle.xml_model.specs.Document.{IsValid}
 use Rattle.xml_model.specs.DocumentOrder.{node_cmp}
 use Rattle.xml_model.specs.Forest.{Forest, IsForest}
-use Rattle.xml_model.specs.Nav.{Stored, Told, told_at, of_document, stored_at, tree_of, gone, at_place, root_of, standing}
+use Rattle.xml_model.specs.Nav.{told_at, of_document, stored_at, tree_of, gone, at_place, root_of, standing}
 use Rattle.xml_model.specs.Numbering.{place_of_number}
 use Rattle.xml_model.specs.Place.{Placed, the_document, place_cmp}
 use Rattle.xml_model.specs.TreeNodes.{name_at, place_in, node_of_id, tree_name, IsTreeOf, AreTreesOf, StandFor}

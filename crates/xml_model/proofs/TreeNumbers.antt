@@ -1,5 +1,5 @@
 -- The numbers of a tree's nodes: what stands at each, what is first in it, behind it and above it, and their order.
-use Rattle.std.proofs.Common.{◌≡◌, ℕ, zero, suc, ◌+◌, ◌-◌, ◌<◌, ◌≤◌, ◌⊎◌, inl, inr, List, [], ◌∷◌, ◌++◌, map, length, take, Option, Some, None, refl, sym, ap, subst, ◌∙◌, arith}
+use Rattle.std.proofs.Common.{◌≡◌, ℕ, ◌+◌, ◌-◌, ◌<◌, ◌≤◌, ◌⊎◌, inl, inr, List, [], ◌∷◌, ◌++◌, map, length, Option, Some, None, refl, sym, ap, ◌∙◌, arith}
 use Rattle.std.specs.Prelude.{unwrap_or}
 use Rattle.std.specs.Cmp.{nat_cmp_is}
 use Rattle.std.specs.List.{slice_get}
@@ -9,21 +9,21 @@ use Rattle.std.specs.declared.cmp.Ordering.{Ordering}
 use Rattle.std.specs.declared.cmp.Ordering.TheVariants.{Less, Equal, Greater}
 use Rattle.std.proofs.lemmas.Bool.{cases_lt}
 use Rattle.std.proofs.lemmas.List.{length-append}
-use Rattle.std.proofs.lemmas.Option.{slice_get_past, slice_get_within, none-some, same_Some}
+use Rattle.std.proofs.lemmas.Option.{slice_get_past, slice_get_within, none-some}
 use Rattle.xml_model.specs.declared.node.Node.{Node}
 use Rattle.xml_model.specs.declared.place.PlaceStep.{PlaceStep}
 use Rattle.xml_model.specs.declared.place.PlaceStep.TheVariants as steps
 use Rattle.xml_model.specs.Axes.{one_step_each, into_each}
-use Rattle.xml_model.specs.Nav.{Ending, ending, behind_step, first_step, next_step, first_place, next_place, parent_place, behind_ending, standing}
-use Rattle.xml_model.specs.Numbering.{Row, all_ways, tree_rows, tree_places, place_of_number}
+use Rattle.xml_model.specs.Nav.{ending, behind_step, first_step, next_step, first_place, next_place, parent_place, behind_ending, standing}
+use Rattle.xml_model.specs.Numbering.{all_ways, tree_rows, tree_places, place_of_number}
 use Rattle.xml_model.specs.Place.{Placed, the_document, a_node, an_attribute, attrs_of, kids_of, step_from, placed_from, place_cmp}
-use Rattle.xml_model.specs.Trees.{count_node, count_of}
+use Rattle.xml_model.specs.Trees.{count_of}
 use Rattle.xml_model.proofs.Chains.{GoesOn, Goes, first_goes_on, next_goes_on}
 use Rattle.xml_model.proofs.Numbered.{placed_nowhere, offset, number, back, row_at, way_at, above_stands, placed_more, number_more, back_more, size_positive, step_within, number_within}
 use Rattle.xml_model.proofs.Numbers.{length-node_rows, length-all_kid_rows}
 use Rattle.xml_model.proofs.PlaceOrder.{order_same}
-use Rattle.xml_model.proofs.Placing.{root as rooted, size, rows, row, inner_ways}
-use Rattle.xml_model.proofs.Reached.{Found, found}
+use Rattle.xml_model.proofs.Placing.{root as rooted, size, rows, row}
+use Rattle.xml_model.proofs.Reached.{found}
 use Rattle.xml_model.proofs.Standing.{length-one_step_each, length-all_kid_ways}
 
 -- the rows of a tree are those of its root, which stands 0 behind

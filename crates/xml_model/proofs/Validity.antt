@@ -1,7 +1,7 @@
 -- What is laid over forests leaves forests.
 use Rattle.std.proofs.Common.{◌≡◌, ℕ, Bool, true, false, cond, IsTrue, IfSome, List, [], ◌∷◌, length, Option, None, Some, refl, sym, subst, ◌∙◌, arith}
 use Rattle.std.specs.FinMap as map
-use Rattle.std.specs.Ordering.{nat_cmp, eq_by_cmp}
+use Rattle.std.specs.Ordering.{nat_cmp}
 use Rattle.std.specs.Cmp.Lexicographic.{slice_cmp, nat_list_cmp_total}
 use Rattle.std.specs.Str.{bytes_eq}
 use Rattle.std.proofs.lemmas.Slice.Eq.{bytes_eq-Decides}
@@ -15,7 +15,8 @@ use Rattle.std.specs.declared.sync.Arc.{Arc}
 use Rattle.xml_model.specs.Changes.{ChangeMap, no_changes, laid_over, AreValidChanges, changes_of_entries}
 use Rattle.xml_model.proofs.Laying.{seen_as, get-laid}
 
-abbrev IsAt : List ℕ → Option Doc → Type 0
+-- what is found at the name, if anything, is valid, and the name is a document's name
+abbrev pub IsAt : List ℕ → Option Doc → Type 0
 IsAt name found = IfSome found (λ doc. IsTrue (is_document_name name) × IsValid doc)
 
 abbrev IsChangedAt : List ℕ → Option (Option Doc) → Type 0
@@ -60,9 +61,13 @@ valid_at q (Some doc) at = at.1
 pub found_is_valid : (F : Forest) (q : List ℕ) (o : Option Doc) → IsForest F → o ≡ map.get F q → IfSome o IsValid
 found_is_valid F q o forest is = valid_at q o (subst (IsAt q) (sym is) (forest q))
 
--- what valid changes give a name is valid
-pub changed_is_valid : (changes : ChangeMap) (q : List ℕ) (after : Option Doc) → AreValidChanges changes → map.get changes q ≡ Some after → IfSome after IsValid
-changed_is_valid changes q after valid is = let at : IsChangedAt q (Some after) = subst (IsChangedAt q) is (valid q) in at.1
+-- so is what stands at a name of a forest
+pub at_is_valid : (q : List ℕ) (found o : Option Doc) → o ≡ found → IsAt q found → IfSome o IsValid
+at_is_valid q found o is at = subst (λ o. IfSome o IsValid) (sym is) (valid_at q found at)
+
+-- what valid changes give a name is valid, and the name is a document's name
+pub changed_is_at : (changes : ChangeMap) (q : List ℕ) (after : Option Doc) → AreValidChanges changes → map.get changes q ≡ Some after → IsAt q after
+changed_is_at changes q after valid is = at_seen q (Some after) None (subst (IsChangedAt q) is (valid q)) tt
 
 -- a table without entries has no changes
 pub empty_is_valid : {A Z : Type 0} (es : List (String A × Option (Arc Doc Z))) → length es ≡ 0 → AreValidChanges (changes_of_entries es)

@@ -1,6 +1,6 @@
 -- Atomic values: atomizing (XML Path Language 2.0, section 2.4.2), casts, comparison (section 3.5.2), arithmetic (section
 -- 3.4), `to` (section 3.3.1) and the effective boolean value (section 2.4.3). Integers have 64 bits with a sign.
-use Rattle.std.specs.Prelude.{ℕ, ◌+◌, ◌-◌, ◌==◌, ℤ, pos, neg_ℤ, ◌+ℤ◌, ◌-ℤ◌, ◌*ℤ◌, int_div, int_rem, int_lt, int_le, unsigned_abs, nat_lt, Bool, true, false, not, ◌&&◌, ◌||◌, if◌then◌else◌, List, [], ◌∷◌, ◌++◌, length, map, reverse, fold, codes, bytes_eq, Option, Some, None, Result, Ok, Err, option_map, ok_or}
+use Rattle.std.specs.Prelude.{ℕ, ◌+◌, ◌==◌, ℤ, pos, neg_ℤ, ◌+ℤ◌, ◌-ℤ◌, ◌*ℤ◌, int_div, int_rem, int_lt, int_le, unsigned_abs, nat_lt, Bool, true, false, not, ◌&&◌, ◌||◌, if◌then◌else◌, List, [], ◌∷◌, length, map, reverse, fold, codes, bytes_eq, Option, Some, None, Result, Ok, Err, option_map, ok_or}
 use Rattle.std.specs.List.{list_all, range_with_len}
 use Rattle.std.specs.Fmt.{signed_decimal}
 use Rattle.std.specs.Ordering.{nat_cmp, int_cmp, bool_cmp, int_eq, is_eq, is_ne, is_lt, is_le, is_gt, is_ge}
@@ -20,7 +20,7 @@ use Rattle.xq_ast.specs.Tokens.{is_space, behind_front, digit_more}
 use Rattle.xml_model.specs.declared.limits.TheConstants.{ITEMS_MAX}
 use Rattle.xml_model.specs.declared.value.Atom.{Atom}
 use Rattle.xml_model.specs.declared.value.Atom.TheVariants as atom
-use Rattle.xml_model.specs.Items.{Item, Items, node, string, integer, boolean, ◌>>?◌}
+use Rattle.xml_model.specs.Items.{Items, node, string, integer, boolean, ◌>>?◌}
 
 abbrev pub Atoms : Type 0
 Atoms = List Atom

@@ -1,6 +1,6 @@
 -- Axes (XML Path Language 2.0, section 3.2.1.1) and string values (XQuery 1.0 and XPath 2.0 Data Model, sections 5.13
 -- and 6), in one tree, from its root and a place in it, and for stored nodes.
-use Rattle.std.specs.Prelude.{ℕ, ◌+◌, List, [], ◌∷◌, ◌++◌, map, Option, None, Some}
+use Rattle.std.specs.Prelude.{ℕ, ◌+◌, List, [], ◌∷◌, ◌++◌, map}
 use Rattle.std.specs.Option.{option_map_or, option_to_list}
 use Rattle.xq_ast.specs.declared.step.Axis.{Axis}
 use Rattle.xq_ast.specs.declared.step.Axis.TheVariants as axis

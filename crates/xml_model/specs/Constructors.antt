@@ -1,5 +1,5 @@
 -- Constructors (XQuery 1.0, section 3.7.3): the content of a new element, and new trees.
-use Rattle.std.specs.Prelude.{ℕ, Bool, true, false, not, ◌&&◌, ◌||◌, if◌then◌else◌, nat_lt, List, [], ◌∷◌, ◌++◌, length, map, filter, Option, Some, None, Result, Ok, Err}
+use Rattle.std.specs.Prelude.{ℕ, Bool, true, false, not, ◌||◌, if◌then◌else◌, nat_lt, List, [], ◌∷◌, ◌++◌, length, map, filter, Option, Some, None, Result, Ok, Err}
 use Rattle.std.specs.List.{join_with_byte}
 use Rattle.xq_ast.specs.declared.code.Code.{Code}
 use Rattle.xq_ast.specs.declared.code.Code.TheVariants.{XQTY0024, XQDY0025, TooDeep, TooManyNodes, TooMuchText}
@@ -10,8 +10,7 @@ use Rattle.xml_model.specs.declared.node.Node.TheOpen.{Node-F}
 use Rattle.xml_model.specs.declared.node.Node.TheVariants.{Element, Text}
 use Rattle.xml_model.specs.Place.{Placed, the_document, a_node, an_attribute}
 use Rattle.xml_model.specs.Trees.{count_node, bytes_node, depth_node, has_attribute}
-use Rattle.xml_model.specs.Items.{Documents, Item, Items, node, string, integer, boolean, Made, node_at, ◌>>?◌}
-use Rattle.xml_model.specs.declared.value.Atom.{Atom}
+use Rattle.xml_model.specs.Items.{Documents, Items, node, string, integer, boolean, Made, node_at}
 use Rattle.xml_model.specs.declared.value.Atom.TheVariants as atom
 use Rattle.xml_model.specs.Atoms.{Atoms, atom_text}
 

@@ -1,6 +1,6 @@
 -- Which documents are valid (XQuery 1.0 and XPath 2.0 Data Model, sections 2.4 and 6, and this profile).
 -- The bytes are those of `Str`: that they are UTF-8 is kept by that type, and not by these definitions.
-use Rattle.std.specs.Prelude.{ℕ, ◌≤◌, nat_lt, Bool, true, false, not, ◌&&◌, IsTrue, List, [], ◌∷◌, map, length}
+use Rattle.std.specs.Prelude.{◌≤◌, nat_lt, Bool, true, false, not, ◌&&◌, IsTrue, List, [], ◌∷◌, map, length}
 use Rattle.xq_ast.specs.Names.{is_name}
 use Rattle.xml_model.specs.declared.limits.TheConstants.{DEPTH_MAX, NODES_MAX, TEXT_BYTES_MAX}
 use Rattle.xml_model.specs.declared.node.Attr.{Attr}

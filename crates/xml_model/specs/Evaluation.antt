@@ -1,18 +1,15 @@
 -- What an expression means: the items that it gives and the trees that it constructs, or the first code
 -- (XQuery 1.0, section 3). The parts of an expression are evaluated from left to right and before its operator.
-use Rattle.std.specs.Prelude.{ℕ, ◌+◌, ◌==◌, ℤ, pos, Bool, true, false, if◌then◌else◌, nat_lt, List, [], ◌∷◌, ◌++◌, map, length, bytes_eq, Option, Some, None, Result, Ok, Err}
+use Rattle.std.specs.Prelude.{ℕ, ◌+◌, pos, Bool, true, false, if◌then◌else◌, nat_lt, List, [], ◌∷◌, ◌++◌, map, length, bytes_eq, Option, Some, None, Result, Ok, Err}
 use Rattle.std.specs.Ordering.{int_eq}
 use Rattle.std.specs.FinMap as forests
 use Rattle.xq_ast.specs.declared.code.Code.{Code}
-use Rattle.xq_ast.specs.declared.code.Code.TheVariants.{XPDY0002, XPTY0004, XPTY0019, XPTY0020, FODC0002, TooManyItems}
-use Rattle.xq_ast.specs.declared.step.Axis.{Axis}
+use Rattle.xq_ast.specs.declared.code.Code.TheVariants.{XPTY0019, XPTY0020, FODC0002, TooManyItems}
 use Rattle.xq_ast.specs.declared.step.Axis.TheVariants.{DescendantOrSelf}
-use Rattle.xq_ast.specs.declared.step.Test.{Test}
 use Rattle.xq_ast.specs.declared.step.Test.TheVariants.{AnyNode}
 use Rattle.xq_ast.specs.declared.tree.ProductOp.{ProductOp}
 use Rattle.xq_ast.specs.declared.tree.Bind.TheOpen.{Bind-F, Expr-F, Start-F, ProductPart-F, SortKey-F, Step-F, SumPart-F}
-use Rattle.xq_ast.specs.declared.tree.Bind.TheFolds.{fold-Bind, fold-Expr, fold-Start, fold-ProductPart, fold-SortKey, fold-Step, fold-SumPart}
-use Rattle.xq_ast.specs.declared.tree.Bind.{Bind}
+use Rattle.xq_ast.specs.declared.tree.Bind.TheFolds.{fold-Expr}
 use Rattle.xq_ast.specs.declared.tree.Expr.{Expr}
 use Rattle.xml_model.specs.declared.limits.TheConstants.{ITEMS_MAX}
 use Rattle.xml_model.specs.declared.node.Doc.{Doc}
@@ -20,12 +17,12 @@ use Rattle.xml_model.specs.declared.node.Node.TheVariants.{Text}
 use Rattle.xml_model.specs.Forest.{Forest}
 use Rattle.xml_model.specs.Place.{a_node, an_attribute}
 use Rattle.xml_model.specs.Items.{Documents, NodeAt, Item, Items, stored, node, string, integer, boolean, Made, Making, give, fail, plain, look, ◌>>=◌, ◌>>?◌, construct}
-use Rattle.xml_model.specs.Atoms.{Atoms, effective_boolean, compares, operated, chained, signed_by, sum_op, product_op, range_of}
+use Rattle.xml_model.specs.Atoms.{effective_boolean, compares, operated, chained, signed_by, sum_op, product_op, range_of}
 use Rattle.xml_model.specs.DocumentOrder.{union}
 use Rattle.xml_model.specs.Nodes.{node_cmp, nodes_or, united_all, atomized, tested}
 use Rattle.xml_model.specs.Constructors.{content_of, element, limited_text, spaced}
-use Rattle.xml_model.specs.FunctionAnswers.{Focus, Context, context_item, call_function}
-use Rattle.xml_model.specs.Tuples.{Variable, Bindings, Means, BindMeans, KeyMeans, no_tuples, tuples, sorted, returned}
+use Rattle.xml_model.specs.FunctionAnswers.{Context, context_item, call_function}
+use Rattle.xml_model.specs.Tuples.{Bindings, Means, BindMeans, KeyMeans, no_tuples, tuples, sorted, returned}
 
 -- after each expression its items are counted
 abbrev pub counted : Items → Making Items

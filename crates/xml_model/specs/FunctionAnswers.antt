@@ -1,13 +1,12 @@
 -- What the functions answer (XQuery 1.0 and XPath 2.0 Functions and Operators, sections 2, 7, 9, 14, 15 and 16). The
 -- arguments have been evaluated; how many each function takes is tested before (`functions` of xq_ast).
-use Rattle.std.specs.Prelude.{ℕ, ℤ, pos, Bool, true, false, not, ◌&&◌, ◌||◌, ◌==◌, if◌then◌else◌, nat_lt, List, [], ◌∷◌, ◌++◌, length, map, codes, bytes_eq, Option, Some, None, Result, Ok, Err}
+use Rattle.std.specs.Prelude.{ℕ, ℤ, pos, Bool, true, false, not, ◌&&◌, ◌||◌, ◌==◌, if◌then◌else◌, List, [], ◌∷◌, length, map, codes, bytes_eq, Option, Some, None, Result, Ok, Err}
 use Rattle.std.specs.List.{concat}
 use Rattle.std.specs.Fmt.{char_count}
 use Rattle.xq_ast.specs.declared.code.Code.{Code}
 use Rattle.xq_ast.specs.declared.code.Code.TheVariants.{XPDY0002, XPTY0004}
 use Rattle.xml_model.specs.Place.{Placed}
-use Rattle.xml_model.specs.Items.{Documents, NodeAt, Item, Items, node, string, integer, boolean, Made, Making, give, fail, plain, look, ◌>>=◌, ◌>>?◌, node_at}
-use Rattle.xml_model.specs.declared.value.Atom.{Atom}
+use Rattle.xml_model.specs.Items.{Documents, Item, Items, node, string, integer, boolean, Made, ◌>>?◌, node_at}
 use Rattle.xml_model.specs.declared.value.Atom.TheVariants as atom
 use Rattle.xml_model.specs.Atoms.{Atoms, atom_text, effective_boolean, sum_of}
 use Rattle.xml_model.specs.Nodes.{atomized_item, atomized, name_of}

@@ -1,5 +1,5 @@
 -- The lines of an answer to a query: those of its items, one after another.
-use Rattle.std.specs.Prelude.{ℕ, List, [], ◌∷◌, ◌++◌, map, Option, Some, None}
+use Rattle.std.specs.Prelude.{ℕ, List, [], ◌∷◌, map, Option, Some, None}
 use Rattle.std.specs.Fmt.{signed_decimal}
 use Rattle.xml_model.specs.Place.{Placed, the_document, a_node, an_attribute}
 use Rattle.xml_model.specs.Trees.{joined}

@@ -1,6 +1,6 @@
 -- Items: what the values of expressions are lists of (XQuery 1.0 and XPath 2.0 Data Model, section 2.5), and what makes
 -- them. Evaluation also makes trees, so each of its parts takes the trees constructed so far and answers those after it.
-use Rattle.std.specs.Prelude.{ℕ, ℤ, Bool, List, [], ◌∷◌, ◌++◌, length, Option, Some, None, Result, Ok, Err, slice_get, option_map}
+use Rattle.std.specs.Prelude.{ℕ, ℤ, Bool, List, [], ◌∷◌, ◌++◌, length, Option, Result, Ok, Err, slice_get, option_map}
 use Rattle.xq_ast.specs.declared.code.Code.{Code}
 use Rattle.xml_model.specs.declared.place.PlaceStep.{PlaceStep}
 use Rattle.xml_model.specs.declared.node.Doc.{Doc}

@@ -25,3 +25,5 @@ pub mod Evaluation
 pub mod ItemLines
 pub mod TreeRows
 pub mod TreeNodes
+pub mod WellFormed
+pub mod QueryCodes

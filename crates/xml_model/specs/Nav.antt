@@ -1,6 +1,6 @@
 -- Navigation: what stands first in a node, behind it and above it, and what a node tells of itself.
 -- The root of a tree is a document, or a node that a query made; all but the last part speaks of one tree.
-use Rattle.std.specs.Prelude.{ℕ, ◌+◌, nat_lt, if◌then◌else◌, List, [], ◌∷◌, ◌++◌, length, Option, None, Some, IsTrue}
+use Rattle.std.specs.Prelude.{ℕ, ◌+◌, nat_lt, if◌then◌else◌, List, [], ◌∷◌, ◌++◌, length, Option, None, Some}
 use Rattle.std.specs.FinMap as map
 use Rattle.std.specs.Option.{option_map, option_or, option_and, option_and_then}
 use Rattle.xq_ast.specs.declared.kind.Kind.{Kind}

@@ -1,6 +1,6 @@
 -- The locks that a call needs: names of documents in byte order, each once, with the stronger mode. What a call
 -- says and does depends on the documents of these names alone, and it changes those with the mode X alone.
-use Rattle.std.specs.Prelude.{◌≡◌, ℕ, Bool, true, false, ◌&&◌, ◌||◌, List, [], ◌∷◌, ◌++◌, map}
+use Rattle.std.specs.Prelude.{◌≡◌, ℕ, Bool, false, ◌&&◌, ◌||◌, List, [], ◌∷◌, ◌++◌, map}
 use Rattle.std.specs.Str.{bytes_eq}
 use Rattle.std.specs.FinMap as forests
 use Rattle.xq_ast.specs.declared.call.Call.{Call}
@@ -60,6 +60,11 @@ needs (Query expr) = each_once (all_in S expr)
 abbrev pub has_exclusive : List ℕ → List Need → Bool
 has_exclusive name [] = false
 has_exclusive name (n ∷ more) = (is_exclusive n.mode && bytes_eq n.name name) || has_exclusive name more
+
+-- the name stands in the list
+abbrev pub has_need : List ℕ → List Need → Bool
+has_need name [] = false
+has_need name (n ∷ more) = bytes_eq n.name name || has_need name more
 
 -- the two forests have the same documents, or none, at the names of the list
 abbrev pub AgreeAt : List Need → Forest → Forest → Type 0

@@ -1,13 +1,12 @@
 -- Nodes in evaluation: document order (XQuery 1.0 and XPath 2.0 Data Model, section 2.4), union (XML Path Language 2.0,
 -- section 3.3.3), what a node holds, and steps without their predicates (section 3.2).
-use Rattle.std.specs.Prelude.{ℕ, Bool, true, false, not, ◌&&◌, if◌then◌else◌, List, [], ◌∷◌, ◌++◌, map, filter, bytes_eq, Option, Some, None, Result, Ok, Err, unwrap_or, option_map}
-use Rattle.std.specs.Option.{option_map_or}
+use Rattle.std.specs.Prelude.{ℕ, Bool, true, false, ◌&&◌, List, [], ◌∷◌, map, filter, bytes_eq, Option, Some, None, Result, Ok, Err, unwrap_or}
 use Rattle.std.specs.Ordering.{nat_cmp, ordering_then}
 use Rattle.std.specs.Cmp.Lexicographic.{slice_cmp}
 use Rattle.std.specs.declared.cmp.Ordering.{Ordering}
 use Rattle.std.specs.declared.cmp.Ordering.TheVariants.{Less, Greater}
 use Rattle.xq_ast.specs.declared.code.Code.{Code}
-use Rattle.xq_ast.specs.declared.code.Code.TheVariants.{XPTY0004, XPTY0019}
+use Rattle.xq_ast.specs.declared.code.Code.TheVariants.{XPTY0004}
 use Rattle.xq_ast.specs.declared.step.Axis.{Axis}
 use Rattle.xq_ast.specs.declared.step.Axis.TheVariants as axis
 use Rattle.xq_ast.specs.declared.step.Test.{Test}
@@ -128,12 +127,16 @@ is_attribute_axis axis.Itself = false
 is_attribute_axis axis.Attribute = true
 is_attribute_axis axis.Parent = false
 
+-- a document without nodes: for it is taken what stands nowhere, and a tree that is not there
+abbrev pub no_nodes : Placed
+no_nodes = the_document (record { kids = [] })
+
 abbrev pub passes_at : Bool → Test → Option Placed → Bool
-passes_at on_attributes wanted None = false
+passes_at on_attributes wanted None = passes on_attributes wanted no_nodes
 passes_at on_attributes wanted (Some there) = passes on_attributes wanted there
 
 -- the nodes of an axis that pass the test, in document order
 abbrev pub tested : Documents → Made → Axis → Test → NodeAt → List NodeAt
 tested docs made way wanted n =
     filter (λ m. passes_at (is_attribute_axis way) wanted (node_at docs made m))
-    (option_map_or (λ root. map (λ place. record { tree = n.tree; place = place }) (axis_places way root n.place)) (tree_root docs made n.tree) [])
+    (map (λ place. record { tree = n.tree; place = place }) (axis_places way (unwrap_or (tree_root docs made n.tree) no_nodes) n.place))

@@ -258,6 +258,11 @@ abbrev pub IsPlain : List ℕ → Type 0
 IsPlain [] = Unit {0}
 IsPlain (b ∷ bs) = ((b == 10) ≡ false) × IsPlain bs
 
+-- each line is without one
+abbrev pub ArePlain : List Line → Type 0
+ArePlain [] = Unit {0}
+ArePlain (line ∷ more) = IsPlain line × ArePlain more
+
 -- a text cut in two at its first newline
 pub record IsCutLine (text line rest : List ℕ) : Type 0 where
   pub whole : text ≡ line ++ 10 ∷ rest

@@ -1,7 +1,7 @@
 -- What a statement says and which forest it leaves. Statements are the calls that read or change documents;
 -- the calls that begin and end transactions and CHECKPOINT are none. Want of memory, faults of a device and the
 -- last numbers are not in it.
-use Rattle.std.specs.Prelude.{ℕ, Bool, true, false, List, [], length, nat_lt, if◌then◌else◌, Option, Some, None, Result, Ok, Err}
+use Rattle.std.specs.Prelude.{ℕ, Bool, true, false, List, [], ◌∷◌, map, length, nat_lt, if◌then◌else◌, Option, Some, None, Result, Ok, Err}
 use Rattle.std.specs.FinMap as forests
 use Rattle.xq_ast.specs.declared.call.Call.{Call}
 use Rattle.xq_ast.specs.declared.call.Call.TheVariants.{Begin, BeginRead, Commit, Rollback, Checkpoint, ShowDocuments, Create, Drop, Load, Export, Update, Query}
@@ -12,6 +12,10 @@ use Rattle.xml_model.specs.declared.node.Doc.{Doc}
 use Rattle.xml_model.specs.declared.node.RefusedLine.{RefusedLine}
 use Rattle.xml_model.specs.Forest.{Forest}
 use Rattle.xml_model.specs.Pyx.{Line, read, pyx, text_of}
+use Rattle.xq_ast.specs.declared.tree.Expr.{Expr}
+use Rattle.xml_model.specs.Items.{Documents, Items, Made}
+use Rattle.xml_model.specs.Evaluation.{eval}
+use Rattle.xml_model.specs.ItemLines.{lines_of}
 
 -- what a statement says: that it is done, lines, or an error with its code
 pub data Answer : Type 0 where
@@ -67,18 +71,30 @@ abbrev pub exported : Option Doc → Answer
 exported (Some doc) = answer_of (pyx doc)
 exported None = error FODC0002
 
--- what a call says of a forest, and the forest behind it; SHOW DOCUMENTS, updates and queries cannot be
--- carried out yet
+-- a line for each document, `=` and its name as it is, in the order of the names' bytes
+abbrev pub name_lines : Forest → List Line
+name_lines F = map (λ name. 61 ∷ name) (forests.keys F)
+
+-- the lines of the items that a query gives, or its code
+abbrev pub said_by : Documents → Result (Items × Made) Code → Answer
+said_by docs (Ok found) = answer_of (lines_of docs found.1 found.0)
+said_by docs (Err code) = error code
+
+-- what a query says of a forest
+abbrev pub query_answer : Forest → Expr → Answer
+query_answer F expr = said_by (forests.get F) (eval F expr)
+
+-- what a call says of a forest, and the forest after it; updates cannot be carried out yet
 abbrev pub stmt : Forest → Call → Outcome
 stmt F Begin = unchanged done F
 stmt F BeginRead = unchanged done F
 stmt F Commit = unchanged done F
 stmt F Rollback = unchanged done F
 stmt F Checkpoint = unchanged done F
-stmt F ShowDocuments = unchanged (error NotBuilt) F
+stmt F ShowDocuments = unchanged (answer_of (name_lines F)) F
 stmt F (Create name) = added_where_free (forests.get F name) name (Ok (record { kids = [] })) F
 stmt F (Drop name) = dropped (forests.get F name) name F
 stmt F (Load name pyx_lines) = added_where_free (forests.get F name) name (read pyx_lines) F
 stmt F (Export name) = unchanged (exported (forests.get F name)) F
 stmt F (Update what) = unchanged (error NotBuilt) F
-stmt F (Query expr) = unchanged (error NotBuilt) F
+stmt F (Query expr) = unchanged (query_answer F expr) F

@@ -1,8 +1,10 @@
 -- What the ids of plain trees stand for. A document's number is its turn among the names, in the order of their bytes,
 -- and a node's number in its document is its turn in document order.
-use Rattle.std.specs.Prelude.{◌≡◌, ℕ, ◌<◌, ◌^◌, List, [], ◌∷◌, map, length, Option, None, Some, slice_get, unwrap_or}
+use Rattle.std.specs.Prelude.{◌≡◌, ℕ, ◌<◌, ◌^◌, List, [], ◌∷◌, map, length, string_bytes, bytes_eq, Option, None, Some, is_some, IsTrue, IfSome, slice_get, unwrap_or}
 use Rattle.std.specs.FinMap as fin_map
+use Rattle.std.specs.Map.{lookup}
 use Rattle.std.specs.Option.{option_map_or}
+use Rattle.std.specs.declared.string.String.{String}
 use Rattle.xml_model.specs.declared.nav.Id.{Id}
 use Rattle.xml_model.specs.declared.node.Doc.{Doc}
 use Rattle.xml_model.specs.declared.place.PlaceStep.{PlaceStep}
@@ -11,7 +13,7 @@ use Rattle.xml_model.specs.declared.tree_nav.Tree.{Tree}
 use Rattle.xml_model.specs.Forest.{Forest}
 use Rattle.xml_model.specs.Nav.{Stored}
 use Rattle.xml_model.specs.Numbering.{place_of_number}
-use Rattle.xml_model.specs.Place.{Placed, the_document}
+use Rattle.xml_model.specs.Place.{the_document}
 use Rattle.xml_model.specs.TreeRows.{placed_by}
 
 -- no document has the empty name
@@ -29,6 +31,15 @@ node_of_id F id = record { name = name_at F id.doc; place = place_in (fin_map.ge
 
 abbrev pub tree_name : List Tree → ℕ → List ℕ
 tree_name trees n = option_map_or (λ tree. tree.name) (slice_get trees n) []
+
+-- the number at the name, in a table under names
+abbrev pub turn_at : {A : Type 0} → List (String A × ℕ) → List ℕ → Option ℕ
+turn_at turns name = lookup (λ key. bytes_eq name (string_bytes key)) turns
+
+-- the table has the turn of each of the first trees at its name, and nothing else
+pub record TellsTurns {A : Type 0} (trees : List Tree) (count : ℕ) (turns : List (String A × ℕ)) : Type 0 where
+  pub right : (name : List ℕ) → IfSome (turn_at turns name) (λ turn. (turn < count) × (tree_name trees turn ≡ name))
+  pub each : (turn : ℕ) → turn < count → IsTrue (is_some (turn_at turns (tree_name trees turn)))
 
 -- a tree is that of the document of its name
 pub record IsTreeOf (F : Forest) (tree : Tree) : Type 0 where

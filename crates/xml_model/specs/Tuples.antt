@@ -1,6 +1,6 @@
 -- The tuples of a FLWOR expression (XQuery 1.0, section 3.8): what each binding binds, which tuples stay, and their
 -- order. One tuple after another is made, tested and given its keys, before the next one is made.
-use Rattle.std.specs.Prelude.{ℕ, ◌+◌, ℤ, Bool, true, false, if◌then◌else◌, List, [], ◌∷◌, ◌++◌, map, Option, Some, None, Result, Ok, Err}
+use Rattle.std.specs.Prelude.{ℕ, Bool, true, false, if◌then◌else◌, List, [], ◌∷◌, ◌++◌, map, Option, Some, None, Result, Ok, Err}
 use Rattle.std.specs.Ordering.{nat_cmp, int_cmp, bool_cmp, is_lt, ordering_then, ordering_reverse}
 use Rattle.std.specs.declared.cmp.Ordering.{Ordering}
 use Rattle.std.specs.declared.cmp.Ordering.TheVariants.{Less, Equal, Greater}
@@ -10,8 +10,7 @@ use Rattle.xml_model.specs.declared.value.Key.{Key}
 use Rattle.xml_model.specs.declared.value.Key.TheVariants as key
 use Rattle.xml_model.specs.declared.value.KeyType.{KeyType}
 use Rattle.xml_model.specs.declared.value.KeyType.TheVariants as types
-use Rattle.xml_model.specs.Items.{Documents, Items, Making, give, plain, look, ◌>>=◌, ◌>>?◌}
-use Rattle.xml_model.specs.declared.value.Atom.{Atom}
+use Rattle.xml_model.specs.Items.{Documents, Items, Making, give, plain, look, ◌>>=◌}
 use Rattle.xml_model.specs.declared.value.Atom.TheVariants as atom
 use Rattle.xml_model.specs.Atoms.{Atoms, text_cmp, effective_boolean}
 use Rattle.xml_model.specs.Nodes.{atomized}

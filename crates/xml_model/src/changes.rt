@@ -51,9 +51,17 @@ impl DocChanges {
         ensures document { option_copied result ≡ map.get (laid_over self.now.changes base.now) name.now }
         ensures valid { IfSome (option_copied result) IsValid }
     {
+        shown(self.seen_shared(base, name))
+    }
+
+    // The same document, shared.
+    pub(crate) fn seen_shared<'a>(&'a self, base: &'a DocMap, name: &Str) -> Option<&'a Arc<Doc>>
+        ensures document { unshared (option_copied result) ≡ map.get (laid_over self.now.changes base.now) name.now }
+        ensures valid { IfSome (unshared (option_copied result)) (λ doc. IsTrue (is_document_name name.now) × IsValid doc) }
+    {
         match self.entries.get(name.as_str()) {
-            Some(after) => shown(after),
-            None => base.get(name),
+            Some(after) => after.as_ref(),
+            None => base.shared(name),
         }
     }
 

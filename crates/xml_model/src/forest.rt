@@ -1,19 +1,20 @@
 //! Maps of documents.
-ghost use Rattle.std.specs.Prelude.{◌≡◌, [], ◌∷◌, ◌++◌, is_some, if◌then◌else◌, IsTrue, IfSome, IfOk, OnOk, OnErr};
+ghost use Rattle.std.specs.Prelude.{◌≡◌, ℕ, List, [], ◌∷◌, ◌++◌, is_some, false, if◌then◌else◌, IsTrue, IfSome, IfOk, OnOk, OnErr};
 ghost use Rattle.std.specs.FinMap as map;
 ghost use Rattle.std.specs.Option.{option_copied};
 ghost use Rattle.xq_ast.specs.Names.{is_document_name};
 ghost use Rattle.xml_model.specs.Document.{IsValid};
 ghost use Rattle.xml_model.specs.Forest.{no_documents, IsForest};
-ghost use Rattle.xml_model.specs.Changes.{laid_over};
+ghost use Rattle.xml_model.specs.Changes.{laid_over, unshared};
+ghost use Rattle.xml_model.specs.Needs.{AgreeAt, has_need};
 
 use crate::changes::DocChanges;
-use crate::layers::{Layer, add_some, document, flat};
+use crate::layers::{Layer, add_some, document, flat, shown};
 use crate::node::Doc;
 use std::alloc::Global;
 use std::marker::Model;
 use std::sync::Arc;
-use xq_ast::{NoMemory, Sequence, Str, StrList};
+use xq_ast::{NeedList, NoMemory, Sequence, Str, StrList};
 
 /// Documents by their names. Each is valid, and each name is a document's name. Copies share the
 /// documents and their names.
@@ -65,6 +66,14 @@ impl DocMap {
         ensures document { option_copied result ≡ map.get self.now name.now }
         ensures valid { IfSome (option_copied result) IsValid }
     {
+        shown(self.shared(name))
+    }
+
+    // The same document, shared.
+    pub(crate) fn shared(&self, name: &Str) -> Option<&Arc<Doc>>
+        ensures document { unshared (option_copied result) ≡ map.get self.now name.now }
+        ensures valid { IfSome (unshared (option_copied result)) (λ doc. IsTrue (is_document_name name.now) × IsValid doc) }
+    {
         document(&self.layers, name.as_str())
     }
 
@@ -92,6 +101,24 @@ impl DocMap {
         let mut layers = self.layers.clone()?;
         add_some(&mut layers, &changes.entries)?;
         Ok(DocMap { layers })
+    }
+
+    /// The documents of these needs alone, as they are seen through the changes: documents are
+    /// shared and not copied. Takes memory by the number of the needs, and time by that number and
+    /// the logarithm of the most names that the map has had.
+    pub fn needed(&self, changes: &DocChanges, needs: &NeedList) -> Result<DocMap, NoMemory>
+        ensures named { IfOk result (λ docs. AgreeAt needs.now docs (laid_over changes.now.changes self.now)) }
+        ensures others { IfOk result (λ docs. (name : List ℕ) → has_need name needs.now ≡ false → map.get docs name ≡ None) }
+    {
+        let alloc = *self.layers.allocator();
+        let mut named = DocChanges::new(alloc);
+        for need in needs.as_slice() {
+            if let Some(doc) = changes.seen_shared(self, &need.name) {
+                let doc = Arc::try_clone(doc)?;
+                named.insert(need.name.copy()?, Some(doc))?;
+            }
+        }
+        DocMap::new(alloc).with_changes(&named)
     }
 
     /// The names, in the order of their bytes.

@@ -25,23 +25,24 @@ pub(crate) enum Below {
     Layers,
 }
 
-pub(crate) fn shown(after: &Option<Arc<Doc>>) -> Option<&Doc>
-    ensures { option_copied result ≡ unshared after.now }
+// The document behind a shared pointer.
+pub(crate) fn shown<'a>(shared: Option<&'a Arc<Doc>>) -> Option<&'a Doc>
+    ensures { option_copied result ≡ unshared (option_copied shared.entry) }
 {
-    match after {
+    match shared {
         Some(doc) => Some(doc),
         None => None,
     }
 }
 
-// The document of the name: the newest layer that has the name tells.
-pub(crate) fn document<'a>(layers: &'a [Layer], name: &str) -> Option<&'a Doc>
-    ensures { option_copied result ≡ map.get (forest_of_layers layers.now) name.now }
+// The document of the name, shared: the newest layer that has the name tells.
+pub(crate) fn document<'a>(layers: &'a [Layer], name: &str) -> Option<&'a Arc<Doc>>
+    ensures { unshared (option_copied result) ≡ map.get (forest_of_layers layers.now) name.now }
 {
     let mut older = layers;
     while let Some((layer, rest)) = older.split_last() {
         if let Some(after) = layer.get(name) {
-            return shown(after);
+            return after.as_ref();
         }
         older = rest;
     }

@@ -5,8 +5,10 @@
 //! (`Place`), how lines of PYX are read (`Pyx`) and which lines spell which nodes (`Spelling`), with
 //! the laws between them (`pyx_is_read_again`, `what_is_read_is_valid`, `read_just_where_spelled`,
 //! `what_is_counted`), what a statement says of a forest and does to it (`Forest`, `Statement`, with
-//! `statements_keep_forests`), and the locks that a call needs (`Needs`, with
-//! `calls_keep_to_their_needs` and `queries_keep_to_their_needs`). A `DocMap` is a forest, and
+//! `statements_keep_forests`), the locks that a call needs (`Needs`, with
+//! `calls_keep_to_their_needs` and `queries_keep_to_their_needs`), and what a query means
+//! (`Evaluation`, with `what_a_query_constructs_is_well_formed`, `lines_of_answers_are_plain` and
+//! `queries_end_with_their_codes`). A `DocMap` is a forest, and
 //! `DocChanges` are changes that leave one: both keep that each document in them is valid and each
 //! name a document's name.
 //! Nothing is refused here: a call ends with its answer or, where it takes memory, `NoMemory`.
@@ -33,9 +35,10 @@ pub use call_needs::needs;
 pub use changes::DocChanges;
 pub use forest::DocMap;
 pub use laws::{
-    calls_keep_to_their_needs, canonical_text_is_read_again, pyx_is_read_again,
-    queries_keep_to_their_needs, read_just_where_spelled, statements_keep_forests, what_is_counted,
-    what_is_read_is_valid,
+    calls_keep_to_their_needs, canonical_text_is_read_again, lines_of_answers_are_plain,
+    pyx_is_read_again, queries_end_with_their_codes, queries_keep_to_their_needs,
+    read_just_where_spelled, statements_keep_forests, what_a_query_constructs_is_well_formed,
+    what_is_counted, what_is_read_is_valid,
 };
 pub use limits::{DEPTH_MAX, ITEMS_MAX, NODES_MAX, REPLY_BYTES_MAX, TEXT_BYTES_MAX};
 pub use nav::{Id, NUMBER_MAX, Nav, NavEnd};

@@ -1,4 +1,4 @@
-//! How deep and how large a document is.
+//! How deep and how large a document or a node is.
 ghost use Rattle.std.specs.Prelude.{◌≡◌, min, ◌-◌, ◌^◌};
 ghost use Rattle.xml_model.specs.Trees.{count_node, count_of, bytes_node, bytes_of, depth_node, depth_of, value_bytes};
 
@@ -94,6 +94,22 @@ impl Doc {
             depth: depth_in(&self.kids),
             nodes: count_nodes(&self.kids),
             bytes: bytes_in(&self.kids),
+        }
+    }
+}
+
+impl Node {
+    /// How deep the node is, itself counted, how many nodes it is with all that stands in it and how
+    /// many bytes of values it has. Takes no memory.
+    pub fn measure(&self) -> Measure
+        ensures depth { result.depth ≡ min (depth_node self.now) (2 ^ 32 - 1) }
+        ensures nodes { result.nodes ≡ min (count_node self.now) (2 ^ 64 - 1) }
+        ensures bytes { result.bytes ≡ min (bytes_node self.now) (2 ^ 64 - 1) }
+    {
+        Measure {
+            depth: depth_in_node(self),
+            nodes: count_node(self),
+            bytes: bytes_in_node(self),
         }
     }
 }

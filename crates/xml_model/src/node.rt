@@ -38,12 +38,12 @@ pub struct Doc {
     pub kids: NodeList,
 }
 
-/// What a document measures. A number that would be past its type's last value stays there.
+/// What a document or a node measures. A number that would be past its type's last value stays there.
 #[derive(Clone, Copy, Debug, PartialEq, Eq)]
 pub struct Measure {
     /// The most elements that stand in one another.
     pub depth: u32,
-    /// All nodes, attributes among them, without the document itself.
+    /// All nodes, attributes among them, without a document itself.
     pub nodes: u64,
     /// The bytes of all values.
     pub bytes: u64,

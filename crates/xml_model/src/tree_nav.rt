@@ -1,14 +1,17 @@
 //! Plain trees behind `Nav`: the documents of a map, each as the rows of its nodes.
-ghost use Rattle.std.specs.Prelude.{◌≡◌, ℕ, ◌-◌, ◌<◌, map as list_map, is_some, length, ◌^◌, IfSome, IfNone, IfOk};
+ghost use Rattle.std.specs.Prelude.{◌≡◌, ◌-◌, ◌<◌, map as list_map, is_some, length, ◌^◌, IfSome, IfOk};
 ghost use Rattle.std.specs.FinMap as map;
+ghost use Rattle.std.specs.Cmp.Lexicographic.{slice_cmp};
 ghost use Rattle.std.specs.Option.{option_map, option_copied};
+ghost use Rattle.std.specs.Ordering.{nat_cmp};
 ghost use Rattle.std.specs.List.{slice_get};
 ghost use Rattle.xml_model.specs.Forest.{IsForest};
-ghost use Rattle.xml_model.specs.TreeNodes.{tree_name, IsTreeOf, AreTreesOf};
+ghost use Rattle.xml_model.specs.TreeNodes.{tree_name, turn_at, TellsTurns, IsTreeOf, AreTreesOf};
 
 use crate::forest::DocMap;
 use crate::nav::{Id, Nav, NavEnd};
 use crate::tree_rows::{PlacedRef, TreeRows};
+use indexmap::IndexMap;
 use std::alloc::Global;
 use std::cmp::Ordering;
 use std::marker::Model;
@@ -21,18 +24,24 @@ pub(crate) struct Tree<'a> {
     pub rows: TreeRows<'a>,
 }
 
+// The number of each tree, by its name.
+type Turns = IndexMap<String, u32>;
+
 /// The nodes of a map's documents. Contracts see the forest. Documents are numbered in the order of
-/// the bytes of their names, and the nodes of each in document order, the document being 0. No call
-/// has a fault.
+/// the bytes of their names, and the nodes of each in document order, the document being 0. Each
+/// call takes constant time, but for `name` and `value`, which take what they answer. No call has a
+/// fault.
 #[derive(Drop)]
 pub struct TreeNav<'a> {
     docs: &'a DocMap,
     trees: Vec<Tree<'a>>,
+    turns: Turns,
 }
 
 impl<'a> Model for TreeNav<'a> {
     ghost use Rattle.xml_model.specs.Forest.{Forest, forest_code};
-    ghost use Rattle.xml_model.specs.TreeNodes.{StandFor};
+    ghost use Rattle.std.specs.Prelude.{length};
+    ghost use Rattle.xml_model.specs.TreeNodes.{StandFor, TellsTurns};
 
     ghost Value = { Forest };
 
@@ -40,7 +49,7 @@ impl<'a> Model for TreeNav<'a> {
 
     ghost view = { λ nav. nav.docs.now };
 
-    ghost invariant = { λ nav. StandFor nav.docs.now nav.trees.items };
+    ghost invariant = { λ nav. StandFor nav.docs.now nav.trees.items × TellsTurns nav.trees.items (length nav.trees.items) nav.turns.entries };
 }
 
 /// A fault that never comes.
@@ -62,6 +71,16 @@ fn name_of<'t, 'a>(trees: &'t [Tree<'a>], doc: u32) -> &'t str
     }
 }
 
+// The order of two documents' names.
+fn names_order(trees: &[Tree], a: u32, b: u32) -> Ordering
+    ensures { result ≡ slice_cmp nat_cmp (tree_name trees.now a) (tree_name trees.now b) }
+{
+    if a == b {
+        return Ordering::Equal;
+    }
+    name_of(trees, a).cmp(name_of(trees, b))
+}
+
 // A node of this document.
 fn in_document(doc: u32, node: Option<u32>) -> Option<Id>
     ensures { result ≡ option_map (λ n. record { doc = doc; node = n }) node }
@@ -73,20 +92,29 @@ fn in_document(doc: u32, node: Option<u32>) -> Option<Id>
 }
 
 // The document of this name, by its turn.
-fn root_among(trees: &[Tree], name: &Str) -> Option<Id>
-    requires { length trees.now < 2 ^ 32 }
-    ensures found { IfSome result (λ n. (n.node ≡ 0) × (tree_name trees.now n.doc ≡ name.now) × (n.doc < length trees.now)) }
-    ensures none { IfNone result ((k : ℕ) → k < length trees.now → ¬ tree_name trees.now k ≡ name.now) }
+fn root_of(turns: &Turns, name: &Str) -> Option<Id>
+    ensures { result ≡ option_map (λ turn. record { doc = turn; node = 0 }) (turn_at turns.now.entries name.now) }
 {
-    for (i, tree) in trees.iter().enumerate() {
-        if tree.name.same(name) {
-            return Some(Id {
-                doc: i as u32,
-                node: 0,
-            });
-        }
+    match turns.get(name.as_str()) {
+        Some(turn) => Some(Id {
+            doc: *turn,
+            node: 0,
+        }),
+        None => None,
     }
-    None
+}
+
+// The turn of each tree, at its name.
+fn turns_of(alloc: Global, trees: &[Tree]) -> Result<Turns, NoMemory>
+    requires { length trees.now < 2 ^ 32 }
+    ensures { IfOk result (λ turns. TellsTurns trees.now (length trees.now) turns.entries) }
+{
+    let mut turns = IndexMap::with_capacity(alloc, trees.len())?;
+    for (turn, tree) in trees.iter().enumerate() {
+        let name = tree.name.copy()?;
+        turns.insert(name.into_string(), turn as u32)?;
+    }
+    Ok(turns)
 }
 
 // The tree of the document of this name, if there is one.
@@ -131,7 +159,8 @@ impl<'a> TreeNav<'a> {
             return Err(NoMemory);
         }
         let trees = trees_of(docs, &names)?;
-        Ok(TreeNav { docs, trees })
+        let turns = turns_of(names.allocator(), &trees)?;
+        Ok(TreeNav { docs, trees, turns })
     }
 }
 
@@ -153,7 +182,7 @@ impl<'a> Nav for TreeNav<'a> {
     ghost number = { λ F n. 2 ^ 32 - n.node };
 
     fn root(&self, name: &Str) -> Result<Option<Id>, NoFault> {
-        Ok(root_among(&self.trees, name))
+        Ok(root_of(&self.turns, name))
     }
 
     fn first(&self, n: Id) -> Result<Option<Id>, NoFault> {
@@ -185,7 +214,7 @@ impl<'a> Nav for TreeNav<'a> {
     }
 
     fn order(&self, a: Id, b: Id) -> Result<Ordering, NoFault> {
-        match name_of(&self.trees, a.doc).cmp(name_of(&self.trees, b.doc)) {
+        match names_order(&self.trees, a.doc, b.doc) {
             Ordering::Equal => Ok(a.node.cmp(&b.node)),
             different => Ok(different),
         }

@@ -9,7 +9,7 @@ use Rattle.xq_ast.specs.CodeWords.{IsWord}
 use Rattle.xq_ast.proofs.Cuts.{cut_once}
 use Rattle.xq_ast.proofs.Numbers.{has_space-decimal}
 use Rattle.xq_ast.proofs.Codes.{has_space-refusal_name, has_space-kind_name}
-use Rattle.xq_ast.specs.declared.code_reading.TheConstants.{WORDS}
+use Rattle.xq_ast.specs.declared.code_reading.TheConstants.{WORDS, REFUSALS, KINDS}
 use Rattle.xq_ast.specs.declared.refusal.PyxRefusal.{PyxRefusal}
 use Rattle.xq_ast.specs.declared.refusal.PyxRefusal.TheVariants as refusals
 use Rattle.xq_ast.specs.declared.code.SpentKind.{SpentKind}
@@ -65,10 +65,7 @@ word_named (Pyx why line) is = absurd is
 word_named (Spent kind number) is = absurd is
 word_named (Damaged commit ordinal page) is = absurd is
 
-abbrev all_refusals : List PyxRefusal
-all_refusals = refusals.BadLine ∷ refusals.BadName ∷ refusals.EndMismatch ∷ refusals.AttributeLate ∷ refusals.AttributeTwice ∷ refusals.TooDeep ∷ refusals.TooManyNodes ∷ refusals.TooMuchText ∷ refusals.Unclosed ∷ []
-
-refusal_named : (why : PyxRefusal) → named refusal_name all_refusals (refusal_name why) ≡ Some why
+refusal_named : (why : PyxRefusal) → named refusal_name REFUSALS (refusal_name why) ≡ Some why
 refusal_named refusals.BadLine = refl
 refusal_named refusals.BadName = refl
 refusal_named refusals.EndMismatch = refl
@@ -79,10 +76,7 @@ refusal_named refusals.TooManyNodes = refl
 refusal_named refusals.TooMuchText = refl
 refusal_named refusals.Unclosed = refl
 
-abbrev all_kinds : List SpentKind
-all_kinds = kinds.Commit ∷ kinds.Generation ∷ kinds.Page ∷ kinds.Slot ∷ kinds.Log ∷ []
-
-kind_named : (kind : SpentKind) → named kind_name all_kinds (kind_name kind) ≡ Some kind
+kind_named : (kind : SpentKind) → named kind_name KINDS (kind_name kind) ≡ Some kind
 kind_named kinds.Commit = refl
 kind_named kinds.Generation = refl
 kind_named kinds.Page = refl
@@ -118,7 +112,7 @@ same_pyx : (w v : PyxRefusal) (k n : ℕ) → k < 2 ^ 64 → n < 2 ^ 64 → code
 same_pyx w v k n small few e =
     let tails = append_cancel_left (codes "Pyx ") (refusal_name w ++ 32 ∷ decimal k) (refusal_name v ++ 32 ∷ decimal n) e in
     let parts = cut_once (refusal_name w) (refusal_name v) (decimal k) (decimal n) (has_space-refusal_name w) (has_space-refusal_name v) tails in
-    let why : w ≡ v = same_item refusal_name all_refusals refusal_named w v parts.0 in
+    let why : w ≡ v = same_item refusal_name REFUSALS refusal_named w v parts.0 in
     let line : k ≡ n = decimal_injective k n small few parts.1 in
     cc
 
@@ -126,7 +120,7 @@ same_spent : (w v : SpentKind) (k n : ℕ) → k < 2 ^ 64 → n < 2 ^ 64 → cod
 same_spent w v k n small few e =
     let tails = append_cancel_left (codes "Spent ") (kind_name w ++ 32 ∷ decimal k) (kind_name v ++ 32 ∷ decimal n) e in
     let parts = cut_once (kind_name w) (kind_name v) (decimal k) (decimal n) (has_space-kind_name w) (has_space-kind_name v) tails in
-    let kind : w ≡ v = same_item kind_name all_kinds kind_named w v parts.0 in
+    let kind : w ≡ v = same_item kind_name KINDS kind_named w v parts.0 in
     let number : k ≡ n = decimal_injective k n small few parts.1 in
     cc
 

@@ -48,6 +48,28 @@ const WORDS: [Code; 31] = [
     Code::InDoubt { mark: NO_MARK },
 ];
 
+/// Every refusal of a PYX line.
+const REFUSALS: [PyxRefusal; 9] = [
+    PyxRefusal::BadLine,
+    PyxRefusal::BadName,
+    PyxRefusal::EndMismatch,
+    PyxRefusal::AttributeLate,
+    PyxRefusal::AttributeTwice,
+    PyxRefusal::TooDeep,
+    PyxRefusal::TooManyNodes,
+    PyxRefusal::TooMuchText,
+    PyxRefusal::Unclosed,
+];
+
+/// Every kind of number that can be spent.
+const KINDS: [SpentKind; 5] = [
+    SpentKind::Commit,
+    SpentKind::Generation,
+    SpentKind::Page,
+    SpentKind::Slot,
+    SpentKind::Log,
+];
+
 /// The first of these codes that has this text.
 fn code_among(codes: &[Code], text: &str) -> Option<Code>
     requires { AreWords codes.now }
@@ -69,36 +91,44 @@ fn word_code(text: &str) -> Option<Code>
     code_among(&WORDS, text)
 }
 
+/// The first of these refusals that has this name.
+fn refusal_among(refusals: &[PyxRefusal], name: &str) -> Option<PyxRefusal>
+    ensures found { IfSome result (λ why. refusal_name why ≡ name.now) }
+    ensures none { IsNone result → Misses refusal_name name.now refusals.now }
+{
+    for why in refusals {
+        if why.name() == name {
+            return Some(*why);
+        }
+    }
+    None
+}
+
 fn refusal_of(name: &str) -> Option<PyxRefusal>
     ensures found { IfSome result (λ why. refusal_name why ≡ name.now) }
     ensures none { IsNone result → (why : PyxRefusal) → refusal_name why ≢ name.now }
 {
-    match name {
-        "BadLine" => Some(PyxRefusal::BadLine),
-        "BadName" => Some(PyxRefusal::BadName),
-        "EndMismatch" => Some(PyxRefusal::EndMismatch),
-        "AttributeLate" => Some(PyxRefusal::AttributeLate),
-        "AttributeTwice" => Some(PyxRefusal::AttributeTwice),
-        "TooDeep" => Some(PyxRefusal::TooDeep),
-        "TooManyNodes" => Some(PyxRefusal::TooManyNodes),
-        "TooMuchText" => Some(PyxRefusal::TooMuchText),
-        "Unclosed" => Some(PyxRefusal::Unclosed),
-        _ => None,
+    refusal_among(&REFUSALS, name)
+}
+
+/// The first of these kinds that has this name.
+fn kind_among(kinds: &[SpentKind], name: &str) -> Option<SpentKind>
+    ensures found { IfSome result (λ kind. kind_name kind ≡ name.now) }
+    ensures none { IsNone result → Misses kind_name name.now kinds.now }
+{
+    for kind in kinds {
+        if kind.name() == name {
+            return Some(*kind);
+        }
     }
+    None
 }
 
 fn kind_of(name: &str) -> Option<SpentKind>
     ensures found { IfSome result (λ kind. kind_name kind ≡ name.now) }
     ensures none { IsNone result → (kind : SpentKind) → kind_name kind ≢ name.now }
 {
-    match name {
-        "commit" => Some(SpentKind::Commit),
-        "generation" => Some(SpentKind::Generation),
-        "page" => Some(SpentKind::Page),
-        "slot" => Some(SpentKind::Slot),
-        "log" => Some(SpentKind::Log),
-        _ => None,
-    }
+    kind_among(&KINDS, name)
 }
 
 /// Whether a number may begin so: with no sign, and with a zero only where it is 0.

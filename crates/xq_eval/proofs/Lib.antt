@@ -1,6 +1,10 @@
--- Chains of nodes.
-pub mod Chain
-pub mod Copying
-pub mod Parts
-pub mod StringValues
-pub mod Unions
+pub mod Alone
+pub mod Counted
+pub mod Endings
+pub mod Forms
+pub mod KeysLeft
+pub mod Lists
+pub mod NodesFiltered
+pub mod Steps
+pub mod Turns
+pub mod Weight

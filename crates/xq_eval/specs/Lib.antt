@@ -1,3 +1,9 @@
--- What evaluation says of the nodes of a `Nav`.
-pub mod Walks
-pub mod Copies
+pub mod Bound
+pub mod Kept
+pub mod Meanings
+pub mod NodesAmong
+pub mod Predicates
+pub mod Queries
+pub mod Scopes
+pub mod TuplesSeen
+pub use Rattle.xq_functions.specs.Says

@@ -12,6 +12,7 @@ use Rattle.xq_ast.proofs.Names.{continues_part_is}
 use Rattle.xq_ast.specs.Names.{is_digit, begins_part, continues_part}
 use Rattle.xq_ast.specs.declared.token.Token.TheVariants as token
 use Rattle.xq_parse.proofs.Fronts.{nat_eq-true, behind-whole, front_whole, front_ends}
+use Rattle.xq_parse.proofs.Options.{bind_some, some_is}
 
 -- the rest stands behind an ASCII byte, or at one or at the end
 pub record IsBehind (bytes rest : List ℕ) : Type 0 where
@@ -105,10 +106,6 @@ abbrev pub are_words : {A : Type 0} → List (List ℕ × A) → Bool
 are_words [] = true
 are_words (row ∷ rows) = is_word row.0 && are_words rows
 
--- equal options have equal values
-pub some_is : {A : Type 0} {x y : A} → Some x ≡ Some y → x ≡ y
-some_is e = cc
-
 -- one may step over the word of the first row with which the bytes begin, where a table's spellings are words
 pub first_row_behind : {A : Type 0} (rows : List (List ℕ × A)) (bytes : List ℕ) (r : A × List ℕ) → are_words rows ≡ true → first_row rows bytes ≡ Some r
     → IsBehind bytes r.1
@@ -143,11 +140,6 @@ comments_behind (suc n) opened bytes rest e =
     turn_behind n rest (λ k after h. comments_behind n k after rest h) opened (behind (codes "(:") bytes) (behind (codes ":)") bytes) bytes refl refl e
 
 -- ---- strings
-
--- where one thing after another gives a value, the first gave one, and the second gave the value from it
-pub bind_some : {A B : Type 0} (o : Option A) (f : A → Option B) (y : B) → (o >>= f) ≡ Some y → (x : A) × (o ≡ Some x) × (f x ≡ Some y)
-bind_some None f y e = cc
-bind_some (Some x) f y e = (x, refl, e)
 
 -- a part of a string that holds some of its text is stepped over
 pub record StepsOver (bytes text rest : List ℕ) : Type 0 where

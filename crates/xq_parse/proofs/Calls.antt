@@ -15,13 +15,14 @@ use Rattle.xq_ast.specs.Tokens.{◌>>=◌}
 use Rattle.xq_ast.specs.Grammar as grammar
 use Rattle.xq_ast.specs.Grammar.{IsSingle, IsExpr, IsUpdate, IsCall, is_statement, is_statement_word}
 use Rattle.xq_ast.specs.Readings.{Reader, Relation, word, a_name, variable, expr, single, alone_at, relation, inserted, insert, replace, rename, deleted, an_update, alone, named, document, begin, show, updating, query, row, call_over}
-use Rattle.xq_parse.proofs.Taken.{bind_some, some_is, same_bytes, Front, Takes, step_sound, last_sound, token_sound, stands_sound, under, choose, word_takes, a_name_takes, variable_takes}
+use Rattle.xq_parse.proofs.Taken.{same_bytes, Front, Takes, step_sound, last_sound, token_sound, stands_sound, under, choose, word_takes, a_name_takes, variable_takes}
 use Rattle.xq_parse.proofs.Sound.{single_takes, expr_takes}
 use Rattle.xq_parse.proofs.Turns.{then_is}
 use Rattle.xq_parse.proofs.Follow.{rank, word_rank, word_rank_is}
 use Rattle.xq_parse.proofs.Balance.{nest, nest-left, nest-right}
 use Rattle.xq_parse.proofs.Complete.{single_starts, expr_read}
 use Rattle.xq_parse.proofs.Singles.{single_read}
+use Rattle.xq_parse.proofs.Options.{bind_some, some_is}
 
 -- ---- updates that are read
 

@@ -6,6 +6,7 @@ pub mod Follow
 pub mod Fronts
 pub mod Fuel
 pub mod Loops
+pub mod Options
 pub mod Balance
 pub mod ParsedRows
 pub mod Readings

@@ -88,21 +88,22 @@ module _ (close : List Token → Option (List Token)) (inner : Reader Expr) (b :
   not_closed : close ts ≡ None
   not_closed = ap close (sym same) ∙ (looked ∙ (untaken b ts left o takes found).0)
 
-  -- with its closing bracket it is read
-  pub content_some : (e : Expr) (us more : List Token) → expr inner left ≡ Some (e, us) → close us ≡ Some more → content close inner ts ≡ Some (Some e, more)
+  -- it is read just where its closing bracket is
+  content_is : (e : Expr) (us : List Token) (end : Option (List Token)) → expr inner left ≡ Some (e, us) → close us ≡ end
+      → content close inner ts ≡ (end >>= (λ more. let x : Option (Option Expr × List Token) = Some (Some e, more) in x))
   unfolding content
-  content_some e us more reads closed =
+  content_is e us end reads closed =
       ap (content_at close inner ts) not_closed
       ∙ (ap (λ o. o >>= (λ e. close e.1 >>= (λ us. let x : Option (Option Expr × List Token) = Some (Some e.0, us) in x))) (ap (expr inner) (sym (untaken b ts left o takes found).1) ∙ reads)
       ∙ ap (λ o. o >>= (λ us. let x : Option (Option Expr × List Token) = Some (Some e, us) in x)) closed)
 
+  -- with its closing bracket it is read
+  pub content_some : (e : Expr) (us more : List Token) → expr inner left ≡ Some (e, us) → close us ≡ Some more → content close inner ts ≡ Some (Some e, more)
+  content_some e us more reads closed = content_is e us (Some more) reads closed
+
   -- without its closing bracket it is not
   pub content_none : (e : Expr) (us : List Token) → expr inner left ≡ Some (e, us) → close us ≡ None → content close inner ts ≡ None
-  unfolding content
-  content_none e us reads closed =
-      ap (content_at close inner ts) not_closed
-      ∙ (ap (λ o. o >>= (λ e. close e.1 >>= (λ us. let x : Option (Option Expr × List Token) = Some (Some e.0, us) in x))) (ap (expr inner) (sym (untaken b ts left o takes found).1) ∙ reads)
-      ∙ ap (λ o. o >>= (λ us. let x : Option (Option Expr × List Token) = Some (Some e, us) in x)) closed)
+  content_none e us reads closed = content_is e us None reads closed
 
 -- what stands in round brackets, of which the closing one was not found at once
 module _ (inner : Reader Expr) (b : Bool) (ts seen left : List Token) (o : Option (List Token))

@@ -24,7 +24,8 @@ use Rattle.xq_ast.specs.Grammar as grammar
 use Rattle.xq_ast.specs.Grammar.{IsTest, IsExpr, IsList, IsCommas, IsContent, IsArguments, IsSingle, IsFlwor, IsClause, IsClauses, IsBind, IsBinds, IsLet, IsLets, IsWhere, IsOrder, IsKey, IsKeys, IsIf, IsOr, IsOrs, IsAnd, IsAnds, IsComp, IsRange, IsSum, IsSumParts, IsProduct, IsProductParts, IsUnion, IsUnions, IsSigned, IsPath, IsSteps, IsFilter, IsPreds, IsPrimary, IsStep, is_keyword, is_test_word, is_doc_word, is_function_word, plain, name_token, axis_word, compare_symbol, sign_symbol, sequence_of, group_of, or_of, and_of, sum_of, product_of, union_of, signed_of, filter_of, path_of, steps_of, key, sum_part, product_part, step_behind}
 use Rattle.xq_ast.specs.Grammar.{step as step_with}
 use Rattle.xq_ast.specs.Readings.{Reader, Behind, Operand, Begins, ClauseWord, comma, close_round, close_square, close_curly, open_square, assign, word, two_words, a_name, variable, compare_op, sum_op, product_op, union_op, slash, behind_name, followed, there, put, commas, list, expr, content_at, content, arguments_at, arguments, pred, preds, axis_of, kind_of, name_test, named_test, test, named_step, bare_step, step, steps, named_operand, operand, doc, primary, filtered, path_at, path, signs, signed, unions, union, product_parts, product, sum_parts, sum, range, comp, ands, and, ors, or, place, bind_in, bind, more_binds, binds, let_bind, more_lets, lets, clause_word, clause, more_clauses, first_clause, clauses, filter_at, filter, direction, key_at, sort_key, more_keys, sort_keys, order_at, order, flwor, an_if, named_begins, begins, single_at, single_over, single}
-use Rattle.xq_parse.proofs.Taken.{bind_some, some_is, same_bytes, Front, Takes, TakesToken, step_sound, last_sound, token_sound, end_sound, nothing_sound, stands_sound, under, followed_sound, items_sound, paired_sound, comma_takes, close_round_takes, close_square_takes, close_curly_takes, open_square_takes, assign_takes, choose, word_takes, two_words_take, there_takes, union_op_takes, slash_token, slash_takes, sum_token, sum_op_takes, product_token, product_op_takes, compare_op_takes, a_name_takes, variable_takes, clause_token, clause_word_takes, IsBehind, behind_is}
+use Rattle.xq_parse.proofs.Taken.{same_bytes, Front, Takes, TakesToken, step_sound, last_sound, token_sound, end_sound, nothing_sound, stands_sound, under, followed_sound, items_sound, paired_sound, comma_takes, close_round_takes, close_square_takes, close_curly_takes, open_square_takes, assign_takes, choose, word_takes, two_words_take, there_takes, union_op_takes, slash_token, slash_takes, sum_token, sum_op_takes, product_token, product_op_takes, compare_op_takes, a_name_takes, variable_takes, clause_token, clause_word_takes, IsBehind, behind_is}
+use Rattle.xq_parse.proofs.Options.{bind_some, some_is}
 
 -- ---- tests and steps
 

@@ -14,15 +14,7 @@ use Rattle.xq_ast.specs.declared.tree.ProductOp.TheVariants.{Times, Idiv, Mod}
 use Rattle.xq_ast.specs.Tokens.{◌>>=◌}
 use Rattle.xq_ast.specs.Grammar.{is_keyword, compare_symbol}
 use Rattle.xq_ast.specs.Readings.{Reader, Behind, ClauseWord, comma, close_round, close_square, close_curly, open_square, assign, word, two_words, a_name, variable, compare_op, sum_op, product_op, union_op, slash, behind_name, repeated_at, repeated, items, followed, paired_at, paired, there, there_at, clause_word}
-
--- where one thing after another gives a value, the first gave one, and the second gave the value from it
-pub bind_some : {A B : Type 0} (o : Option A) (f : A → Option B) (y : B) → (o >>= f) ≡ Some y → (x : A) × (o ≡ Some x) × (f x ≡ Some y)
-bind_some None f y e = cc
-bind_some (Some x) f y e = (x, refl, e)
-
--- equal options have equal values
-pub some_is : {A : Type 0} {x y : A} → Some x ≡ Some y → x ≡ y
-some_is e = cc
+use Rattle.xq_parse.proofs.Options.{bind_some, some_is}
 
 -- bytes that a test finds equal are equal
 pub same_bytes : (a b : List ℕ) → bytes_eq a b ≡ true → a ≡ b

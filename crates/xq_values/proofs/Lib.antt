@@ -1,4 +1,5 @@
 pub mod Contents
+pub mod NewElements
 pub mod Fronts
 pub mod Keys
 pub mod Longs

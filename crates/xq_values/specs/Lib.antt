@@ -1,5 +1,6 @@
 pub mod Contents
 pub mod Digits
+pub mod Elements
 pub mod Gives
 pub mod Lists
 pub mod Ranges

@@ -1,6 +1,6 @@
 // Journals, read from their text.
 ghost use Rattle.std.specs.Prelude.{◌≡◌, ◌≢◌, [], List, map, IfOk, IfSome, IsNone, MatchOption};
-ghost use Rattle.session_core.specs.declared.event.Event.{Event};
+ghost use Rattle.session_core.specs.declared.history.event.Event.{Event};
 ghost use Rattle.script_text.specs.JournalRead.{IsToldBy, TellNothing, Tells};
 ghost use Rattle.script_text.specs.JournalRows.{IsWhole, answer_event};
 ghost use Rattle.script_text.specs.JournalSteps.{ReadsBehind, ReadsEvent, ReadsRow};

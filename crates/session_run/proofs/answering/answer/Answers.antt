@@ -1,5 +1,5 @@
 use Rattle.session_core.proofs.Answering.{answers_keep_legal}
-use Rattle.session_core.specs.Kept.{past}
+use Rattle.session_core.specs.Keeping.Kept.{past}
 use Rattle.session_run.proofs.Memory.{undamaged}
 use Rattle.session_run.proofs.Outcomes.{order_answers}
 use Rattle.session_run.proofs.answering.answer.Goals as goal

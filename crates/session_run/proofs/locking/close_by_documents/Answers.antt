@@ -1,6 +1,6 @@
 use Rattle.std.proofs.Common.{Some, refl}
 use Rattle.session_run.proofs.Closing.{stays}
-use Rattle.session_core.specs.Kept.{past}
+use Rattle.session_core.specs.Keeping.Kept.{past}
 use Rattle.session_run.proofs.Memory.{lacking}
 use Rattle.session_run.proofs.locking.close_by_documents.Goals as goal
 

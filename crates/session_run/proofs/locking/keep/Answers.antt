@@ -1,6 +1,6 @@
 use Rattle.std.proofs.Common.{◌≡◌, Some, OnOk, refl, sym, ap, subst, ◌∙◌}
 use Rattle.std.specs.FinMap as map
-use Rattle.session_core.specs.Kept.{past}
+use Rattle.session_core.specs.Keeping.Kept.{past}
 use Rattle.session_run.specs.Answers.{answered}
 use Rattle.xml_model.specs.Changes.{ChangeMap, unshared}
 use Rattle.session_run.specs.Effects.{with_change}

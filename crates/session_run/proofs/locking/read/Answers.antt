@@ -1,5 +1,5 @@
 use Rattle.std.proofs.Common.{Some}
-use Rattle.session_core.specs.Kept.{past}
+use Rattle.session_core.specs.Keeping.Kept.{past}
 use Rattle.session_run.proofs.Calling.{read_right}
 use Rattle.session_run.proofs.Closing.{on_ok, answer_closes}
 use Rattle.session_run.proofs.Memory.{lacking}

@@ -1,6 +1,6 @@
 use Rattle.std.proofs.Common.{Some, refl, subst}
-use Rattle.session_core.specs.Kept.{past, AskEnds}
-use Rattle.session_core.specs.declared.event.Event.TheVariants.{Refused}
+use Rattle.session_core.specs.Keeping.Kept.{past, AskEnds}
+use Rattle.session_core.specs.declared.history.event.Event.TheVariants.{Refused}
 use Rattle.session_run.specs.declared.outcome.Outcome.TheVariants.{LockHeld}
 use Rattle.session_run.proofs.Outcomes.{ends_with}
 use Rattle.session_run.proofs.Closing.{stays}

@@ -1,10 +1,10 @@
 use Rattle.std.proofs.Common.{◌≡◌, None, Some, refl, subst}
 use Rattle.xq_ast.specs.declared.call.Call.TheVariants.{Checkpoint}
-use Rattle.session_core.specs.declared.event.Says.TheVariants as says
-use Rattle.session_core.specs.Answering as answers
-use Rattle.session_core.specs.Kept.{past}
-use Rattle.session_core.specs.States.{state}
-use Rattle.session_core.specs.Refusals.{refused_in, work_of}
+use Rattle.session_core.specs.declared.history.event.Says.TheVariants as says
+use Rattle.session_core.specs.History.Answering as answers
+use Rattle.session_core.specs.Keeping.Kept.{past}
+use Rattle.session_core.specs.History.States.{state}
+use Rattle.session_core.specs.History.Refusals.{refused_in, work_of}
 use Rattle.session_run.proofs.Memory.{unrun_here}
 use Rattle.session_run.proofs.Closing.{stays}
 use Rattle.session_run.proofs.Calling.{checkpoints_idle}

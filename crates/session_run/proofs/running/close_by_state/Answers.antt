@@ -1,6 +1,6 @@
 use Rattle.std.proofs.Common.{refl, sym, ap, ◌∙◌}
-use Rattle.session_core.specs.Kept.{past}
-use Rattle.session_core.specs.Refusals.{refused_in, work_of}
+use Rattle.session_core.specs.Keeping.Kept.{past}
+use Rattle.session_core.specs.History.Refusals.{refused_in, work_of}
 use Rattle.session_run.proofs.Memory.{refused_right}
 use Rattle.session_run.proofs.Closing.{stays}
 use Rattle.session_run.proofs.running.close_by_state.Goals as goal

@@ -1,7 +1,7 @@
 use Rattle.std.proofs.Common.{None, refl, subst, sym, ap, ◌∙◌}
-use Rattle.session_core.specs.declared.event.Says.TheVariants as says
+use Rattle.session_core.specs.declared.history.event.Says.TheVariants as says
 use Rattle.session_run.specs.Calls.{IsAnswerInMemory}
-use Rattle.session_core.specs.Kept.{past, with_event}
+use Rattle.session_core.specs.Keeping.Kept.{past, with_event}
 use Rattle.session_core.proofs.Beside.{none_in_doubt}
 use Rattle.session_run.specs.Answers.{answered}
 use Rattle.session_run.proofs.Closing.{on_ok, ready_unrun}

@@ -1,7 +1,7 @@
 use Rattle.std.proofs.Common.{Some, OnOk, refl, subst}
-use Rattle.session_core.specs.declared.event.BeginKind.TheVariants as kinds
-use Rattle.session_core.specs.declared.event.Event.TheVariants as events
-use Rattle.session_core.specs.Kept.{Kept, past}
+use Rattle.session_core.specs.declared.history.event.BeginKind.TheVariants as kinds
+use Rattle.session_core.specs.declared.history.event.Event.TheVariants as events
+use Rattle.session_core.specs.Keeping.Kept.{Kept, past}
 use Rattle.session_run.specs.Tied.{StaysReady}
 use Rattle.session_run.proofs.Tying.{tied_began}
 use Rattle.session_run.proofs.Closing.{ready_behind}

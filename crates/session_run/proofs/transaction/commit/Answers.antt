@@ -2,10 +2,10 @@ use Rattle.std.proofs.Common.{Some, refl}
 use Rattle.xq_ast.specs.declared.call.Call.TheVariants.{Commit}
 use Rattle.xq_ast.specs.declared.code.Code.TheVariants as codes
 use Rattle.xq_ast.specs.declared.code.SpentKind.TheVariants as spent
-use Rattle.session_core.specs.declared.event.Says.TheVariants as says
-use Rattle.session_core.specs.Settling.{last_number}
-use Rattle.session_core.specs.Answering as answers
-use Rattle.session_core.specs.Kept.{past}
+use Rattle.session_core.specs.declared.history.event.Says.TheVariants as says
+use Rattle.session_core.specs.History.Settling.{last_number}
+use Rattle.session_core.specs.History.Answering as answers
+use Rattle.session_core.specs.Keeping.Kept.{past}
 use Rattle.session_run.proofs.Closing.{stays}
 use Rattle.session_run.proofs.Calling.{none_left}
 use Rattle.session_run.proofs.Memory.{lacking, unrun_here}

@@ -1,5 +1,5 @@
 use Rattle.std.proofs.Common.{◌∙◌, ap, sym}
-use Rattle.session_core.specs.Kept.{past, forest_in}
+use Rattle.session_core.specs.Keeping.Kept.{past, forest_in}
 use Rattle.xml_model.specs.Changes.{laid_over}
 use Rattle.session_run.proofs.Calling.{behind_changes}
 use Rattle.session_run.proofs.transaction.commit_changes.Goals as goal

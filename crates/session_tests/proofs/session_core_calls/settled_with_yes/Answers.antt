@@ -1,10 +1,10 @@
 use Rattle.std.proofs.Common.{◌≡◌, [], ◌∷◌, Some, true, refl, sym, ap, subst, ◌∙◌}
 use Rattle.xq_ast.specs.declared.call.Call.TheVariants.{Create}
 use Rattle.xml_model.specs.Needs.{needs}
-use Rattle.session_core.specs.declared.event.Says.TheVariants as says
-use Rattle.session_core.specs.declared.calls.CoreCall.TheVariants as calls
-use Rattle.session_core.specs.CoreCalls.{CanMake}
-use Rattle.session_core.proofs.MadeHistories.{calls_of, nothing, yes_steps, yes_can}
+use Rattle.session_core.specs.declared.history.event.Says.TheVariants as says
+use Rattle.session_core.specs.declared.keeping.calls.CoreCall.TheVariants as calls
+use Rattle.session_core.specs.Keeping.CoreCalls.{CanMake}
+use Rattle.session_core.proofs.Worked.MadeHistories.{calls_of, nothing, yes_steps, yes_can}
 use Rattle.session_tests.proofs.session_core_calls.settled_with_yes.Goals as goal
 
 pub returns : goal.returns

@@ -1,8 +1,8 @@
 use Rattle.std.proofs.Common.{◌≡◌, ◌+◌, false, IsTrue, length, slice_index_or, refl, ap, sym, subst, ◌∙◌, arith}
 use Rattle.std.proofs.lemmas.Bool.{ltb-true}
-use Rattle.session_core.specs.States.{state, is_open}
-use Rattle.session_core.specs.Kept.{with_event, past}
-use Rattle.session_core.specs.declared.event.Event.TheVariants.{Left}
+use Rattle.session_core.specs.History.States.{state, is_open}
+use Rattle.session_core.specs.Keeping.Kept.{with_event, past}
+use Rattle.session_core.specs.declared.history.event.Event.TheVariants.{Left}
 use Rattle.xdb_top.specs.Playing.{HasHadTurn}
 use Rattle.xdb_top.proofs.Seats.{passed_over, turn_goes_on, turn_ends, calls_at, none_left, up_after_next, broke_off_next, ready_as, others_as}
 use Rattle.xdb_top.proofs.Playing.{where_err}

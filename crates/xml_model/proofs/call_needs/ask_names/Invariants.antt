@@ -1,5 +1,4 @@
 use Rattle.std.proofs.Common.{◌≡◌, ◌++◌, drop, map}
-use Rattle.xq_ast.specs.declared.need.Need.{Need}
 use Rattle.xml_model.proofs.call_needs.ask_names.Given as goal
 
 abbrev pub invariant-loop-name : goal.invariant-loop-name

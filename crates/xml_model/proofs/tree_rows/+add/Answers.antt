@@ -1,8 +1,6 @@
-use Rattle.std.proofs.Common.{◌-◌, ◌+◌, ◌∙◌, map, length, vec_len, ap, arith, refl}
-use Rattle.xml_model.specs.declared.tree_rows.Entry.{Entry}
+use Rattle.std.proofs.Common.{◌-◌, ◌∙◌, vec_len, ap, arith}
 use Rattle.xml_model.specs.declared.tree_rows.PlacedRef.TheVariants as placed_ref
 use Rattle.xml_model.specs.Nav.{told_of}
-use Rattle.xml_model.specs.Numbering.{kid_rows, node_rows}
 use Rattle.xml_model.specs.Place.{a_node}
 use Rattle.xml_model.proofs.Building.{element_added, text_added, instruction_added}
 use Rattle.xml_model.proofs.Numbers.{length-all_kid_rows}

@@ -1,7 +1,4 @@
-use Rattle.std.proofs.Common.{◌≡◌, ◌+◌, ◌-◌, ◌≤◌, map, IfOk, sym, ap, subst, ◌∙◌, arith}
-use Rattle.std.specs.List.{slice_get}
-use Rattle.xml_model.specs.declared.limits.TheConstants.{NODES_MAX}
-use Rattle.xml_model.specs.Numbering.{tree_rows}
+use Rattle.std.proofs.Common.{map, sym, ap, ◌∙◌, arith}
 use Rattle.xml_model.specs.TreeRows.{placed_by, row_of}
 use Rattle.xml_model.proofs.RowCalls.{first_absent, first_none, first_there, within}
 use Rattle.xml_model.proofs.tree_rows.TreeRows.first.Goals as goal

@@ -1,7 +1,5 @@
-use Rattle.std.proofs.Common.{◌≡◌, ◌+◌, ◌-◌, ◌≤◌, map, IfOk, sym, ap, subst, ◌∙◌, arith}
+use Rattle.std.proofs.Common.{◌-◌, map, sym, ap, ◌∙◌, arith}
 use Rattle.std.specs.List.{slice_get}
-use Rattle.xml_model.specs.declared.limits.TheConstants.{NODES_MAX}
-use Rattle.xml_model.specs.Numbering.{tree_rows}
 use Rattle.xml_model.specs.TreeRows.{placed_by, row_of}
 use Rattle.xml_model.proofs.RowCalls.{next_absent, next_of_root, next_there, next_none, holder_there, back_of_entry, size_of_entry, within}
 use Rattle.xml_model.proofs.tree_rows.TreeRows.next.Goals as goal

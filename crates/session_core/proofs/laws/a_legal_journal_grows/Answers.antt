@@ -1,5 +1,0 @@
-use Rattle.session_core.proofs.Growing.{grows}
-use Rattle.session_core.proofs.laws.a_legal_journal_grows.Goals as goal
-
-pub returns : goal.returns
-returns c = grows

@@ -1,5 +1,0 @@
-use Rattle.session_core.proofs.Growing.{begins}
-use Rattle.session_core.proofs.laws.an_empty_journal_is_legal.Goals as goal
-
-pub returns : goal.returns
-returns c = begins

@@ -1,5 +1,0 @@
-use Rattle.std.proofs.Common.{◌≡◌, ◌++◌, drop}
-use Rattle.xq_eval.proofs.merging.add_all.Given as goal
-
-abbrev pub invariant-loop-n : goal.invariant-loop-n
-invariant-loop-n l = l.all ++ drop l.n-index l.more ≡ l.initial.all ++ l.more

@@ -1,0 +1,12 @@
+use Rattle.std.proofs.Common.{map}
+use Rattle.xml_model.specs.DocumentOrder.{in_order}
+use Rattle.xml_model.specs.Nodes.{node_cmp}
+use Rattle.xq_values.specs.Seen.{node_seen}
+use Rattle.xq_nodes.proofs.Answering.{looks_so}
+use Rattle.xq_nodes.proofs.lists.in_order.Goals as goal
+
+pub returns : goal.returns
+returns g c =
+    let nav = c.args.nav.now in
+    let seen = node_seen (g.N.Nav.place nav) in
+    looks_so (g.N.Nav.honest nav) (g.N.Nav.passes nav) (map seen) c.ordered.result (in_order node_cmp (map seen c.args.nodes)) c.ordered.ensures.gives c.ordered.ensures.fault
