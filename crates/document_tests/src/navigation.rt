@@ -258,7 +258,7 @@ impl<'a> Nav for Failing<'a> {
 }
 
 /// The documents, of which so many calls are answered.
-pub(crate) fn failing(docs: &DocMap, calls: u32) -> Result<Failing, NoMemory> {
+pub(crate) fn failing_after(docs: &DocMap, calls: u32) -> Result<Failing, NoMemory> {
     Ok(Failing {
         nav: TreeNav::of(docs)?,
         left: Cell::new(calls),
@@ -267,7 +267,7 @@ pub(crate) fn failing(docs: &DocMap, calls: u32) -> Result<Failing, NoMemory> {
 
 /// Whether the nodes below the document `e` are found where so many calls are answered.
 fn is_found(alloc: Global, docs: &DocMap, calls: u32) -> Result<bool, NoMemory> {
-    let nav = failing(docs, calls)?;
+    let nav = failing_after(docs, calls)?;
     match on_axis(alloc, &nav, Axis::Descendant, id(1, 0)) {
         Ok(all) => Ok(all.len() == 5),
         Err(NavEnd::Nav(Broken)) => Ok(false),

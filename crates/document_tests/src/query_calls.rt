@@ -1,5 +1,5 @@
 //! What no clause says of queries: that they are answered where there is memory, and a `Nav` that fails.
-use crate::navigation::{Failing, failing, two_documents};
+use crate::navigation::{Failing, failing_after, two_documents};
 use std::alloc::Global;
 use std::test::Fail;
 use xml_model::{Nav, TreeNav};
@@ -31,7 +31,7 @@ enum Answer {
     NoQuery,
 }
 
-fn answer<N: Nav>(alloc: Global, nav: &N, text: &str) -> Result<Answer, NoMemory> {
+fn answered<N: Nav>(alloc: Global, nav: &N, text: &str) -> Result<Answer, NoMemory> {
     let Some(expr) = expression(alloc, text)? else {
         return Ok(Answer::NoQuery);
     };
@@ -69,7 +69,7 @@ fn queries_are_answered(rt: HostRuntime) -> Result<(), Fail> {
         ),
         ("count(doc('B')/a | doc('e')//node())", Answer::Lines(1)),
     ] {
-        assert_eq!(rt; answer(alloc, &nav, text)?, want);
+        assert_eq!(rt; answered(alloc, &nav, text)?, want);
     }
     Ok(())
 }
@@ -96,8 +96,8 @@ fn a_fault_ends_a_query(rt: HostRuntime) -> Result<(), Fail> {
     let docs = two_documents(alloc)?;
     let mut faults: u32 = 0;
     for calls in 0..64 {
-        let nav: Failing = failing(&docs, calls)?;
-        match answer(alloc, &nav, "doc('e')/r/i[@n = 'w']")? {
+        let nav: Failing = failing_after(&docs, calls)?;
+        match answered(alloc, &nav, "doc('e')/r/i[@n = 'w']")? {
             Answer::Fault => faults += 1,
             other => assert_eq!(rt; other, Answer::Lines(5)),
         }
