@@ -13,6 +13,6 @@ returns-clause-effect c =
     let F = laid_over c.args.changes.now.changes c.args.base.now in
     let effect : Effect = record { says = c.in_ok-answer_of.field-0; change = Rattle.std.proofs.Common.None } in
     let agree : AgreeAt (needs (Query c.args.expr.now)) c.in_ok-docs.docs F =
-        subst (λ asked. AgreeAt asked c.in_ok-docs.docs F) (c.in_ok-needed.ensures ∙ ap needs c.requires.call) c.in_ok-docs.ensures.named in
+    subst (λ asked. AgreeAt asked c.in_ok-docs.docs F) (c.in_ok-needed.ensures ∙ ap needs c.requires.call) c.in_ok-docs.ensures.named in
     subst (λ call. IsEffect call c.args.changes.now.changes c.args.base.now effect) (sym c.requires.call)
     (record { says = c.in_ok-answer_of.ensures.says ∙ ap says_of (query_says c.in_ok-docs.docs F c.args.expr.now agree); leaves = λ G same. refl })
