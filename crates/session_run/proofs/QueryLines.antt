@@ -1,5 +1,5 @@
 -- The lines of answers to queries have no newlines.
-use Rattle.std.proofs.Common.{◌≡◌, ℕ, Bool, true, false, length, IsTrue, List, refl, subst}
+use Rattle.std.proofs.Common.{◌≡◌, Bool, true, false, length, IsTrue, List, refl, subst}
 use Rattle.std.specs.Prelude.{if◌then◌else◌, nat_lt, Result, Ok, Err}
 use Rattle.std.specs.FinMap as map
 use Rattle.xml_model.specs.Forest.{Forest, IsForest}
