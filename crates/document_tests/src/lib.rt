@@ -10,15 +10,7 @@ mod byte_edge_calls;
 #[cfg(test)]
 mod flat_doc_calls;
 #[cfg(test)]
-mod function_calls;
-#[cfg(test)]
-mod navigation;
-#[cfg(test)]
-mod node_calls;
-#[cfg(test)]
 mod pyx_text_calls;
-#[cfg(test)]
-mod query_calls;
 #[cfg(test)]
 mod xml_model_calls;
 #[cfg(test)]

@@ -1,8 +1,8 @@
 -- The value of an expression, counted, is what the expression means.
-use Rattle.std.specs.Prelude.{◌≡◌, ℕ, List, [], ◌∷◌, map, Option, Some, None, refl}
+use Rattle.std.specs.Prelude.{◌≡◌, List, [], ◌∷◌, map, Some, None, refl}
 use Rattle.std.proofs.Common.{sym, ap, ◌∙◌}
 use Rattle.xq_ast.specs.declared.tree.Bind.{Bind, out-Bind, map-Bind}
-use Rattle.xq_ast.specs.declared.tree.Bind.TheOpen.{Bind-F, Expr-F, Start-F, ProductPart-F, SortKey-F, Step-F, SumPart-F}
+use Rattle.xq_ast.specs.declared.tree.Bind.TheOpen.{Bind-F, Expr-F, Start-F}
 use Rattle.xq_ast.specs.declared.tree.Bind.TheFolds.{fold-Bind, fold-Expr, fold-Start, fold-ProductPart, fold-SortKey, fold-Step, fold-SumPart, fold_out-Bind, fold_out-Expr, fold_out-Start, fold_out-ProductPart, fold_out-SortKey, fold_out-Step, fold_out-SumPart}
 use Rattle.xq_ast.specs.declared.tree.Expr.{Expr, out-Expr, map-Expr}
 use Rattle.xq_ast.specs.declared.tree.ProductPart.{ProductPart, outs-ProductPart', map-ProductPart}
@@ -13,8 +13,8 @@ use Rattle.xq_ast.specs.declared.tree.SumPart.{SumPart, outs-SumPart', map-SumPa
 use Rattle.xml_model.specs.Items.{Documents, Made, then_with}
 use Rattle.xml_model.specs.FunctionAnswers.{Context}
 use Rattle.xml_model.specs.Tuples.{Bindings, Means, BindMeans, KeyMeans}
-use Rattle.xml_model.specs.Evaluation.{meaning, StepMeans, ProductMeans, SumMeans, counted, value_of, bind_step, expr_step, start_step, product_step, key_step, step_step, sum_step}
-use Rattle.xq_eval.specs.Meanings.{means, option_means, key_means, product_means, sum_means, step_means, bind_means, bind_layer, start_means, start_layer, layer, value_means}
+use Rattle.xml_model.specs.Evaluation.{meaning, StepMeans, ProductMeans, SumMeans, counted, bind_step, expr_step, start_step, product_step, key_step, step_step, sum_step}
+use Rattle.xq_eval.specs.Meanings.{means, key_means, product_means, sum_means, step_means, bind_means, bind_layer, start_means, start_layer, layer, value_means}
 
 each_same : {A B : Type 0} (f g : A → B) → ((x : A) → f x ≡ g x) → (xs : List A) → map f xs ≡ map g xs
 each_same f g same [] = refl

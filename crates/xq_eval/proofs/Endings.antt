@@ -1,5 +1,5 @@
 -- What an answer of a part says of the whole, over plain variables.
-use Rattle.std.specs.Prelude.{◌≡◌, List, Result, Ok, Err, IsErrAnd, refl}
+use Rattle.std.specs.Prelude.{◌≡◌, List, Result, Ok, Err, IsErrAnd}
 use Rattle.std.proofs.Common.{sym, ap, ◌∙◌, subst}
 use Rattle.xq_ast.specs.declared.code.Code.{Code}
 use Rattle.xml_model.specs.Items.{Made, Making, then_with, plain}

@@ -1,26 +1,23 @@
 -- The meaning of each kind of part of a query.
-use Rattle.std.specs.Prelude.{◌≡◌, ℕ, ℤ, List, map, Option, refl}
-use Rattle.std.proofs.Common.{sym, ap, ◌∙◌}
-use Rattle.xq_ast.specs.declared.tree.Bind.{Bind, out-Bind, map-Bind}
+use Rattle.std.specs.Prelude.{◌≡◌, ℕ, ℤ, List, map, Option}
+use Rattle.std.proofs.Common.{ap}
+use Rattle.xq_ast.specs.declared.tree.Bind.{Bind}
 use Rattle.xq_ast.specs.declared.tree.Bind.TheVariants as bind
 use Rattle.xq_ast.specs.declared.tree.Bind.TheVariants.{outs-For, outs-Let}
-use Rattle.xq_ast.specs.declared.tree.Bind.TheOpen.{Bind-F, Expr-F, Start-F, ProductPart-F, SortKey-F, Step-F, SumPart-F}
-use Rattle.xq_ast.specs.declared.tree.Bind.TheFolds.{fold-Bind, fold-Expr, fold-Start, fold-ProductPart, fold-SortKey, fold-Step, fold-SumPart, fold_out-Bind, fold_out-Expr, fold_out-Start, fold_out-ProductPart, fold_out-SortKey, fold_out-Step, fold_out-SumPart}
+use Rattle.xq_ast.specs.declared.tree.Bind.TheOpen.{Bind-F, Expr-F}
 use Rattle.xq_ast.specs.declared.tree.CompareOp.{CompareOp}
-use Rattle.xq_ast.specs.declared.tree.Expr.{Expr, out-Expr, map-Expr}
+use Rattle.xq_ast.specs.declared.tree.Expr.{Expr}
 use Rattle.xq_ast.specs.declared.tree.Expr.TheVariants as expr
 use Rattle.xq_ast.specs.declared.tree.Expr.TheVariants.{outs-Text, outs-Int, outs-Var, outs-Context, outs-Seq, outs-Flwor, outs-If, outs-Or, outs-And, outs-Compare, outs-Range, outs-Sum, outs-Product, outs-Union, outs-Signed, outs-Path, outs-Filter, outs-Fun, outs-Doc, outs-Element, outs-Attribute, outs-TextNode}
-use Rattle.xq_ast.specs.declared.tree.ProductPart.{ProductPart, outs-ProductPart', map-ProductPart}
+use Rattle.xq_ast.specs.declared.tree.ProductPart.{ProductPart}
 use Rattle.xq_ast.specs.declared.tree.Sign.{Sign}
-use Rattle.xq_ast.specs.declared.tree.SortKey.{SortKey, outs-SortKey', map-SortKey}
-use Rattle.xq_ast.specs.declared.tree.Start.{Start, out-Start, map-Start}
+use Rattle.xq_ast.specs.declared.tree.SortKey.{SortKey}
+use Rattle.xq_ast.specs.declared.tree.Start.{Start}
 use Rattle.xq_ast.specs.declared.tree.Start.TheVariants as start
 use Rattle.xq_ast.specs.declared.tree.Start.TheVariants.{outs-Value, outs-First}
-use Rattle.xq_ast.specs.declared.tree.Step.{Step, outs-Step', map-Step}
-use Rattle.xq_ast.specs.declared.tree.SumPart.{SumPart, outs-SumPart', map-SumPart}
-use Rattle.xml_model.specs.Items.{Documents, Made, ◌>>=◌}
-use Rattle.xml_model.specs.FunctionAnswers.{Context}
-use Rattle.xml_model.specs.Tuples.{Bindings, Means, BindMeans, KeyMeans}
+use Rattle.xq_ast.specs.declared.tree.Step.{Step}
+use Rattle.xq_ast.specs.declared.tree.SumPart.{SumPart}
+use Rattle.xml_model.specs.Items.{Documents}
 use Rattle.xml_model.specs.Evaluation as spec
 use Rattle.xml_model.specs.Evaluation.{StepMeans, counted, value_of}
 use Rattle.xq_eval.specs.Meanings.{means, option_means, key_means, product_means, sum_means, step_means, bind_means, bind_layer, start_means, start_layer, layer, value_means}

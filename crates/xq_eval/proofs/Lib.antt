@@ -1,10 +1,15 @@
 pub mod Alone
 pub mod Counted
+pub mod DeepNodes
+pub mod DeepSteps
+pub mod DeepWays
 pub mod Endings
 pub mod Forms
 pub mod KeysLeft
 pub mod Lists
 pub mod NodesFiltered
+pub mod SameNodes
 pub mod Steps
 pub mod Turns
+pub mod UnionsOfMany
 pub mod Weight

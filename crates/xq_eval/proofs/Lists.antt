@@ -1,33 +1,27 @@
 -- Lists of items, of nodes and of variables, and what they are seen as.
-use Rattle.std.specs.Prelude.{◌≡◌, ℕ, ◌+◌, ◌-◌, ◌≤◌, Bool, true, false, List, [], ◌∷◌, map, length, take, drop, Option, Some, None, Result, Ok, Err, IsTrue, refl}
-use Rattle.std.proofs.Common.{get_or, sym, ap, ◌∙◌, arith, true≢false}
+use Rattle.std.specs.Prelude.{◌≡◌, ℕ, ◌+◌, ◌-◌, ◌≤◌, false, List, [], ◌∷◌, map, length, take, drop, Option, Some, None, IsTrue, refl}
+use Rattle.std.proofs.Common.{get_or, sym, ap, arith, true≢false}
 use Rattle.std.proofs.lemmas.List.{take_all}
-use Rattle.xq_ast.specs.declared.code.Code.{Code}
 use Rattle.xq_ast.specs.declared.tree.Bind.TheOpen.{Expr-F}
-use Rattle.xq_ast.specs.declared.tree.Expr.{Expr}
 use Rattle.xq_ast.specs.declared.tree.SortKey.{SortKey}
 use Rattle.xml_model.specs.Constructors.{limited_text, spaced}
-use Rattle.xml_model.specs.DocumentOrder.{union}
 use Rattle.xml_model.specs.Evaluation as spec
 use Rattle.xml_model.specs.FunctionAnswers.{Context}
-use Rattle.xml_model.specs.Items as items
-use Rattle.xml_model.specs.Items.{Documents, NodeAt, Made, node, give, plain, then_with, construct}
+use Rattle.xml_model.specs.Items.{Documents, Made, node, give, plain, then_with, construct}
 use Rattle.xml_model.specs.Nav.{Stored}
-use Rattle.xml_model.specs.Nodes.{atomized, tested, node_cmp}
+use Rattle.xml_model.specs.Nodes.{atomized}
 use Rattle.xml_model.specs.Place.{a_node}
 use Rattle.xml_model.specs.Tuples.{Bindings}
 use Rattle.xml_model.specs.declared.nav.Id.{Id}
 use Rattle.xml_model.specs.declared.node.Node.TheVariants.{Text}
-use Rattle.xq_ast.specs.declared.step.Axis.TheVariants.{DescendantOrSelf}
-use Rattle.xq_ast.specs.declared.step.Test.TheVariants.{AnyNode}
-use Rattle.xq_values.specs.Seen.{node_seen, item_seen}
+use Rattle.xq_values.specs.Seen.{node_seen}
 use Rattle.xq_values.specs.declared.item.Item.{Item}
 use Rattle.xq_values.specs.declared.item.Item.TheVariants as item
 use Rattle.xq_values.specs.declared.item.NodeId.{NodeId}
 use Rattle.xq_eval.specs.Bound.{bound_of, bound_item}
 use Rattle.xq_eval.specs.Meanings.{key_means}
 use Rattle.xq_eval.specs.NodesAmong.{nodes_among, ids_among}
-use Rattle.xq_eval.specs.Scopes.{items_seen, variables_seen, without_trees}
+use Rattle.xq_eval.specs.Scopes.{items_seen, variables_seen}
 
 -- nodes as items
 pub entries_seen : (place : Id → Stored) (ns : List NodeId) → items_seen place (map item.Node ns) ≡ map node (map (node_seen place) ns)
@@ -56,12 +50,6 @@ bound_seen docs place name (Some at) position (x ∷ all) = ap (λ more. variabl
 pub directions_are : (docs : Documents) (keys : List SortKey) → map (λ k. k.descending) (map (key_means docs) keys) ≡ map (λ k. k.descending) keys
 directions_are docs [] = refl
 directions_are docs (k ∷ keys) = ap (λ more. k.descending ∷ more) (directions_are docs keys)
-
--- what `//` stands for makes no tree
-pub below_plain : (docs : Documents) (joined ns : List NodeAt) (made : Made)
-    → spec.from_each (spec.below docs) joined ns made ≡ plain (without_trees (spec.from_each (spec.below docs) joined ns made)) made
-below_plain docs joined [] made = refl
-below_plain docs joined (n ∷ ns) made = below_plain docs (union node_cmp joined (tested docs made DescendantOrSelf AnyNode n)) ns made
 
 -- a text of some items
 pub text_made : (docs : Documents) (place : Id → Stored) (all : List Item) (env : Bindings) (cx : Context) (made : Made) → (all ≡ [] → IsTrue false)

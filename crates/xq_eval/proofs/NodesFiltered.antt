@@ -4,7 +4,7 @@ use Rattle.std.proofs.Common.{sym, ap, ◌∙◌}
 use Rattle.std.proofs.lemmas.List.{length-map}
 use Rattle.xq_ast.specs.declared.code.Code.{Code}
 use Rattle.xml_model.specs.Evaluation.{holds_at, kept, filtered}
-use Rattle.xml_model.specs.Items.{NodeAt, Item, Items, node, Made, Making, give, plain, then_with, ◌>>=◌}
+use Rattle.xml_model.specs.Items.{NodeAt, Item, node, Made, Making, give, plain, then_with, ◌>>=◌}
 use Rattle.xml_model.specs.Tuples.{Bindings, Means}
 use Rattle.xq_eval.specs.NodesAmong.{nodes_among}
 

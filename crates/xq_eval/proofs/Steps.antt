@@ -1,8 +1,8 @@
 -- What one step after another gives, where each is known.
-use Rattle.std.specs.Prelude.{◌≡◌, List, [], ◌++◌, Result, Ok, Err, refl}
-use Rattle.std.proofs.Common.{sym, ap, ◌∙◌}
+use Rattle.std.specs.Prelude.{◌≡◌, Result, Ok, Err}
+use Rattle.std.proofs.Common.{ap}
 use Rattle.xq_ast.specs.declared.code.Code.{Code}
-use Rattle.xml_model.specs.Items.{Made, Making, then_with, plain, ◌>>?◌}
+use Rattle.xml_model.specs.Items.{Made, Making, then_with, plain}
 
 -- a step that gives something is followed by the next
 pub goes_on : {A B : Type 0} (f : A → Making B) {d : Result (A × Made) Code} {x : A} {m : Made} → d ≡ Ok (x, m) → then_with d f ≡ f x m

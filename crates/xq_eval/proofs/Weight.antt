@@ -1,19 +1,19 @@
 -- How much a part of a query holds: the measure of evaluation.
-use Rattle.std.specs.Prelude.{◌≡◌, ℕ, ℤ, zero, suc, ◌+◌, ◌<◌, ◌≤◌, List, [], ◌∷◌, map, length, Option, Some, None, refl}
+use Rattle.std.specs.Prelude.{◌≡◌, ℕ, zero, suc, ◌+◌, ◌<◌, ◌≤◌, List, [], ◌∷◌, map, length, Option, Some, None}
 use Rattle.std.proofs.Common.{get_or, sym, ap, ◌∙◌, subst, arith}
-use Rattle.xq_ast.specs.declared.tree.Bind.{Bind, out-Bind, map-Bind}
+use Rattle.xq_ast.specs.declared.tree.Bind.{Bind, map-Bind}
 use Rattle.xq_ast.specs.declared.tree.Bind.TheVariants as bind
 use Rattle.xq_ast.specs.declared.tree.Bind.TheVariants.{outs-For, outs-Let}
 use Rattle.xq_ast.specs.declared.tree.Bind.TheOpen.{Bind-F, Expr-F, Start-F, ProductPart-F, SortKey-F, Step-F, SumPart-F}
 use Rattle.xq_ast.specs.declared.tree.Bind.TheFolds.{fold-Bind, fold-Expr, fold-Start, fold-ProductPart, fold-SortKey, fold-Step, fold-SumPart, fold_out-Bind, fold_out-Expr, fold_out-Start, fold_out-ProductPart, fold_out-SortKey, fold_out-Step, fold_out-SumPart}
 use Rattle.xq_ast.specs.declared.tree.CompareOp.{CompareOp}
-use Rattle.xq_ast.specs.declared.tree.Expr.{Expr, out-Expr, map-Expr}
+use Rattle.xq_ast.specs.declared.tree.Expr.{Expr, map-Expr}
 use Rattle.xq_ast.specs.declared.tree.Expr.TheVariants as expr
 use Rattle.xq_ast.specs.declared.tree.Expr.TheVariants.{outs-Seq, outs-Flwor, outs-If, outs-Or, outs-And, outs-Compare, outs-Range, outs-Sum, outs-Product, outs-Union, outs-Signed, outs-Path, outs-Filter, outs-Fun, outs-Element, outs-Attribute, outs-TextNode}
 use Rattle.xq_ast.specs.declared.tree.ProductPart.{ProductPart, outs-ProductPart', map-ProductPart}
 use Rattle.xq_ast.specs.declared.tree.Sign.{Sign}
 use Rattle.xq_ast.specs.declared.tree.SortKey.{SortKey, outs-SortKey', map-SortKey}
-use Rattle.xq_ast.specs.declared.tree.Start.{Start, out-Start, map-Start}
+use Rattle.xq_ast.specs.declared.tree.Start.{Start, map-Start}
 use Rattle.xq_ast.specs.declared.tree.Start.TheVariants as start
 use Rattle.xq_ast.specs.declared.tree.Start.TheVariants.{outs-Value, outs-First}
 use Rattle.xq_ast.specs.declared.tree.Step.{Step, outs-Step', map-Step}

@@ -2,6 +2,7 @@ pub mod Bound
 pub mod Kept
 pub mod Meanings
 pub mod NodesAmong
+pub mod Paths
 pub mod Predicates
 pub mod Queries
 pub mod Scopes

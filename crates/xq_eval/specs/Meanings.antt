@@ -1,5 +1,5 @@
 -- The meaning of each part of a query, with one equation for each kind of part (proofs/Forms).
-use Rattle.std.specs.Prelude.{Bool, List, map, Option, option_map}
+use Rattle.std.specs.Prelude.{map, Option, option_map}
 use Rattle.xq_ast.specs.declared.tree.Bind.{Bind, out-Bind}
 use Rattle.xq_ast.specs.declared.tree.Expr.{Expr, out-Expr}
 use Rattle.xq_ast.specs.declared.tree.Start.{Start, out-Start}

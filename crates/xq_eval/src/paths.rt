@@ -1,5 +1,5 @@
 //! Paths.
-ghost use Rattle.std.specs.Prelude.{◌≡◌, [], Ok, map, IfOk};
+ghost use Rattle.std.specs.Prelude.{◌≡◌, [], map, IfOk};
 ghost use Rattle.std.specs.FinMap as forests;
 ghost use Rattle.xq_values.specs.Seen.{made_seen};
 ghost use Rattle.xq_nodes.specs.Answers.{Leaves};
@@ -12,6 +12,7 @@ ghost use Rattle.xq_ast.specs.declared.tree.Bind.TheOpen.{Expr-F};
 ghost use Rattle.xq_nodes.specs.Answers.{Looks};
 ghost use Rattle.xq_values.specs.Seen.{node_seen};
 ghost use Rattle.xq_eval.specs.NodesAmong.{ids_among};
+ghost use Rattle.xq_eval.specs.Paths as steps;
 ghost use Rattle.xq_values.specs.declared.item.Item.TheVariants.{Node};
 ghost use Rattle.xq_eval.specs.Meanings.{means, start_means, step_means};
 ghost use Rattle.xq_eval.specs.Scopes.{items_seen, without_trees};
@@ -56,22 +57,38 @@ fn nodes_among(alloc: Global, items: &[Item]) -> Result<NodeIds, NoMemory>
     Ok(nodes)
 }
 
-// The nodes themselves and all below them, in document order, each once.
-fn below_each<N: Nav>(
+// Where an axis leads from each of the nodes, tested, in document order, each once.
+fn tested_each<N: Nav>(
     alloc: Global,
     nav: &N,
     made: &[MadeRoot],
+    axis: Axis,
+    test: &Test,
     nodes: &[NodeId],
 ) -> Result<NodeIds, EvalEnd<N::Fault>>
     ensures { Looks (N.honest nav.now) (N.passes nav.now) (map (node_seen (N.place nav.now))) result
-        (without_trees (spec.from_each (spec.below (forests.get (N.forest nav.now))) [] (map (node_seen (N.place nav.now)) nodes.now) (made_seen made.now))) }
+        (without_trees (steps.tested_each (forests.get (N.forest nav.now)) axis test.now (map (node_seen (N.place nav.now)) nodes.now) (made_seen made.now))) }
 {
     let mut joining = Joining::new(alloc);
     for n in nodes {
-        let more = tested(alloc, nav, made, Axis::DescendantOrSelf, &Test::AnyNode, n)?;
+        let more = tested(alloc, nav, made, axis, test, n)?;
         joining.push(nav, more)?;
     }
     joining.finish(nav)
+}
+
+// Whether a step takes all children that pass its test.
+fn takes_children(step: &Step) -> bool
+    ensures { result ≡ steps.takes_children step.now }
+{
+    match step.axis {
+        Axis::Child => step.preds.is_empty(),
+        Axis::Descendant => false,
+        Axis::DescendantOrSelf => false,
+        Axis::Itself => false,
+        Axis::Attribute => false,
+        Axis::Parent => false,
+    }
 }
 
 impl<'a, N: Nav> Scope<'a, N> {
@@ -135,7 +152,25 @@ impl<'a, N: Nav> Scope<'a, N> {
         if !step.deep {
             return self.from_each(step, nodes.as_slice(), made);
         }
-        let all = below_each(self.alloc, self.nav, made.as_slice(), nodes.as_slice())?;
+        // The children of the nodes and of all below them are what stands below the nodes.
+        if takes_children(step) {
+            return tested_each(
+                self.alloc,
+                self.nav,
+                made.as_slice(),
+                Axis::Descendant,
+                &step.test,
+                nodes.as_slice(),
+            );
+        }
+        let all = tested_each(
+            self.alloc,
+            self.nav,
+            made.as_slice(),
+            Axis::DescendantOrSelf,
+            &Test::AnyNode,
+            nodes.as_slice(),
+        )?;
         self.from_each(step, all.as_slice(), made)
     }
 

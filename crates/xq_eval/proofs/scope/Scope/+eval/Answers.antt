@@ -1,5 +1,5 @@
-use Rattle.std.proofs.Common.{◌≡◌, ◌<◌, ◌≤◌, ◌+◌, ◌-◌, ◌*◌, ◌++◌, ◌∷◌, [], List, Result, map, drop, take, length, get_or, refl, sym, ap, ◌∙◌, subst, arith, Ok, Err, Some, None, true, false}
-use Rattle.std.specs.Prelude.{if◌then◌else◌, ◌==◌}
+use Rattle.std.proofs.Common.{◌≡◌, ◌<◌, ◌≤◌, ◌+◌, ◌-◌, ◌*◌, ◌++◌, ◌∷◌, [], List, Result, map, drop, take, length, sym, ap, ◌∙◌, subst, arith, Ok}
+use Rattle.std.specs.Prelude.{if◌then◌else◌}
 use Rattle.std.specs.FinMap as forests
 use Rattle.std.specs.Option.{option_copied}
 use Rattle.xq_ast.specs.declared.code.Code.{Code}
@@ -14,25 +14,27 @@ use Rattle.xml_model.specs.Nodes.{atomized, tested, nodes_or, united_all}
 use Rattle.xml_model.specs.Place.{an_attribute}
 use Rattle.xml_model.specs.Tuples as tuples
 use Rattle.xq_functions.specs.Focuses.{focus_seen}
-use Rattle.xq_functions.specs.Operands.{sum_seen, product_seen}
-use Rattle.xq_nodes.specs.Joins.{joined_seen, IsRight}
 use Rattle.xq_values.specs.Rows.{row_seen}
 use Rattle.xq_values.specs.Seen.{made_seen, node_seen}
 use Rattle.xq_values.specs.declared.item.Item.TheVariants as item
 use Rattle.xq_eval.specs.Bound.{variable_of, bound_of}
+use Rattle.xq_ast.specs.declared.step.Axis.TheVariants.{Descendant, DescendantOrSelf}
+use Rattle.xq_ast.specs.declared.step.Test.TheVariants.{AnyNode}
 use Rattle.xq_eval.specs.Meanings.{means, value_means, option_means, sum_means, product_means, step_means, bind_means, key_means, start_means}
+use Rattle.xq_eval.specs.Paths.{tested_each}
 use Rattle.xq_eval.specs.NodesAmong.{nodes_among, ids_among}
 use Rattle.xq_eval.specs.Predicates.{holds_in}
 use Rattle.xq_eval.specs.Scopes.{items_seen, variables_seen, context_seen, without_trees}
 use Rattle.xq_eval.specs.TuplesSeen.{keyed_seen, tuples_seen}
 use Rattle.xq_eval.proofs.Counted.{means_counted}
-use Rattle.xq_eval.proofs.Endings.{same, looked, exits, exits_looking, exits_plainly, exits_code, exits_no_memory, exits_so}
+use Rattle.xq_eval.proofs.DeepSteps.{tested_plain, deep_children}
+use Rattle.xq_eval.proofs.Endings.{same, looked, exits, exits_looking, exits_plainly, exits_code, exits_no_memory}
 use Rattle.xq_eval.proofs.Forms as forms
 use Rattle.xq_eval.proofs.KeysLeft.{others_left}
-use Rattle.xq_eval.proofs.Lists.{entries_seen, ids_seen, bound_seen, directions_are, below_plain, opened, others}
+use Rattle.xq_eval.proofs.Lists.{entries_seen, ids_seen, bound_seen, directions_are, opened, others}
 use Rattle.xq_eval.proofs.NodesFiltered.{mapped, nodes_filtered}
 use Rattle.xq_eval.proofs.Steps.{goes_on, stops, looks_on, looks_no_more, given}
-use Rattle.xq_eval.proofs.Turns.{left_with, left_none}
+use Rattle.xq_eval.proofs.Turns.{left_with}
 use Rattle.xq_eval.proofs.Weight.{total, weight, option_weight, bind_weight, key_weight, start_weight, step_weight, sum_weight, product_weight, bind_holds, item_below, weight-Seq, weight-Flwor, weight-If, weight-Or, weight-And, weight-Compare, weight-Range, weight-Sum, weight-Product, weight-Union, weight-Signed, weight-Path, weight-Filter, weight-Fun, weight-Element, weight-Attribute, weight-TextNode, weight-For, weight-Let, weight-Value, weight-First, weight-ProductPart, weight-SortKey, weight-Step, weight-SumPart}
 use Rattle.xq_eval.proofs.scope.Scope.+eval.Goals as goal
 
@@ -600,6 +602,25 @@ stays-returns-in_ok-effective_boolean-in-Some g t c =
     λ w. ap (λ o. tuples.stays docs (option_means docs o) env cx before) c.in-Some.is ∙ (goes_on _ (sym (ap (λ x. means docs x env cx before)
     c.get.ensures) ∙ c.in_ok-value-in-Some.ensures w) ∙ (looks_on (sym (c.in_ok-effective_boolean-in-Some.ensures place ∙ fx))))
 
+pub stepped-returns-then-takes_children : goal.stepped-returns-then-takes_children
+stepped-returns-then-takes_children g t c =
+    let nav = c.args.self.now.nav.now in
+    let scope = c.args.self.now in
+    let docs = forests.get (g.N.Nav.forest nav) in
+    let place = g.N.Nav.place nav in
+    let env = variables_seen place scope.variables.now in
+    let before = made_seen c.args.made.now in
+    let nodes = map (node_seen place) c.args.nodes in
+    let found = without_trees (tested_each docs Descendant c.args.step.now.test (map (node_seen place) c.as_slice-then-takes_children-2.result.now)
+    (made_seen c.as_slice-then-takes_children.result.now)) in
+    let fx : found ≡ without_trees (tested_each docs Descendant c.args.step.now.test nodes before) = λ i. without_trees (tested_each docs Descendant
+    c.args.step.now.test (map (node_seen place) (c.as_slice-then-takes_children-2.ensures i)) (made_seen (c.as_slice-then-takes_children.ensures i))) in
+    same (g.N.Nav.honest nav) (g.N.Nav.passes nav) (map (node_seen place)) c.tested_each.result before (plain found before)
+    (spec.stepped docs (step_means docs c.args.step.now) env nodes before)
+    (λ w. ap (λ r. plain r before) fx ∙ (sym (tested_plain docs before Descendant c.args.step.now.test nodes)
+    ∙ sym (deep_children docs before c.args.step.now env nodes c.if-not-step.false (sym c.takes_children.ensures ∙ c.if-takes_children.true))))
+    (looked (g.N.Nav.honest nav) (g.N.Nav.passes nav) (map (node_seen place)) c.tested_each.result before found c.tested_each.ensures)
+
 pub stepped-returns : goal.stepped-returns
 stepped-returns g t c =
     let nav = c.args.self.now.nav.now in
@@ -608,16 +629,16 @@ stepped-returns g t c =
     let place = g.N.Nav.place nav in
     let env = variables_seen place scope.variables.now in
     let before = made_seen c.args.made.now in
-    let fx : without_trees (spec.from_each (spec.below docs) [] (map (node_seen place) c.as_slice-3.result.now) (made_seen c.as_slice-2.result.now))
-    ≡ without_trees (spec.from_each (spec.below docs) [] (map (node_seen place) c.args.nodes) before) = λ i. without_trees (spec.from_each
-    (spec.below docs) [] (map (node_seen place) (c.as_slice-3.ensures i)) (made_seen (c.as_slice-2.ensures i))) in
+    let fx : without_trees (tested_each docs DescendantOrSelf AnyNode (map (node_seen place) c.as_slice-3.result.now) (made_seen c.as_slice-2.result.now))
+    ≡ without_trees (tested_each docs DescendantOrSelf AnyNode (map (node_seen place) c.args.nodes) before) = λ i. without_trees (tested_each
+    docs DescendantOrSelf AnyNode (map (node_seen place) (c.as_slice-3.ensures i)) (made_seen (c.as_slice-2.ensures i))) in
     same (g.N.Nav.honest nav) (g.N.Nav.passes nav) (map (node_seen place)) c.from_each-2.result (made_seen c.from_each-2.new.made) (spec.from_each
     ((step_means docs c.args.step.now).from_node env) [] (map (node_seen place) c.as_slice-4.result.now) before) (spec.stepped docs (step_means
     docs c.args.step.now) env (map (node_seen place) c.args.nodes) before)
     (λ w. ap (λ ns. spec.from_each ((step_means docs c.args.step.now).from_node env) [] (map (node_seen place) ns) before) c.as_slice-4.ensures ∙ sym
     (ap (λ b. then_with ((if b then spec.from_each (spec.below docs) [] (map (node_seen place) c.args.nodes) else give (map (node_seen place)
     c.args.nodes)) before) (spec.from_each ((step_means docs c.args.step.now).from_node env) [])) c.if-not-step.false
-    ∙ goes_on _ (below_plain docs [] (map (node_seen place) c.args.nodes) before ∙ looks_on (sym fx ∙ c.in_ok-all.ensures w)))) c.from_each-2.ensures
+    ∙ goes_on _ (tested_plain docs before DescendantOrSelf AnyNode (map (node_seen place) c.args.nodes) ∙ looks_on (sym fx ∙ c.in_ok-all.ensures w)))) c.from_each-2.ensures
 
 pub truth-returns-in_err-effective_boolean : goal.truth-returns-in_err-effective_boolean
 truth-returns-in_err-effective_boolean g t c =
