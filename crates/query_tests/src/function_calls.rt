@@ -267,6 +267,7 @@ fn called(
 fn functions_answer_of_the_context(rt: HostRuntime) -> Result<(), Fail> {
     let alloc = rt.alloc();
     let docs = documents(alloc)?;
+    let none = Vec::new(alloc);
     for (name, want) in [
         ("position", "=2\n"),
         ("last", "=3\n"),
@@ -276,11 +277,11 @@ fn functions_answer_of_the_context(rt: HostRuntime) -> Result<(), Fail> {
         ("true", "=true\n"),
         ("false", "=false\n"),
     ] {
-        let said = called(alloc, &docs, name, [].as_slice(), Some(stored(4)))?;
+        let said = called(alloc, &docs, name, none.as_slice(), Some(stored(4)))?;
         assert_eq!(rt; said.as_str(), want, "{name}");
     }
     for name in ["position", "last", "string", "name", "string-length"] {
-        let said = called(alloc, &docs, name, [].as_slice(), None)?;
+        let said = called(alloc, &docs, name, none.as_slice(), None)?;
         assert_eq!(rt; said.as_str(), "XPDY0002", "{name}");
     }
     Ok(())

@@ -353,8 +353,13 @@ fn what_stands_at_a_place_and_its_copy(rt: HostRuntime) -> Result<(), Fail> {
     let there = made_at(made.as_slice(), &MadePlace { tree: 0, place });
     assert!(rt; matches!(there, Some(PlacedRef::Attribute(attr)) if attr.value.as_str() == "1"));
     let copied = copy(alloc, &nav, Id { doc: 0, node: 4 });
-    assert!(rt;
-        matches!(copied, Ok(Copied::Node { node: Node::Text { value } }) if value.as_str() == "x")
-    );
+    match &copied {
+        Ok(
+            Copied::Node {
+                node: Node::Text { value },
+            },
+        ) => assert_eq!(rt; value.as_str(), "x"),
+        _ => assert!(rt; false),
+    }
     Ok(())
 }

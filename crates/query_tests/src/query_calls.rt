@@ -94,14 +94,19 @@ fn items_and_constructed_trees(rt: HostRuntime) -> Result<(), Fail> {
 fn a_fault_ends_a_query(rt: HostRuntime) -> Result<(), Fail> {
     let alloc = rt.alloc();
     let docs = two_documents(alloc)?;
-    let mut faults: u32 = 0;
+    let mut has_failed = false;
+    let mut has_answered = false;
     for calls in 0..64 {
         let nav: Failing = failing_after(&docs, calls)?;
         match answered(alloc, &nav, "doc('e')/r/i[@n = 'w']")? {
-            Answer::Fault => faults += 1,
-            other => assert_eq!(rt; other, Answer::Lines(5)),
+            Answer::Fault => has_failed = true,
+            other => {
+                assert_eq!(rt; other, Answer::Lines(5));
+                has_answered = true;
+            }
         }
     }
-    assert_eq!(rt; faults > 0 && faults < 64, true);
+    assert!(rt; has_failed);
+    assert!(rt; has_answered);
     Ok(())
 }
