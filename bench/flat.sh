@@ -1,8 +1,8 @@
 #!/usr/bin/env bash
-# Times `put_flat` and `get_flat` over a document whose text has 64 MiB, and weighs what they hold. Beside them stand what they
-# rest on: `write_doc` into a vector and the same number of pages of zeros, and the reader alone over the same lines, where the
-# heap is as it is for `get_flat`. The least of five runs counts. Run at the top of the repository, on a machine that does nothing
-# else. The program is proved before it is built.
+# Times `put_flat` and `get_flat` over a document whose text has 64 MiB, and weighs what they hold. Each stands beside what it rests
+# on: `put_flat` beside `write_doc` into a vector and the same number of pages without a text, `get_flat` beside the reader alone,
+# over the same lines and in the same heap. The least of five runs counts. Run at the top of the repository, on a machine that does
+# nothing else. The program is proved before it is built.
 set -eu
 cd "$(dirname "$0")/.."
 folder=$(mktemp -d)
@@ -18,8 +18,8 @@ echo 'flat_bench: byte_edge xq_ast xml_model pyx_text page_bytes flat_doc' >> "$
 
 cat > "$bench/src/main.rt" <<'PROGRAM'
 //! Reads a document of 64 MiB from its lines. Then, as the first word says, no more (`read`); or writes it into a vector (`write`);
-//! or makes as many pages as it takes (`pages`); or puts it on pages (`put`), drops it, and gets it from there (`get`) or reads it
-//! from its lines again (`again`). Prints the microseconds of what the word names.
+//! or makes as many pages as it takes (`pages`); or puts it on pages (`put`), and then gets another from there (`get`) or reads
+//! another from its lines (`again`), while the first stays. Prints the microseconds of what the word names.
 #![tactic(auto)]
 
 use byte_edge::MemSink;
@@ -159,7 +159,6 @@ fn measure(rt: &HostRuntime, way: &str) -> io::Result<()> {
     if way == "put" {
         return println!(rt; "{putting}");
     }
-    drop(doc);
     if way == "again" {
         return println!(rt; "{}", again(rt, lines.as_slice())?);
     }
