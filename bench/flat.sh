@@ -1,7 +1,8 @@
 #!/usr/bin/env bash
-# Times `put_flat` and `get_flat` over a document whose text has 64 MiB, beside the reader's time over the same lines and
-# `write_doc`'s into a vector, and weighs what they hold besides the pages and the document. The least of five runs counts. Run
-# at the top of the repository, on a machine that does nothing else. The program is proved before it is built.
+# Times `put_flat` and `get_flat` over a document whose text has 64 MiB, and weighs what they hold. Each stands beside what it rests
+# on: `put_flat` beside `write_doc` into a vector and the same number of pages without a text, `get_flat` beside the reader alone,
+# over the same lines and in the same heap. The least of five runs counts. Run at the top of the repository, on a machine that does
+# nothing else. The program is proved before it is built.
 set -eu
 cd "$(dirname "$0")/.."
 folder=$(mktemp -d)
@@ -16,13 +17,14 @@ done
 echo 'flat_bench: byte_edge xq_ast xml_model pyx_text page_bytes flat_doc' >> "$folder/crates.txt"
 
 cat > "$bench/src/main.rt" <<'PROGRAM'
-//! Reads a document of 64 MiB from its lines. Then, as far as the first word says (`read`, `write`, `put`, `get`), writes it into a
-//! vector, or puts it on pages, and gets it from there. Prints the microseconds of the reading and of what the word names.
+//! Reads a document of 64 MiB from its lines. Then, as the first word says, no more (`read`); or writes it into a vector (`write`);
+//! or makes as many pages as it takes (`pages`); or puts it on pages (`put`), and then gets another from there (`get`) or reads
+//! another from its lines (`again`), while the first stays. Prints the microseconds of what the word names.
 #![tactic(auto)]
 
 use byte_edge::MemSink;
 use flat_doc::{get_flat, put_flat};
-use page_bytes::{PageEnd, PageSet, Space, Workspace};
+use page_bytes::{PageEnd, PageId, PageSet, Space, Workspace};
 use pyx_text::{PyxReader, write_doc};
 use std::alloc::Global;
 use std::env;
@@ -38,6 +40,9 @@ const SPACE: Space = Space {
 
 /// How often the four lines stand in the document. They have 83 bytes with their newlines.
 const COUNT: u64 = 808540;
+
+/// How many pages the document takes.
+const PAGES: u64 = 16388;
 
 fn filled(reader: &mut PyxReader, lines: &[Str]) -> Result<(), PageEnd> {
     for line in lines {
@@ -90,6 +95,31 @@ fn written(rt: &HostRuntime, doc: &Doc) -> io::Result<u64> {
     micros(rt, start)
 }
 
+fn paged(rt: &HostRuntime, work: &mut Workspace) -> io::Result<u64> {
+    let start = Instant::now(rt)?;
+    if work.open_space(SPACE).is_err() {
+        return Ok(0);
+    }
+    for number in 0..PAGES {
+        let id = PageId {
+            space: SPACE,
+            number,
+        };
+        if work.edit(id).is_err() {
+            return Ok(0);
+        }
+    }
+    micros(rt, start)
+}
+
+fn again(rt: &HostRuntime, lines: &[Str]) -> io::Result<u64> {
+    let start = Instant::now(rt)?;
+    if document(rt.alloc(), lines).is_err() {
+        return Ok(0);
+    }
+    micros(rt, start)
+}
+
 fn put(rt: &HostRuntime, doc: &Doc, work: &mut Workspace) -> io::Result<u64> {
     let start = Instant::now(rt)?;
     if put_flat(rt.alloc(), doc, SPACE, work).is_err() {
@@ -116,18 +146,23 @@ fn measure(rt: &HostRuntime, way: &str) -> io::Result<()> {
     };
     let reading = micros(rt, start)?;
     if way == "read" {
-        return println!(rt; "{reading} {reading}");
+        return println!(rt; "{reading}");
     }
     if way == "write" {
-        return println!(rt; "{reading} {}", written(rt, &doc)?);
+        return println!(rt; "{}", written(rt, &doc)?);
     }
     let mut work = Workspace::over(rt.alloc(), PageSet::new(rt.alloc()));
+    if way == "pages" {
+        return println!(rt; "{}", paged(rt, &mut work)?);
+    }
     let putting = put(rt, &doc, &mut work)?;
     if way == "put" {
-        return println!(rt; "{reading} {putting}");
+        return println!(rt; "{putting}");
     }
-    drop(doc);
-    println!(rt; "{reading} {}", got(rt, &work)?)
+    if way == "again" {
+        return println!(rt; "{}", again(rt, lines.as_slice())?);
+    }
+    println!(rt; "{}", got(rt, &work)?)
 }
 
 fn main(rt: HostRuntime) -> io::Result<()> {
@@ -148,7 +183,6 @@ import subprocess
 import sys
 
 RUNS = int(os.environ.get("RUNS", "5"))
-PAGES = 16388 * 4096 / 1048576
 
 
 def run(way):
@@ -159,17 +193,16 @@ def run(way):
 
 def one_run(words):
     child = subprocess.Popen(words, stdout=subprocess.PIPE)
-    times = [int(word) / 1000 for word in child.stdout.read().split()]
+    time = int(child.stdout.read()) / 1000
     _, status, used = os.wait4(child.pid, 0)
-    if status != 0 or len(times) != 2 or times[1] == 0:
+    if status != 0 or time == 0:
         sys.exit("the program failed")
-    return times[1], used.ru_maxrss / 1024
+    return time, used.ru_maxrss / 1024
 
 
-alone = None
-for way in ("read", "write", "put", "get"):
-    time, peak = run(way)
-    alone = alone or peak
-    print("%-5s %8.1f ms, peak %7.1f MiB, %7.1f MiB above the document, of which pages %5.1f MiB"
-          % (way, time, peak, peak - alone, PAGES if way in ("put", "get") else 0))
+# each way, with the one that it is compared with
+done = {}
+for way, other in (("read", "read"), ("write", "read"), ("pages", "read"), ("put", "pages"), ("again", "again"), ("get", "again")):
+    time, peak = done[way] = run(way)
+    print("%-5s %8.1f ms, peak %7.1f MiB, which is that of %-5s and %6.1f MiB" % (way, time, peak, other, peak - done[other][1]))
 PY

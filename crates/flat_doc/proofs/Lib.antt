@@ -3,7 +3,9 @@ mod Rows
 mod Looking
 mod Running
 mod Spaces
+mod FirstNewline
 mod Spelled
+mod LineByLine
 mod UpTo
 mod Standing
 mod Others

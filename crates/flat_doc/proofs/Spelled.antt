@@ -8,10 +8,10 @@ use Rattle.page_bytes.specs.declared.end.PageEnd.TheVariants.{Damaged, NoMemory}
 use Rattle.page_bytes.specs.Head.{head_of}
 use Rattle.xml_model.specs.declared.node.Doc.{Doc}
 use Rattle.xml_model.specs.declared.node.RefusedLine.{RefusedLine}
-use Rattle.xml_model.specs.Pyx.{Line, Reading, start, step, after, ended, read, text_of, in_front, split_lines, IsPlain, ◌>>=◌}
+use Rattle.xml_model.specs.Pyx.{Line, Reading, start, step, after, ended, read, text_of, in_front, split_lines, IsPlain, ArePlain, ◌>>=◌}
 use Rattle.xml_model.proofs.TextAgain.{first_line}
 use Rattle.flat_doc.specs.Reading.{IsTextOf, SpellsNone}
-use Rattle.flat_doc.specs.Lines.{ArePlain, IsRead, Reads, GivesDoc}
+use Rattle.flat_doc.specs.Lines.{IsRead, Reads, GivesDoc}
 
 -- a text that goes on behind some lines
 text_of-more : (lines : List Line) (line : Line) (rest : List ℕ) → (text_of lines ++ line) ++ 10 ∷ rest ≡ text_of (lines ++ line ∷ []) ++ rest
@@ -38,9 +38,10 @@ ArePlain-more : (lines : List Line) (line : Line) → ArePlain lines → IsPlain
 ArePlain-more [] line plain is = (is, tt)
 ArePlain-more (first ∷ lines) line plain is = (plain.0, ArePlain-more lines line plain.1 is)
 
-pub IsPlain-more : (line : List ℕ) (byte : ℕ) → IsPlain line → (byte == 10) ≡ false → IsPlain (line ++ byte ∷ [])
-IsPlain-more [] byte plain is = (is, tt)
-IsPlain-more (b ∷ line) byte plain is = (plain.0, IsPlain-more line byte plain.1 is)
+-- bytes without a newline, behind others
+IsPlain-append : (line bytes : List ℕ) → IsPlain line → IsPlain bytes → IsPlain (line ++ bytes)
+IsPlain-append [] bytes plain is = is
+IsPlain-append (b ∷ line) bytes plain is = (plain.0, IsPlain-append line bytes plain.1 is)
 
 -- what has been read after some lines and one more
 after-more : (lines : List Line) (line : Line) (rest : List Line) (r : Reading) → after (lines ++ line ∷ rest) r ≡ (after lines r >>= (λ q. step line q >>= after rest))
@@ -91,14 +92,14 @@ none_read = record {
   kept = refl;
 }
 
--- a byte more of the line
-pub byte_read : (text : List ℕ) (reading : Result Reading RefusedLine) (line : List ℕ) (byte : ℕ) → IsRead text reading line → (byte == 10) ≡ false
-    → IsRead (text ++ byte ∷ []) reading (line ++ byte ∷ [])
-byte_read text reading line byte is other = record {
+-- More bytes of the line are read.
+pub bytes_read : (text : List ℕ) (reading : Result Reading RefusedLine) (line bytes : List ℕ) → IsRead text reading line → IsPlain bytes
+    → IsRead (text ++ bytes) reading (line ++ bytes)
+bytes_read text reading line bytes is plain = record {
   lines = is.lines;
-  whole = ap (λ l. l ++ byte ∷ []) is.whole ∙ append_assoc (text_of is.lines) line (byte ∷ []);
+  whole = ap (λ l. l ++ bytes) is.whole ∙ append_assoc (text_of is.lines) line bytes;
   plain = is.plain;
-  line_plain = IsPlain-more line byte is.line_plain other;
+  line_plain = IsPlain-append line bytes is.line_plain plain;
   utf8 = is.utf8;
   so_far = is.so_far;
   is_read = is.is_read;

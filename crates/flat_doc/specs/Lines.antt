@@ -7,12 +7,8 @@ use Rattle.page_bytes.specs.declared.end.PageEnd.TheVariants.{Damaged, NoMemory}
 use Rattle.page_bytes.specs.Head.{head_of}
 use Rattle.xml_model.specs.declared.node.Doc.{Doc}
 use Rattle.xml_model.specs.declared.node.RefusedLine.{RefusedLine}
-use Rattle.xml_model.specs.Pyx.{Line, Reading, start, after, text_of, IsPlain}
+use Rattle.xml_model.specs.Pyx.{Line, Reading, start, after, text_of, IsPlain, ArePlain}
 use Rattle.flat_doc.specs.Reading.{IsTextOf, SpellsNone}
-
-abbrev pub ArePlain : List Line → Type 0
-ArePlain [] = Unit {0}
-ArePlain (line ∷ lines) = IsPlain line × ArePlain lines
 
 -- The text is some lines, which are UTF-8 and were all read, and the beginning of one more.
 pub record IsRead (text : List ℕ) (read : Result Reading RefusedLine) (line : List ℕ) : Type 0 where

@@ -8,6 +8,7 @@
 //! states.
 #![tactic(auto)]
 
+mod cuts;
 mod flat;
 mod forms;
 mod laws;

@@ -1,9 +1,11 @@
 //! A text that comes in pieces, read as a document line by line.
 ghost use Rattle.std.specs.Prelude.{◌≡◌, ◌∷◌, ◌++◌, [], List, ℕ, OnOk, IsUtf8};
+ghost use Rattle.xml_model.specs.Pyx.{IsPlain};
 ghost use Rattle.page_bytes.specs.declared.end.PageEnd.TheVariants.{Damaged};
 ghost use Rattle.page_bytes.specs.Head.{head_of};
 ghost use Rattle.flat_doc.specs.Lines.{IsRead, Reads, GivesDoc};
 
+use crate::cuts::cut_line;
 use page_bytes::{PageEnd, PageId, Space};
 use pyx_text::{PyxFault, PyxReader};
 use std::alloc::Global;
@@ -39,25 +41,38 @@ impl Lines {
         ensures space { self.new.space ≡ self.old.space }
         ensures read { (text : List ℕ) → IsRead text self.old.reader self.old.line.items → Reads self.old.space (text ++ bytes.now) result self.new.reader self.new.line.items }
     {
-        for byte in bytes {
-            match self.read_byte(*byte) {
+        let mut rest = bytes;
+        while let Some(cut) = cut_line(rest) {
+            match self.end_line(cut.line) {
                 Ok(()) => {}
                 Err(end) => return Err(end),
             }
+            rest = cut.rest;
         }
-        Ok(())
+        self.add(rest)
     }
 
-    fn read_byte(&mut self, byte: u8) -> Result<(), PageEnd>
+    // Adds bytes to the line. None of them ends it.
+    fn add(&mut self, bytes: &[u8]) -> Result<(), PageEnd>
+        requires { IsPlain bytes.now }
         ensures space { self.new.space ≡ self.old.space }
-        ensures read { (text : List ℕ) → IsRead text self.old.reader self.old.line.items → Reads self.old.space (text ++ byte ∷ []) result self.new.reader self.new.line.items }
+        ensures read { (text : List ℕ) → IsRead text self.old.reader self.old.line.items → Reads self.old.space (text ++ bytes.now) result self.new.reader self.new.line.items }
     {
-        if byte == b'\n' {
-            return self.take_line();
-        }
-        match self.line.push(byte) {
+        match self.line.extend_from_slice(bytes) {
             Ok(()) => Ok(()),
             Err(_) => Err(PageEnd::NoMemory),
+        }
+    }
+
+    // Adds the last bytes of the line, and gives it to the reader.
+    fn end_line(&mut self, bytes: &[u8]) -> Result<(), PageEnd>
+        requires { IsPlain bytes.now }
+        ensures space { self.new.space ≡ self.old.space }
+        ensures read { (text : List ℕ) → IsRead text self.old.reader self.old.line.items → Reads self.old.space (text ++ (bytes.now ++ 10 ∷ [])) result self.new.reader self.new.line.items }
+    {
+        match self.add(bytes) {
+            Ok(()) => self.take_line(),
+            Err(end) => Err(end),
         }
     }
 

@@ -1,9 +1,13 @@
-use Rattle.std.proofs.Common.{◌≡◌, ◌++◌, List, ℕ, take}
-use Rattle.flat_doc.specs.Lines.{IsRead}
+use Rattle.std.proofs.Common.{◌≡◌, length}
+use Rattle.flat_doc.proofs.LineByLine.{IsFrontRead}
 use Rattle.flat_doc.proofs.lines.Lines.read.Given as goal
 
-abbrev pub invariant-loop-byte : goal.invariant-loop-byte
-invariant-loop-byte l = record {
+abbrev pub invariant-loop-cut : goal.invariant-loop-cut
+invariant-loop-cut l = record {
   space : l.self.space ≡ l.fn.self.space;
-  read : (text : List ℕ) → IsRead text l.fn.self.reader l.fn.self.line.items → IsRead (text ++ take l.byte-index l.bytes) l.self.reader l.self.line.items;
+  so_far : IsFrontRead l.bytes l.rest l.fn.self.reader l.self.reader l.fn.self.line.items l.self.line.items;
 }
+
+-- how many bytes are left
+abbrev pub decreases-loop-cut : goal.decreases-loop-cut
+decreases-loop-cut l = length l.rest
