@@ -27,9 +27,8 @@ use flat_doc::{get_flat, put_flat};
 use page_bytes::{PageEnd, PageId, PageSet, Space, Workspace};
 use pyx_text::{PyxReader, write_doc};
 use std::alloc::Global;
-use std::env;
-use std::io;
 use std::time::Instant;
+use std::{env, io};
 use xml_model::Doc;
 use xq_ast::Str;
 

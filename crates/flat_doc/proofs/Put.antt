@@ -1,5 +1,5 @@
 -- The pages of a text that was put have that text.
-use Rattle.std.proofs.Common.{◌≡◌, ◌⊎◌, inl, inr, ℕ, zero, suc, ◌+◌, ◌-◌, ◌*◌, ◌/◌, ◌%◌, ◌^◌, ◌<◌, ◌≤◌, min, Bool, true, false, not, ◌&&◌, ◌||◌, List, [], ◌∷◌, ◌++◌, length, take, drop, replicate, Option, None, Some, Result, Ok, Err, OnOk, IsUtf8, unwrap_or, refl, sym, ap, ◌∙◌, subst, arith, if◌then◌else◌}
+use Rattle.std.proofs.Common.{◌≡◌, ◌⊎◌, inl, inr, ℕ, zero, suc, ◌+◌, ◌-◌, ◌*◌, ◌/◌, ◌%◌, ◌^◌, ◌<◌, ◌≤◌, min, Bool, true, false, not, ◌&&◌, ◌||◌, List, [], ◌∷◌, ◌++◌, length, take, drop, replicate, Option, Some, Result, Ok, Err, OnOk, IsUtf8, unwrap_or, refl, sym, ap, ◌∙◌, subst, arith, if◌then◌else◌}
 use Rattle.std.proofs.lemmas.Bool.{cases_lt}
 use Rattle.std.proofs.lemmas.List.{append_assoc, append-nil, length-append, length-take, length-drop, length-replicate, take-append-drop, take_all, take_at, drop_at, replicate-append-replicate}
 use Rattle.std.proofs.lemmas.Nat.{div-add-mod', mod_below}
@@ -10,8 +10,8 @@ use Rattle.std.specs.declared.cmp.Ordering.TheVariants.{Less, Equal, Greater}
 use Rattle.byteorder.specs.Endian.{big_bytes}
 use Rattle.page_bytes.specs.declared.ids.Space.{Space}
 use Rattle.page_bytes.specs.declared.ids.PageId.{PageId}
-use Rattle.page_bytes.specs.Fields.{field, with_field}
-use Rattle.page_bytes.specs.Known.{PageMap, Known, is_unknown}
+use Rattle.page_bytes.specs.Fields.{with_field}
+use Rattle.page_bytes.specs.Known.{PageMap, Known}
 use Rattle.page_bytes.specs.Links.{page_in}
 use Rattle.page_bytes.specs.Order.{page_cmp}
 use Rattle.page_bytes.specs.Seen.{PagesByNumber, seen, bytes}

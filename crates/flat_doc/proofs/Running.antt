@@ -1,11 +1,11 @@
 -- A text that runs through pages.
 use Rattle.std.proofs.Common.{◌≡◌, ℕ, zero, suc, ◌+◌, ◌-◌, ◌*◌, ◌/◌, ◌<◌, ◌≤◌, List, [], ◌∷◌, ◌++◌, length, take, drop, replicate, refl, sym, ap, ◌∙◌, subst, arith}
-use Rattle.std.proofs.lemmas.List.{append_assoc, append-nil, length-append, length-take-le, length-drop, length-replicate, take-append-drop, take_all, take_at, drop_at, drop-drop}
+use Rattle.std.proofs.lemmas.List.{append_assoc, append-nil, length-append, length-take-le, length-drop, take-append-drop, take_all, take_at, drop_at, drop-drop}
 use Rattle.std.proofs.lemmas.Nat.{div-mul-add}
 use Rattle.byteorder.specs.Endian.{big_bytes}
 use Rattle.page_bytes.specs.Fields.{with_bytes, with_field}
 use Rattle.page_bytes.proofs.FieldLaws.{with_field-bytes, length-big_bytes}
-use Rattle.flat_doc.specs.Pieces.{PIECE_BYTES, page_count, piece}
+use Rattle.flat_doc.specs.Pieces.{page_count, piece}
 use Rattle.flat_doc.specs.Putting.{page_of, pages_of, flat_pages}
 use Rattle.flat_doc.specs.Sink.{running, AreFull, IsOpen, IsWritten, HasRoom, with_length}
 

@@ -1,21 +1,20 @@
 -- What pages that stand for a document answer to who reads them.
-use Rattle.std.proofs.Common.{◌≡◌, ◌⊎◌, inl, inr, ℕ, zero, suc, ◌+◌, ◌*◌, ◌/◌, ◌%◌, ◌<◌, Bool, true, false, List, [], ◌∷◌, ◌++◌, length, take, drop, Option, None, Some, IsSome, IsTrue, Result, Ok, Err, IsErr, MatchResult, is_ok, is_some, is_err, IsUtf8, true≢false, refl, sym, ap, ◌∙◌, subst, arith, if◌then◌else◌}
+use Rattle.std.proofs.Common.{◌≡◌, ◌⊎◌, inl, inr, ℕ, zero, suc, ◌+◌, ◌*◌, ◌/◌, ◌%◌, ◌<◌, Bool, true, false, List, ◌++◌, length, take, drop, Option, None, Some, Result, Ok, Err, MatchResult, is_ok, is_err, IsUtf8, true≢false, refl, sym, ap, ◌∙◌, subst, arith, if◌then◌else◌}
 use Rattle.std.specs.FinMap as map
 use Rattle.std.proofs.lemmas.Nat.{div-add-mod', mod_below}
 use Rattle.page_bytes.specs.declared.ids.Space.{Space}
 use Rattle.page_bytes.specs.declared.ids.PageId.{PageId}
 use Rattle.page_bytes.specs.declared.end.PageEnd.{PageEnd}
-use Rattle.page_bytes.specs.declared.end.PageEnd.TheVariants.{Need, Damaged, NoMemory}
+use Rattle.page_bytes.specs.declared.end.PageEnd.TheVariants.{Need}
 use Rattle.page_bytes.specs.Answers.{IsNeed, IsStop}
-use Rattle.page_bytes.specs.Head.{head_of}
 use Rattle.page_bytes.specs.Known.{Known, is_unknown}
-use Rattle.page_bytes.specs.Links.{page_in, and_then, asked, or_damaged, tested}
-use Rattle.page_bytes.specs.Seen.{PagesByNumber, seen, bytes}
+use Rattle.page_bytes.specs.Links.{page_in, and_then}
+use Rattle.page_bytes.specs.Seen.{seen, bytes}
 use Rattle.xml_model.specs.declared.node.Doc.{Doc}
 use Rattle.xml_model.specs.declared.node.RefusedLine.{RefusedLine}
 use Rattle.xml_model.specs.Pyx.{read, split_lines}
-use Rattle.flat_doc.specs.Pieces.{LENGTH_BYTES, page_count, is_flat, piece, stated_length}
-use Rattle.flat_doc.specs.Reading.{flat_page, pieces, flat_text, IsTextOf, SpellsNone, IsFlatDoc}
+use Rattle.flat_doc.specs.Pieces.{LENGTH_BYTES, page_count, piece, stated_length}
+use Rattle.flat_doc.specs.Reading.{flat_page, pieces, flat_text, IsFlatDoc}
 use Rattle.flat_doc.specs.Meaning.{IsFlat, joined_pieces, HasText, StandsForFlat}
 
 -- what a flat page answers: its bytes, or that it is needed

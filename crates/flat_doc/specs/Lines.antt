@@ -1,5 +1,5 @@
 -- How far a text has been read line by line.
-use Rattle.std.specs.Prelude.{◌≡◌, ◌⊎◌, ℕ, List, [], ◌∷◌, ◌++◌, Result, Ok, Err}
+use Rattle.std.specs.Prelude.{◌≡◌, ◌⊎◌, ℕ, List, ◌++◌, Result, Ok, Err}
 use Rattle.std.specs.Str.{IsUtf8}
 use Rattle.page_bytes.specs.declared.ids.Space.{Space}
 use Rattle.page_bytes.specs.declared.end.PageEnd.{PageEnd}

@@ -1,4 +1,4 @@
-use Rattle.std.proofs.Common.{sym, ◌∙◌}
+use Rattle.std.proofs.Common.{sym}
 use Rattle.flat_doc.proofs.FirstNewline.{none_found, cut_found}
 use Rattle.flat_doc.proofs.cuts.cut_line.Goals as goal
 

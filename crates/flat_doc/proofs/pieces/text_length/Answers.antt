@@ -1,5 +1,5 @@
 use Rattle.std.proofs.Common.{sym, ap, ◌∙◌, arith}
-use Rattle.flat_doc.specs.Pieces.{page_count, stated_length}
+use Rattle.flat_doc.specs.Pieces.{page_count}
 use Rattle.flat_doc.specs.Reading.{pieces}
 use Rattle.flat_doc.proofs.Looking.{stops, goes_on, text_refused, none_left}
 use Rattle.flat_doc.proofs.pieces.text_length.Goals as goal

@@ -1,4 +1,3 @@
-use Rattle.std.proofs.Common.{◌≡◌}
 use Rattle.flat_doc.specs.Pieces.{page_count}
 use Rattle.flat_doc.proofs.Looking.{IsLeft}
 use Rattle.flat_doc.proofs.pieces.text_length.Given as goal

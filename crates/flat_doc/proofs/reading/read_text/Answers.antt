@@ -1,4 +1,4 @@
-use Rattle.std.proofs.Common.{◌++◌, [], Err, sym, ap, ◌∙◌, subst, arith}
+use Rattle.std.proofs.Common.{◌++◌, Err, sym, ◌∙◌, subst, arith}
 use Rattle.page_bytes.specs.Fields.{bytes_at}
 use Rattle.flat_doc.specs.Lines.{IsRead, Reads, GivesDoc}
 use Rattle.flat_doc.proofs.UpTo.{none_up_to, never_refused, page_read, page_refused, all_up_to, next_fits, goes_down}

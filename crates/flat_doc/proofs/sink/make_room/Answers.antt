@@ -1,5 +1,4 @@
 use Rattle.std.proofs.Common.{[], ◌∷◌, ◌++◌, sym, subst, arith}
-use Rattle.flat_doc.specs.Putting.{page_of}
 use Rattle.flat_doc.specs.Sink.{HasRoom}
 use Rattle.flat_doc.proofs.Running.{turned}
 use Rattle.flat_doc.proofs.sink.make_room.Goals as goal
