@@ -1,0 +1,102 @@
+//! A checkpoint, and the settling of a head that is in doubt. Neither takes memory.
+ghost use Rattle.std.specs.Prelude.{◌≡◌, ◌≤◌, ◌+◌, ◌∷◌, ◌++◌, [], ℕ, List, Some, None, IfSome, is_some, IsSome, OnOk, OnErr, IfOk, IsErr, IsErrOf, if◌then◌else◌};
+ghost use Rattle.page_device.specs.Image.{Image, bytes_of};
+ghost use Rattle.page_device.specs.Device.{FileIs, HasCause, Rose};
+ghost use Rattle.page_device.specs.Gate as gate;
+ghost use Rattle.page_device.specs.Run.{Each, LeavesOnly};
+ghost use Rattle.page_device.specs.declared.device.Which.TheVariants.{Slots};
+ghost use Rattle.slot_store.specs.Logs.{other_log, other_file};
+ghost use Rattle.slot_store.specs.Head.{Head, head_bytes};
+ghost use Rattle.slot_store.specs.Opens.{Opened, Opens, OpensFresh};
+ghost use Rattle.slot_store.specs.Planned.{written_slots, IsMadeFor, head_of, opened_of};
+ghost use Rattle.slot_store.specs.Steps.{From, SlotsStand};
+ghost use Rattle.slot_store.specs.Checkpoint.{IsReady, IsPlanned, IsInDoubt, IsSettledAs, settled};
+
+use crate::end::CheckEnd;
+use crate::plan::CheckPlan;
+use crate::prepare::prepare;
+use crate::state::{DoubtedHead, SlotState};
+use crate::table::PageTable;
+use page_device::{Device, Failed, settle_gate, write_and_sync};
+use std::mem;
+
+/// Makes the checkpoint of a plan: writes the images that are in no slot to free slots, then the head of the other log, and
+/// opens its gate. The plan is lent so that nothing is dropped here; it keeps its pages with their slots.
+pub fn checkpoint<D: Device>(
+    device: &mut D,
+    state: &mut SlotState,
+    plan: &mut CheckPlan,
+) -> Result<(), CheckEnd>
+    requires no_doubt { state.old.doubt ≡ None }
+    requires made { IsMadeFor state.old plan.old }
+    requires ready { IfSome (D.contents device.old) (λ c. IsReady state.old plan.old c (D.may_leave device.old)) }
+    ensures told { is_some (D.contents device.new) ≡ is_some (D.contents device.old) }
+
+    // After Ok each image opens to the same by the new head, and no record stands behind it.
+    ensures done { OnOk result (IfSome (D.contents device.old) (λ c. Each (D.may_leave device.new) (OpensFresh (other_log state.old.log) (head_of plan.old) (opened_of plan.old c)))) }
+    ensures done_state { OnOk result (state.new ≡ record { log = other_log state.old.log; generation = state.old.generation + 1; table = plan.old.table; doubt = None }) }
+
+    // After Failed each image opens as at entry, and another checkpoint may be made.
+    ensures failed { IsErrOf result CheckEnd.Failed → IfSome (D.contents device.old) (λ c. Each (D.may_leave device.new) (IsPlanned state.old plan.old c)) }
+    ensures failed_state { IsErrOf result CheckEnd.Failed → state.new ≡ state.old }
+
+    // After Doubt each image has the whole new head, and only the byte of its gate differs from image to image.
+    ensures doubt { IsErrOf result CheckEnd.Doubt → IfSome (D.contents device.old) (λ c. (rest : List ℕ) × Each (D.may_leave device.new) (IsInDoubt state.old (head_of plan.old) rest (opened_of plan.old c))) }
+    ensures doubt_state { IsErrOf result CheckEnd.Doubt → state.new ≡ record state.old { doubt = Some (record { generation = state.old.generation + 1; table = plan.old.table }) } }
+
+    // At each moment each image opens to the plan's commit number, catalogue and pages.
+    ensures any_moment { IfSome (D.contents device.old) (λ c. LeavesOnly D.moment D.left_since device.old device.new (Opens (opened_of plan.old c))) }
+
+    // No slot is written over but those of the plan's images that were in no slot.
+    ensures stand { IfSome (D.contents device.old) (λ _. Each (D.may_leave device.new) (From (SlotsStand (written_slots plan.old.placed.items)) (D.may_leave device.old))) }
+    ensures placed { plan.new.placed.items ≡ plan.old.placed.items }
+    ensures faults { D.failures device.old ≤ D.failures device.new }
+    ensures cause { IsErr result → Rose (D.failures device.old) (D.failures device.new) }
+{
+    let Ok(()) = prepare(device, state, plan) else {
+        return Err(CheckEnd::Failed);
+    };
+    let log = state.log.other();
+    let Ok(()) = write_and_sync(device, log.file(), 0, &[1]) else {
+        let table = mem::replace(&mut plan.table, PageTable::new(plan.alloc));
+        state.doubt = Some(DoubtedHead {
+            generation: plan.generation,
+            table,
+        });
+        return Err(CheckEnd::Doubt);
+    };
+    mem::swap(&mut state.table, &mut plan.table);
+    state.log = log;
+    state.generation = plan.generation;
+    Ok(())
+}
+
+/// Settles a head that is in doubt: syncs its log, and reads its gate. The head counts exactly where the gate is 1.
+pub fn settle_head<D: Device>(device: &mut D, state: &mut SlotState) -> Result<bool, Failed>
+    requires doubt { IsSome state.old.doubt }
+    ensures told { is_some (D.contents device.new) ≡ is_some (D.contents device.old) }
+    ensures answer { IfOk result (λ yes. IfSome (D.contents device.old) (λ c. gate.IsSettled (other_file state.old.log) 0 c (D.may_leave device.new) yes)) }
+    ensures contents { OnOk result (D.contents device.new ≡ D.contents device.old) }
+    ensures state { IfOk result (λ yes. state.new ≡ settled state.old yes) }
+    ensures err { OnErr result (state.new ≡ state.old) }
+
+    // Where each image had the head but for its gate, each opens to the same by the head of the state's log now, and did at each moment.
+    ensures opens { IfOk result (λ yes. IfSome (D.contents device.old) (λ _. (head : Head) (rest : List ℕ) (o : Opened) → Each (D.may_leave device.old) (IsInDoubt state.old head rest o) → Each (D.may_leave device.new) (IsSettledAs state.old head o yes))) }
+    ensures same { (head : Head) (rest : List ℕ) (o : Opened) → Each (D.may_leave device.old) (IsInDoubt state.old head rest o) → LeavesOnly D.moment D.left_since device.old device.new (Opens o) }
+
+    // It leaves no image that was not there, at no moment.
+    ensures images { Each (D.may_leave device.new) (D.may_leave device.old) }
+    ensures any_moment { LeavesOnly D.moment D.left_since device.old device.new (D.may_leave device.old) }
+    ensures cause { HasCause (D.failures device.old) (D.failures device.new) result }
+{
+    let log = state.log.other();
+    let yes = settle_gate(device, log.file(), 0)?;
+    if let Some(head) = state.doubt.take() {
+        if yes {
+            state.log = log;
+            state.generation = head.generation;
+            state.table = head.table;
+        }
+    }
+    Ok(yes)
+}

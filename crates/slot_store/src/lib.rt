@@ -1,0 +1,32 @@
+//! Slots and checkpoints of a store.
+//!
+//! A checkpoint makes a log's records superfluous. The newest image of each page that is in no slot yet is written to a free
+//! slot, and then the head of the other log, which has the catalogue and the slot of each page; the head counts from the
+//! moment on in which its gate is 1. So at each moment each image of the device opens to the same commit, catalogue and
+//! pages, by the old head or by the new one.
+//!
+//! `plan` says what a checkpoint is to write, and takes all the memory. It refuses with Spent where the generation, the slots
+//! or the length of the log would be past the last one, and with NoMemory. `checkpoint` writes: after Failed all is as before,
+//! after Doubt the whole new head is there but its gate may be anything, and `settle_head` says what it is. Neither takes
+//! memory. A slot is free where neither the table of the log that counts, nor that of a head in doubt, nor a version that an
+//! open snapshot sees names it; nothing else is written over.
+#![tactic(auto)]
+
+mod checkpoint;
+mod end;
+mod gate;
+mod head;
+mod images;
+mod placing;
+mod plan;
+mod prepare;
+mod slot_set;
+mod spelling;
+mod state;
+mod table;
+
+pub use checkpoint::{checkpoint, settle_head};
+pub use end::{CheckEnd, PlanEnd};
+pub use plan::{BUFFER_BYTES, CheckPlan, LAST_SLOT, Placed};
+pub use state::{DoubtedHead, Log, SlotState};
+pub use table::{PageTable, Row};
