@@ -69,3 +69,11 @@ pub record Stands (file : Which) (bytes : List ℕ) (was i : Image) : Type 0 whe
   pub was_so : bytes_of was file ≡ gate ∷ before
   pub rest : List ℕ
   pub is : bytes_of i file ≡ gate ∷ (bytes ++ rest)
+
+-- What is read now begins with these bytes in the file, and has the other files as they were.
+pub record BeginsWith (file : Which) (bytes : List ℕ) (c : Image) (now : Option Image) : Type 0 where
+  pub image : Image
+  pub told : now ≡ Some image
+  pub others : SameOthers file c image
+  pub rest : List ℕ
+  pub is : bytes_of image file ≡ bytes ++ rest

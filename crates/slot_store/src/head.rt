@@ -1,12 +1,11 @@
 //! Writing a head behind a closed gate, through a buffer of bounded size.
-ghost use Rattle.std.specs.Prelude.{◌≡◌, ◌≤◌, ◌+◌, ◌*◌, ◌++◌, ◌∷◌, [], Some, IfSome, is_some, OnOk, length, take};
+ghost use Rattle.std.specs.Prelude.{◌≡◌, ◌≤◌, ◌+◌, ◌*◌, ◌++◌, ◌∷◌, [], List, ℕ, Some, IfSome, is_some, IfOk, OnOk, length};
 ghost use Rattle.std.specs.List.{flat_map};
-ghost use Rattle.page_device.specs.Image.{Image, bytes_of, with_bytes};
-ghost use Rattle.page_device.specs.Write.{overlay};
+ghost use Rattle.page_device.specs.Image.{Image, bytes_of};
 ghost use Rattle.page_device.specs.Device.{FileIs, HasCause};
 ghost use Rattle.page_device.specs.Run.{Each, LeavesOnly};
 ghost use Rattle.slot_store.specs.Head.{row_bytes};
-ghost use Rattle.slot_store.specs.Steps.{From, HasGate, BehindGate, Stands};
+ghost use Rattle.slot_store.specs.Steps.{From, HasGate, BehindGate, BeginsWith, Stands};
 
 use crate::plan::BUFFER_BYTES;
 use crate::spelling::{ROW_BYTES, fill_rows};
@@ -49,8 +48,10 @@ fn write_rows<D: Device>(
     requires place { 1 ≤ at }
     requires fits { at + length rows.now * 32 ≤ LONGEST }
     requires buffer { length buffer.old ≡ BUFFER_BYTES }
+    ensures end { IfOk result (λ end. end ≡ at + length rows.now * 32) }
     ensures buffer { length buffer.new ≡ length buffer.old }
     ensures told { is_some (D.contents device.new) ≡ is_some (D.contents device.old) }
+    ensures begins { OnOk result (IfSome (D.contents device.old) (λ c. (front rest : List ℕ) → length front ≡ at → bytes_of c file ≡ front ++ rest → BeginsWith file (front ++ flat_map row_bytes rows.now) c (D.contents device.new))) }
     ensures images { Each (D.may_leave device.new) (From (BehindGate file) (D.may_leave device.old)) }
     ensures any_moment { LeavesOnly D.moment D.left_since device.old device.new (From (BehindGate file) (D.may_leave device.old)) }
     ensures cause { HasCause (D.failures device.old) (D.failures device.new) result }
@@ -60,7 +61,12 @@ fn write_rows<D: Device>(
         let next = rows.len().min(place + BUFFER_BYTES / ROW_BYTES);
         let some = &rows[place..next];
         fill_rows(buffer, some);
-        put(device, file, at + (place * ROW_BYTES) as u64, &buffer[..some.len() * ROW_BYTES])?;
+        put(
+            device,
+            file,
+            at + (place * ROW_BYTES) as u64,
+            &buffer[..some.len() * ROW_BYTES],
+        )?;
         place = next;
     }
     Ok(at + (rows.len() * ROW_BYTES) as u64)
@@ -71,7 +77,7 @@ fn put<D: Device>(device: &mut D, file: Which, at: u64, bytes: &[u8]) -> Result<
     requires place { 1 ≤ at }
     requires fits { at + length bytes.now ≤ LONGEST }
     ensures told { is_some (D.contents device.new) ≡ is_some (D.contents device.old) }
-    ensures contents { OnOk result (IfSome (D.contents device.old) (λ c. D.contents device.new ≡ Some (with_bytes c file (overlay (bytes_of c file) at bytes.now)))) }
+    ensures begins { OnOk result (IfSome (D.contents device.old) (λ c. (front rest : List ℕ) → length front ≡ at → bytes_of c file ≡ front ++ rest → BeginsWith file (front ++ bytes.now) c (D.contents device.new))) }
     ensures images { Each (D.may_leave device.new) (From (BehindGate file) (D.may_leave device.old)) }
     ensures any_moment { LeavesOnly D.moment D.left_since device.old device.new (From (BehindGate file) (D.may_leave device.old)) }
     ensures cause { HasCause (D.failures device.old) (D.failures device.new) result }

@@ -54,14 +54,21 @@ fn place_image(
     id: PageId,
     image: &Image,
     used: &SlotSet,
-) -> Result<(), PlanEnd>
-{
+) -> Result<(), PlanEnd> {
     let page = match image {
         Image::Absent => return Ok(()),
-        Image::Slot(slot) => Placed { id, slot: *slot, page: None },
+        Image::Slot(slot) => Placed {
+            id,
+            slot: *slot,
+            page: None,
+        },
         Image::Resident(page) => {
             let slot = take_free(from, used)?;
-            Placed { id, slot, page: Some(page.copy()?) }
+            Placed {
+                id,
+                slot,
+                page: Some(page.copy()?),
+            }
         }
     };
     match placed.push(page) {
@@ -71,8 +78,7 @@ fn place_image(
 }
 
 // The least free slot from a place on, which then stands behind it.
-fn take_free(from: &mut u64, used: &SlotSet) -> Result<u64, PlanEnd>
-{
+fn take_free(from: &mut u64, used: &SlotSet) -> Result<u64, PlanEnd> {
     match used.next_free(*from) {
         Some(slot) => {
             *from = slot + 1;

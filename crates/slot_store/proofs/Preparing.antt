@@ -1,0 +1,158 @@
+-- What the parts of a checkpoint leave, up to the gate of the new head and behind it.
+use Rattle.std.proofs.Common.{◌≡◌, inl, inr, ⊎_elim, ℕ, ◌+◌, ◌<◌, ◌≤◌, List, [], ◌∷◌, ◌++◌, length, map, get_or, take, drop, Option, Some, None, refl, sym, ap, ◌∙◌, subst, arith, append_assoc, true}
+use Rattle.std.specs.Prelude.{IfSome, IfNone}
+use Rattle.std.specs.List.{AllByRecursion, list_any, flat_map}
+use Rattle.std.specs.FinMap as finite
+use Rattle.std.proofs.lemmas.Bool.{cases_eq}
+use Rattle.std.proofs.lemmas.List.{length-map}
+use Rattle.page_device.specs.declared.device.Which.{Which}
+use Rattle.page_device.specs.declared.device.Which.TheVariants.{Slots}
+use Rattle.page_device.specs.Image.{Image, bytes_of, SameOthers}
+use Rattle.page_device.specs.Device.{FileIs, TornIn}
+use Rattle.page_device.specs.Write.{Torn}
+use Rattle.page_device.specs.Run.{Each, InPart}
+use Rattle.page_device.proofs.Gate.{torn_gate}
+use Rattle.slot_store.specs.declared.table.Row.{Row}
+use Rattle.slot_store.specs.declared.state.Log.{Log}
+use Rattle.slot_store.specs.declared.state.SlotState.{SlotState}
+use Rattle.slot_store.specs.declared.plan.Placed.{Placed}
+use Rattle.slot_store.specs.declared.plan.CheckPlan.{CheckPlan}
+use Rattle.slot_store.specs.Slots.{slot_in, IsInside}
+use Rattle.slot_store.specs.Logs.{file_of, other_log, other_file}
+use Rattle.slot_store.specs.Head.{Head, head_bytes, front_bytes, row_bytes, IsRight, names_with, with_rows, map_of}
+use Rattle.slot_store.specs.Opens.{Opened, Opens, OpensBy, OpensFresh, Yields, IsOlder, store_of_head}
+use Rattle.slot_store.specs.Planned.{is_in_table, IsPlaced, IsPlacedIn, written_slots, row_of, image_in, head_of, opened_of, IsMadeFor}
+use Rattle.slot_store.specs.Steps.{From, SlotsStand, SlotsWritten, GateMoved, BehindGate, HasImage, HasGate}
+use Rattle.slot_store.specs.Checkpoint.{IsAt, IsPlanned, StandsAs, IsInDoubt, IsPrepared}
+use Rattle.slot_store.proofs.Opening.{all_so, all_both, same_log_beside, same_slots, other_twice, of_table, unwritten, at_slots, at_gate, at_behind, commit_of_names, names_of_names, placed_rows, placed_image, begins, all_rows, placed_inside}
+
+module _ (state : SlotState) (plan : CheckPlan) (made : IsMadeFor state plan) (c : Image) where
+  abbrev written : List ℕ
+  written = written_slots plan.placed.items
+
+  -- the slots of the table lie inside
+  table_inside : (i : Image) → IsAt state (opened_of plan c) i → AllByRecursion (λ (r : Row). IsInside i.slots r.slot) state.table
+  table_inside i at = subst (λ (rs : List Row). AllByRecursion (λ (r : Row). IsInside i.slots r.slot) rs) at.rows at.opens.inside
+
+  stand_one : (a b : Image) → SlotsStand written a b → AllByRecursion (λ (r : Row). IsInside a.slots r.slot) state.table → (slot : ℕ)
+      (page : Option (List ℕ)) → IsPlaced state.table slot page → StandsAs c a slot page → StandsAs c b slot page
+  stand_one a b step inside slot None is stands =
+      step.stand slot (unwritten state.table slot is plan.placed.items made.placed) (of_table (IsInside a.slots) state.table slot inside is) ∙ stands
+  stand_one a b step inside slot (Some page) is stands = tt
+
+  -- a write of free slots leaves what the plan finds
+  pub planned_slots : (a b : Image) → SlotsWritten written a b → IsPlanned state plan c a → IsPlanned state plan c b
+  planned_slots a b step was = record {
+    at_rest = at_slots state plan.placed.items made.placed (opened_of plan c) a b step was.at_rest;
+    stand = all_both (IsPlacedIn state.table) (λ (p : Placed). StandsAs c a p.slot p.page) (λ (p : Placed). StandsAs c b p.slot p.page)
+        (λ p is stands. stand_one a b step.slots (table_inside a was.at_rest) p.slot p.page is stands) plan.placed.items made.placed was.stand;
+  }
+
+  stand_beside : (a b : Image) → SameOthers (other_file state.log) a b → AllByRecursion (λ (p : Placed). StandsAs c a p.slot p.page) plan.placed.items
+      → AllByRecursion (λ (p : Placed). StandsAs c b p.slot p.page) plan.placed.items
+  stand_beside a b same all = all_so (λ (p : Placed). StandsAs c a p.slot p.page) (λ (p : Placed). StandsAs c b p.slot p.page)
+      (λ p stands. subst (λ (l : List ℕ). IfNone p.page (slot_in l p.slot ≡ slot_in c.slots p.slot)) (sym (same_slots (other_log state.log) a b same)) stands)
+      plan.placed.items all
+
+  -- so does a step at the other log's gate
+  pub planned_gate : (a b : Image) → GateMoved (other_file state.log) a b → IsPlanned state plan c a → IsPlanned state plan c b
+  planned_gate a b step was = record {
+    at_rest = at_gate state (opened_of plan c) a b step was.at_rest;
+    stand = stand_beside a b step.others was.stand;
+  }
+
+  -- and one behind it, where it is closed
+  pub planned_behind : (a b : Image) (g : ℕ) (rest : List ℕ) → bytes_of a (other_file state.log) ≡ g ∷ rest → (g ≡ 1 → ⊥)
+      → BehindGate (other_file state.log) a b → IsPlanned state plan c a → IsPlanned state plan c b
+  planned_behind a b g rest is shut step was = record {
+    at_rest = at_behind state (opened_of plan c) a b g rest is shut step was.at_rest;
+    stand = stand_beside a b step.others was.stand;
+  }
+
+  -- the slots stand where a log changes
+  pub stand_log : (written : List ℕ) (log : Log) (a b : Image) → SameOthers (file_of log) a b → SlotsStand written a b
+  stand_log written log a b same = let slots = same_slots log a b same in record {
+    longer = omega (arith, ap length slots);
+    stand = λ s none inside. ap (λ (l : List ℕ). slot_in l s) slots;
+  }
+
+  -- the new head, where its gate is 1, counts beside the old one, and the store opens to the same by it
+  module _ (right : IsRight (head_of plan)) (d : Image) (images : Image → Type 0) (ready : IsPrepared state plan c d images) (all : Each images (IsPlanned state plan c)) where
+    abbrev new_head : Head
+    new_head = head_of plan
+
+    abbrev o : Opened
+    o = opened_of plan c
+
+    older : (a i : Image) → SameOthers (other_file state.log) a i → IsAt state o a → Yields plan.generation (bytes_of i (other_file (other_log state.log)))
+    older a i same at =
+        let start = begins at.head at.opens.rest in
+        subst (λ (file : Which). Yields plan.generation (bytes_of i file)) (sym (other_twice state.log)) (inr (record {
+          older = at.head.generation;
+          below = omega (arith, made.generation, at.generation);
+          rest = start.0;
+          is = same_log_beside state.log a i same ∙ (at.opens.is ∙ ap (λ (l : List ℕ). 1 ∷ l) start.1);
+        }))
+
+    pub opens_new : (a i : Image) → images a → SameOthers (other_file state.log) a i → bytes_of i (other_file state.log) ≡ 1 ∷ (head_bytes new_head ++ 0 ∷ ready.rest)
+        → OpensFresh (other_log state.log) new_head o i
+    opens_new a i left same is =
+        let slots : i.slots ≡ d.slots = same_slots (other_log state.log) a i same ∙ ready.synced a left in
+        let planned = all a left in
+        let has : AllByRecursion (HasImage i.slots) plan.placed.items = subst (λ (l : List ℕ). AllByRecursion (HasImage l) plan.placed.items) (sym slots) ready.has in
+        let stands = stand_beside a i same planned.stand in
+        let inside = subst (λ (l : List ℕ). AllByRecursion (λ (r : Row). IsInside l r.slot) state.table) (sym (same_slots (other_log state.log) a i same))
+        (table_inside a planned.at_rest) in
+        let start = store_of_head new_head in
+        record {
+          opens = record {
+            rest = 0 ∷ ready.rest;
+            is = is;
+            right = right;
+            inside = all_rows (λ (r : Row). IsInside i.slots r.slot) plan.placed.items
+                (all_both (IsPlacedIn state.table) (HasImage i.slots) (λ (p : Placed). IsInside i.slots p.slot)
+                (λ p is_placed there. placed_inside state.table i.slots p.slot p.page inside is_placed there) plan.placed.items made.placed has);
+            other = older a i same planned.at_rest;
+            changes = [];
+            end = 0 ∷ ready.rest;
+            records = (refl, λ one. absurd (omega (arith, one)));
+            commit = sym (commit_of_names plan.entries.value _);
+            names = names_of_names plan.entries.value _;
+            pages = placed_rows c.slots i.slots plan.placed.items
+                (all_both (λ (p : Placed). StandsAs c i p.slot p.page) (HasImage i.slots) (λ (p : Placed). image_in c.slots p.slot p.page ≡ slot_in i.slots p.slot)
+                (λ p stand there. placed_image c.slots i.slots p.slot p.page stand there) plan.placed.items stands has) finite.empty;
+          };
+          no_records = refl;
+        }
+
+    -- an image in which the gate's write was done in part
+    pub torn_open : (i : Image) → InPart (other_file state.log) 0 1 images i → IsInDoubt state new_head ready.rest o i
+    torn_open i part =
+        let file = other_file state.log in let body = head_bytes new_head ++ 0 ∷ ready.rest in
+        let was_is = ready.head part.was part.is_old in
+        let is : bytes_of i file ≡ get_or (bytes_of i file) 0 0 ∷ body =
+        torn_gate [] ready.gate body 0 refl (bytes_of i file) (subst (λ (l : List ℕ). Torn 0 1 l (bytes_of i file)) was_is part.torn.torn) in
+        record {
+          gate = get_or (bytes_of i file) 0 0;
+          is = is;
+          new = λ one. opens_new part.was i part.is_old part.torn.others (is ∙ ap (λ (g : ℕ). g ∷ body) one);
+          old = λ shut. (planned_gate part.was i (record {
+            others = part.torn.others;
+            before = ready.gate;
+            after = get_or (bytes_of i file) 0 0;
+            rest = body;
+            was_so = was_is;
+            is = is;
+            shut = λ one. absurd (shut one);
+          }) (all part.was part.is_old)).at_rest;
+        }
+
+-- an image with a head in doubt opens to the same, whatever the gate is
+pub doubt_opens : (state : SlotState) (head : Head) (rest : List ℕ) (o : Opened) (i : Image) → IsInDoubt state head rest o i → Opens o i
+doubt_opens state head rest o i doubt =
+    ⊎_elim (λ one. (other_log state.log, (head, (doubt.new one).opens))) (λ shut. let at = doubt.old shut in (state.log, (at.head, at.opens)))
+    (cases_eq doubt.gate 1)
+
+-- an image of the state opens
+pub at_opens : (state : SlotState) (o : Opened) (i : Image) → IsAt state o i → Opens o i
+at_opens state o i at = (state.log, (at.head, at.opens))
