@@ -4,3 +4,5 @@ pub mod Steps
 pub mod Opening
 pub mod Preparing
 pub mod Writing
+pub mod Gates
+pub mod Giving

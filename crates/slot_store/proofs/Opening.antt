@@ -16,8 +16,8 @@ use Rattle.slot_store.specs.declared.table.Row.{Row}
 use Rattle.slot_store.specs.declared.state.Log.{Log}
 use Rattle.slot_store.specs.declared.state.Log.TheVariants.{A, B}
 use Rattle.slot_store.specs.declared.state.SlotState.{SlotState}
-use Rattle.slot_store.specs.declared.plan.Placed.{Placed}
-use Rattle.slot_store.specs.declared.plan.CheckPlan.{CheckPlan}
+use Rattle.slot_store.specs.declared.planning.Placed.{Placed}
+use Rattle.slot_store.specs.declared.planning.CheckPlan.{CheckPlan}
 use Rattle.slot_store.specs.Slots.{slot_in, IsInside}
 use Rattle.slot_store.specs.Logs.{file_of, other_log, other_file}
 use Rattle.slot_store.specs.Head.{Head, magic, document_bytes, row_bytes, head_bytes, IsRight, names_with, with_rows, map_of}

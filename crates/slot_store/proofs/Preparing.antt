@@ -15,15 +15,16 @@ use Rattle.page_device.proofs.Gate.{torn_gate}
 use Rattle.slot_store.specs.declared.table.Row.{Row}
 use Rattle.slot_store.specs.declared.state.Log.{Log}
 use Rattle.slot_store.specs.declared.state.SlotState.{SlotState}
-use Rattle.slot_store.specs.declared.plan.Placed.{Placed}
-use Rattle.slot_store.specs.declared.plan.CheckPlan.{CheckPlan}
+use Rattle.slot_store.specs.declared.planning.Placed.{Placed}
+use Rattle.slot_store.specs.declared.planning.CheckPlan.{CheckPlan}
 use Rattle.slot_store.specs.Slots.{slot_in, IsInside}
 use Rattle.slot_store.specs.Logs.{file_of, other_log, other_file}
 use Rattle.slot_store.specs.Head.{Head, head_bytes, front_bytes, row_bytes, IsRight, names_with, with_rows, map_of}
 use Rattle.slot_store.specs.Opens.{Opened, Opens, OpensBy, OpensFresh, Yields, IsOlder, store_of_head}
 use Rattle.slot_store.specs.Planned.{is_in_table, IsPlaced, IsPlacedIn, written_slots, row_of, image_in, head_of, opened_of, IsMadeFor}
-use Rattle.slot_store.specs.Steps.{From, SlotsStand, SlotsWritten, GateMoved, BehindGate, HasImage, HasGate}
+use Rattle.slot_store.specs.Steps.{From, SlotsStand, SlotsWritten, GateMoved, BehindGate, IsClosed, Stands, HasImage, HasImages, HasGate}
 use Rattle.slot_store.specs.Checkpoint.{IsAt, IsPlanned, StandsAs, IsInDoubt, IsPrepared}
+use Rattle.slot_store.proofs.Steps.{stand_twice}
 use Rattle.slot_store.proofs.Opening.{all_so, all_both, same_log_beside, same_slots, other_twice, of_table, unwritten, at_slots, at_gate, at_behind, commit_of_names, names_of_names, placed_rows, placed_image, begins, all_rows, placed_inside}
 
 module _ (state : SlotState) (plan : CheckPlan) (made : IsMadeFor state plan) (c : Image) where
@@ -156,3 +157,76 @@ doubt_opens state head rest o i doubt =
 -- an image of the state opens
 pub at_opens : (state : SlotState) (o : Opened) (i : Image) → IsAt state o i → Opens o i
 at_opens state o i at = (state.log, (at.head, at.opens))
+
+-- over the parts of a preparation, one after another
+module _ (state : SlotState) (plan : CheckPlan) (made : IsMadeFor state plan) (c : Image) where
+  abbrev file : Which
+  file = other_file state.log
+
+  abbrev slots : List ℕ
+  slots = written_slots plan.placed.items
+
+  pub from_slots : (old : Image → Type 0) → Each old (IsPlanned state plan c) → (i : Image) → From (SlotsWritten slots) old i → IsPlanned state plan c i
+  from_slots old all i from = planned_slots state plan made c from.was i from.does (all from.was from.is_old)
+
+  pub from_gate : (old : Image → Type 0) → Each old (IsPlanned state plan c) → (i : Image) → From (GateMoved file) old i → IsPlanned state plan c i
+  from_gate old all i from = planned_gate state plan made c from.was i from.does (all from.was from.is_old)
+
+  pub from_behind : (old : Image → Type 0) (k : Image) → IsClosed file k old → Each old (IsPlanned state plan c) → (i : Image) → From (BehindGate file) old i
+      → IsPlanned state plan c i
+  from_behind old k closed all i from =
+      planned_behind state plan made c from.was i closed.gate closed.rest (closed.synced from.was from.is_old ∙ closed.is) closed.shut from.does
+      (all from.was from.is_old)
+
+  pub stand_slots : (old : Image → Type 0) (i : Image) → From (SlotsWritten slots) old i → From (SlotsStand slots) old i
+  stand_slots old i from = record { was = from.was; is_old = from.is_old; does = from.does.slots }
+
+  stand_on : (old mid : Image → Type 0) → Each mid (From (SlotsStand slots) old) → (was i : Image) → mid was → SameOthers file was i → From (SlotsStand slots) old i
+  stand_on old mid all was i is same = let first = all was is in record {
+    was = first.was;
+    is_old = first.is_old;
+    does = stand_twice slots first.was was i first.does (stand_log state plan made c slots (other_log state.log) was i same);
+  }
+
+  pub stand_gate : (old mid : Image → Type 0) → Each mid (From (SlotsStand slots) old) → (i : Image) → From (GateMoved file) mid i → From (SlotsStand slots) old i
+  stand_gate old mid all i from = stand_on old mid all from.was i from.is_old from.does.others
+
+  pub stand_behind : (old mid : Image → Type 0) → Each mid (From (SlotsStand slots) old) → (i : Image) → From (BehindGate file) mid i
+      → From (SlotsStand slots) old i
+  stand_behind old mid all i from = stand_on old mid all from.was i from.is_old from.does.others
+
+  -- the head's bytes, as they are written
+  spelled : (rest : List ℕ) → ((plan.front.items ++ flat_map row_bytes plan.table) ++ 0 ∷ []) ++ rest ≡ head_bytes (head_of plan) ++ 0 ∷ rest
+  spelled rest =
+      append_assoc (plan.front.items ++ flat_map row_bytes plan.table) (0 ∷ []) rest
+      ∙ ap (λ (l : List ℕ). l ++ 0 ∷ rest)
+      (ap (λ (l : List ℕ). l ++ flat_map row_bytes plan.table) (made.front
+      ∙ ap (front_bytes plan.generation plan.commit plan.entries.value) (sym (length-map plan.placed.items row_of)))
+      ∙ ap (λ (rows : List Row). head_front ++ flat_map row_bytes rows) made.table)
+    where
+      abbrev head_front : List ℕ
+      head_front = front_bytes plan.generation plan.commit plan.entries.value (length (map row_of plan.placed.items))
+
+  -- all is written but the gate
+  pub prepared : (mid mid' new : Image → Type 0) (k k' d : Image) → HasImages plan.placed.items c k → FileIs Slots k.slots mid → SameOthers file k k'
+      → IsClosed file k' mid' → Each mid' (From (GateMoved file) mid)
+      → Stands file ((plan.front.items ++ flat_map row_bytes plan.table) ++ 0 ∷ []) k' d → FileIs file (bytes_of d file) new → Each new (From (BehindGate file) mid')
+      → IsPrepared state plan c d new
+  prepared mid mid' new k k' d images synced same closed moved stands written behind =
+      let log = other_log state.log in
+      let slots_now : d.slots ≡ k.slots = same_slots log k' d stands.others ∙ same_slots log k k' same in
+      let is : bytes_of d file ≡ stands.gate ∷ (head_bytes (head_of plan) ++ 0 ∷ stands.rest) =
+          stands.is ∙ ap (λ (l : List ℕ). stands.gate ∷ l) (spelled stands.rest) in
+      let gates : stands.gate ≡ closed.gate = ap (λ (l : List ℕ). get_or l 0 0) (sym stands.was_so ∙ closed.is) in
+      record {
+        synced = λ i left. let last = behind i left in let first = moved last.was last.is_old in
+            same_slots log last.was i last.does.others ∙ (same_slots log first.was last.was first.does.others ∙ (synced first.was first.is_old ∙ sym slots_now));
+        stand = stand_twice slots c k d images.step.slots (stand_twice slots k k' d (stand_log state plan made c slots log k k' same)
+            (stand_log state plan made c slots log k' d stands.others));
+        has = subst (λ (l : List ℕ). AllByRecursion (HasImage l) plan.placed.items) (sym slots_now) images.each;
+        gate = stands.gate;
+        shut = λ one. closed.shut (sym gates ∙ one);
+        rest = stands.rest;
+        head = λ i left. written i left ∙ is;
+        read = is;
+      }

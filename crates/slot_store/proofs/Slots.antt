@@ -1,7 +1,7 @@
 -- Slots of a file: which ones a write leaves, and what it puts into its own.
-use Rattle.std.proofs.Common.{◌≡◌, ℕ, ◌+◌, ◌-◌, ◌*◌, ◌<◌, ◌≤◌, min, List, [], ◌∷◌, ◌++◌, length, take, drop, replicate, Bool, true, false, ◌==◌, ◌||◌, refl, sym, ap, ◌∙◌, subst, arith, length-append, length-take, length-drop, length-replicate, append_assoc, ⊎_elim, true≢false}
+use Rattle.std.proofs.Common.{◌≡◌, ℕ, ◌+◌, ◌-◌, ◌*◌, ◌<◌, ◌≤◌, min, List, [], ◌∷◌, ◌++◌, length, take, drop, replicate, Bool, true, false, ◌==◌, ◌||◌, refl, sym, ap, ◌∙◌, subst, arith, length-append, length-take, length-drop, append_assoc, ⊎_elim, true≢false}
 use Rattle.std.specs.List.{list_any}
-use Rattle.std.proofs.lemmas.List.{take_at, drop_at, drop-take, drop-drop, take-take}
+use Rattle.std.proofs.lemmas.List.{length-replicate, take_at, drop_at, drop-take, drop-drop, take-take}
 use Rattle.std.proofs.lemmas.Bool.{cases_order, eq-eqb, or_parts, both_ways}
 use Rattle.page_device.specs.Write.{overlay, Torn}
 use Rattle.page_device.specs.MemoryLaws.{torn_overlay}

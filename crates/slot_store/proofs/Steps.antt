@@ -12,7 +12,7 @@ use Rattle.page_device.specs.Device.{TornIn, FileIs}
 use Rattle.page_device.specs.Run.{Each, InPart}
 use Rattle.page_device.proofs.Runs.{same_others-twice, bytes_of-with_bytes}
 use Rattle.page_device.proofs.Replay.{with_own}
-use Rattle.slot_store.specs.declared.plan.Placed.{Placed}
+use Rattle.slot_store.specs.declared.planning.Placed.{Placed}
 use Rattle.slot_store.specs.Slots.{slot_in, IsInside}
 use Rattle.slot_store.specs.Head.{EachPair}
 use Rattle.slot_store.specs.Planned.{written_slots, slot_if, AreApart}
@@ -77,6 +77,13 @@ slot_torn slot a b torn = record {
     stand = λ s none inside. torn_slot slot s a.slots b.slots torn.torn (not_only slot s none) inside;
   };
 }
+
+-- a write of a placed page in part
+pub one_torn : (p : Placed) (page : List ℕ) (n : ℕ) → p.page ≡ Some page → n ≡ 4096 → (a b : Image) → TornIn Slots (p.slot * 4096) n a b
+    → SlotsWritten (written_slots (p ∷ [])) a b
+one_torn p page n is long a b torn =
+    subst (λ (ss : List ℕ). SlotsWritten ss a b) (ap (λ o. slot_if p.slot o []) (sym is))
+    (slot_torn p.slot a b (subst (λ (m : ℕ). TornIn Slots (p.slot * 4096) m a b) long torn))
 
 -- the write of a page to its slot
 pub one_written : (p : Placed) (page : List ℕ) (c d : Image) → p.page ≡ Some page → length page ≡ 4096

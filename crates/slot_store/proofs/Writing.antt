@@ -3,18 +3,18 @@ use Rattle.std.proofs.Common.{◌≡◌, ℕ, zero, suc, ◌+◌, ◌*◌, ◌<�
 use Rattle.std.specs.Prelude.{IfSome}
 use Rattle.std.specs.List.{list_any, AllByRecursion, flat_map}
 use Rattle.std.proofs.lemmas.Bool.{or_parts, or_from, ne_eqb}
-use Rattle.std.proofs.lemmas.List.{take_at, drop-drop, drop_at}
+use Rattle.std.proofs.lemmas.List.{take_all, take_at, drop-drop, drop_at}
 use Rattle.page_device.specs.declared.device.Which.{Which}
 use Rattle.page_device.specs.Image.{Image, bytes_of, with_bytes, SameOthers}
 use Rattle.page_device.specs.Write.{overlay}
 use Rattle.page_device.proofs.Bytes.{overlay-inside}
 use Rattle.page_device.proofs.Runs.{same_others-twice, bytes_of-with_bytes}
-use Rattle.slot_store.specs.declared.plan.Placed.{Placed}
+use Rattle.slot_store.specs.declared.planning.Placed.{Placed}
 use Rattle.slot_store.specs.Slots.{slot_in, IsInside}
 use Rattle.slot_store.specs.Head.{EachPair}
 use Rattle.slot_store.specs.Planned.{written_slots, slot_if, AreApart}
-use Rattle.slot_store.specs.Steps.{SlotsWritten, HasImage, HasImages, BeginsWith}
-use Rattle.slot_store.proofs.Steps.{slots_twice, slots_more}
+use Rattle.slot_store.specs.Steps.{From, SlotsWritten, HasImage, HasImages, BeginsWith}
+use Rattle.slot_store.proofs.Steps.{slots_twice, slots_more, from_weaker}
 
 -- what holds of each holds of one
 pub all_at : {X : Type 0} (P : X → Type 0) (xs : List X) (k : ℕ) (d : X) → AllByRecursion P xs → k < length xs → P (get_or xs k d)
@@ -117,3 +117,23 @@ begins_twice file one two c now next first second = record {
   rest = second.rest;
   is = second.is;
 }
+
+-- all pages are done
+pub images_of_some : (placed : List Placed) (k : ℕ) (c : Image) (now : Option Image) → length placed ≤ k → WroteSome placed (take k placed) c now
+    → (d : Image) × (now ≡ Some d) × HasImages placed c d
+images_of_some placed k c now done some = (
+  some.image,
+  some.told,
+  record {
+    step = some.step;
+    each = subst (AllByRecursion (HasImage some.image.slots)) (take_all k placed done) some.each;
+  },
+)
+
+-- an image that comes from the write of one of the pages comes from a write of these pages
+pub one_of_many : (placed : List Placed) (k : ℕ) (p : Placed) → k < length placed → p ≡ get_or placed k p → (old : Image → Type 0) (i : Image)
+    → From (SlotsWritten (written_slots (p ∷ []))) old i → From (SlotsWritten (written_slots placed)) old i
+one_of_many placed k p less is old i from =
+    from_weaker (SlotsWritten (written_slots (p ∷ []))) (SlotsWritten (written_slots placed))
+    (slots_more (written_slots (p ∷ [])) (written_slots placed)
+    (λ s none. subst (λ (x : Placed). list_any (λ t. t == s) (written_slots (x ∷ [])) ≡ false) (sym is) (not_by_one placed k p less s none))) old i from

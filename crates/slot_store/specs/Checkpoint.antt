@@ -5,8 +5,8 @@ use Rattle.page_device.specs.Image.{Image, bytes_of}
 use Rattle.page_device.specs.Device.{FileIs}
 use Rattle.page_device.specs.Run.{Each}
 use Rattle.page_device.specs.declared.device.Which.TheVariants.{Slots}
-use Rattle.slot_store.specs.declared.plan.Placed.{Placed}
-use Rattle.slot_store.specs.declared.plan.CheckPlan.{CheckPlan}
+use Rattle.slot_store.specs.declared.planning.Placed.{Placed}
+use Rattle.slot_store.specs.declared.planning.CheckPlan.{CheckPlan}
 use Rattle.slot_store.specs.declared.state.SlotState.{SlotState}
 use Rattle.slot_store.specs.declared.state.Log.{Log}
 use Rattle.slot_store.specs.declared.state.DoubtedHead.{DoubtedHead}

@@ -13,9 +13,9 @@ use Rattle.page_versions.specs.Chains.{version_at}
 use Rattle.redo_log.specs.declared.change.LogName.{LogName}
 use Rattle.slot_store.specs.declared.table.Row.{Row}
 use Rattle.slot_store.specs.declared.state.SlotState.{SlotState}
-use Rattle.slot_store.specs.declared.plan.Placed.{Placed}
-use Rattle.slot_store.specs.declared.plan.CheckPlan.{CheckPlan}
-use Rattle.slot_store.specs.declared.plan.TheConstants.{BUFFER_BYTES, LAST_SLOT}
+use Rattle.slot_store.specs.declared.planning.Placed.{Placed}
+use Rattle.slot_store.specs.declared.planning.CheckPlan.{CheckPlan}
+use Rattle.slot_store.specs.declared.planning.TheConstants.{BUFFER_BYTES, LAST_SLOT}
 use Rattle.slot_store.specs.Slots.{slot_in, AreLeast}
 use Rattle.slot_store.specs.Head.{Head, front_bytes, head_bytes, names_of, EachPair, IsRowBefore, HaveTwoSlots}
 use Rattle.slot_store.specs.Opens.{Opened}

@@ -1,5 +1,6 @@
 -- Where numbers end: generations, slots, and the lengths of logs.
-use Rattle.std.specs.Prelude.{◌≡◌, ℕ, zero, suc, ◌+◌, ◌*◌, ◌<◌, ◌≤◌, Bool, true, false, List, [], ◌∷◌, length, Contains}
+use Rattle.std.specs.Prelude.{◌≡◌, ℕ, zero, suc, ◌+◌, ◌*◌, ◌<◌, ◌≤◌, Bool, true, false, List, [], ◌∷◌, length, ◌==◌}
+use Rattle.std.specs.List.{list_any}
 use Rattle.page_bytes.specs.declared.ids.PageId.{PageId}
 use Rattle.page_device.specs.declared.device.TheConstants.{LONGEST}
 use Rattle.page_versions.specs.declared.version.Image.{Image as PageImage}
@@ -7,7 +8,7 @@ use Rattle.page_versions.specs.declared.version.Image.TheVariants as image
 use Rattle.xq_ast.specs.declared.code.SpentKind.{SpentKind}
 use Rattle.xq_ast.specs.declared.code.SpentKind.TheVariants.{Commit, Generation, Page, Slot, Log}
 use Rattle.redo_log.specs.declared.change.LogName.{LogName}
-use Rattle.slot_store.specs.declared.plan.TheConstants.{LAST_SLOT}
+use Rattle.slot_store.specs.declared.planning.TheConstants.{LAST_SLOT}
 use Rattle.slot_store.specs.Slots.{AreLeast}
 use Rattle.slot_store.specs.Head.{front_bytes}
 
@@ -30,7 +31,7 @@ pub record IsSlotSpent (used : ℕ → Bool) (images : List (PageId × PageImage
   pub slots : List ℕ
   pub least : AreLeast used 0 slots
   pub few : length slots < count_residents images
-  pub all : (s : ℕ) → s ≤ LAST_SLOT → used s ≡ false → Contains slots s
+  pub all : (s : ℕ) → s ≤ LAST_SLOT → used s ≡ false → list_any (λ t. t == s) slots ≡ true
 
 -- the head of these documents and of so many pages, with its own gate and the first record's, is longer than a file can be
 abbrev pub IsLogSpent : ℕ → ℕ → List LogName → ℕ → Type 0
@@ -43,3 +44,21 @@ IsSpentAt Generation n = n ≡ last_generation
 IsSpentAt Page n = ⊥
 IsSpentAt Slot n = n ≡ LAST_SLOT
 IsSpentAt Log n = n ≡ LONGEST
+
+-- only slots are spent here, and the last one is named
+abbrev pub IsSlotEnd : SpentKind → ℕ → Type 0
+IsSlotEnd Commit n = ⊥
+IsSlotEnd Generation n = ⊥
+IsSlotEnd Page n = ⊥
+IsSlotEnd Slot n = n ≡ LAST_SLOT
+IsSlotEnd Log n = ⊥
+
+-- no slot from a place on is free, up to the last
+abbrev pub NoneFree : (ℕ → Bool) → ℕ → Type 0
+NoneFree used from = (t : ℕ) → from ≤ t → t ≤ LAST_SLOT → used t ≡ true
+
+-- the image is in no slot
+abbrev pub IsResident : PageImage → Type 0
+IsResident (image.Resident page) = Unit {0}
+IsResident (image.Slot slot) = ⊥
+IsResident image.Absent = ⊥

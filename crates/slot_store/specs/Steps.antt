@@ -5,7 +5,7 @@ use Rattle.page_device.specs.declared.device.Which.{Which}
 use Rattle.page_device.specs.declared.device.Which.TheVariants.{Slots}
 use Rattle.page_device.specs.Image.{Image, bytes_of, SameOthers}
 use Rattle.page_device.specs.Device.{FileIs}
-use Rattle.slot_store.specs.declared.plan.Placed.{Placed}
+use Rattle.slot_store.specs.declared.planning.Placed.{Placed}
 use Rattle.slot_store.specs.Slots.{slot_in, IsInside}
 use Rattle.slot_store.specs.Planned.{written_slots}
 

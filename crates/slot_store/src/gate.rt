@@ -17,8 +17,10 @@ pub fn close_gate<D: Device>(device: &mut D, file: Which) -> Result<(), Failed>
     ensures any_moment { IfSome (D.contents device.old) (λ _. LeavesOnly D.moment D.left_since device.old device.new (From (GateMoved file) (D.may_leave device.old))) }
     ensures cause { HasCause (D.failures device.old) (D.failures device.new) result }
 {
-    if settle_gate(device, file, 0)? {
-        write_and_sync(device, file, 0, &[0])?;
+    let yes = settle_gate(device, file, 0)?;
+    if !yes {
+        return Ok(());
     }
+    write_and_sync(device, file, 0, &[0])?;
     Ok(())
 }

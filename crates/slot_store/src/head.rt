@@ -7,7 +7,7 @@ ghost use Rattle.page_device.specs.Run.{Each, LeavesOnly};
 ghost use Rattle.slot_store.specs.Head.{row_bytes};
 ghost use Rattle.slot_store.specs.Steps.{From, HasGate, BehindGate, BeginsWith, Stands};
 
-use crate::plan::BUFFER_BYTES;
+use crate::planning::BUFFER_BYTES;
 use crate::spelling::{ROW_BYTES, fill_rows};
 use crate::table::Row;
 use page_device::{Device, Failed, LONGEST, Which};

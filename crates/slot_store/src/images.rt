@@ -9,7 +9,7 @@ ghost use Rattle.slot_store.specs.Head.{EachPair};
 ghost use Rattle.slot_store.specs.Planned.{written_slots, HasRoom, AreApart};
 ghost use Rattle.slot_store.specs.Steps.{From, SlotsWritten, HasImages};
 
-use crate::plan::Placed;
+use crate::planning::Placed;
 use page_device::{Device, Failed, Which};
 
 /// Writes the images of the placed pages to their slots, in this order, and syncs the slot file.

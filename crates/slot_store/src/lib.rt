@@ -12,21 +12,21 @@
 //! open snapshot sees names it; nothing else is written over.
 #![tactic(auto)]
 
-mod checkpoint;
 mod end;
 mod gate;
 mod head;
 mod images;
+mod making;
 mod placing;
-mod plan;
+mod planning;
 mod prepare;
 mod slot_set;
 mod spelling;
 mod state;
 mod table;
 
-pub use checkpoint::{checkpoint, settle_head};
 pub use end::{CheckEnd, PlanEnd};
-pub use plan::{BUFFER_BYTES, CheckPlan, LAST_SLOT, Placed};
+pub use making::{checkpoint, settle_head};
+pub use planning::{BUFFER_BYTES, CheckPlan, LAST_SLOT, Placed, plan};
 pub use state::{DoubtedHead, Log, SlotState};
 pub use table::{PageTable, Row};

@@ -1,13 +1,14 @@
 //! Giving each page of a plan its slot.
-ghost use Rattle.std.specs.Prelude.{◌≡◌, ◌≤◌, ◌<◌, ◌++◌, ◌∷◌, [], ℕ, true, false, map, None, Some, IfOk, OnOk, IfSome, IsErrOf, length};
+ghost use Rattle.std.specs.Prelude.{◌≡◌, ◌≤◌, ◌<◌, ◌+◌, ◌++◌, [], ℕ, true, false, map, IfOk, OnOk, IsErr, IsErrOf};
 ghost use Rattle.std.specs.Option.{option_copied, option_map};
 ghost use Rattle.std.specs.FinMap as maps;
 ghost use Rattle.page_versions.specs.Chains.{version_at};
-ghost use Rattle.slot_store.specs.Slots.{AreLeast};
-ghost use Rattle.slot_store.specs.Planned.{newest_images, before_of, row_of, written_slots};
+ghost use Rattle.slot_store.specs.Slots.{AreLeast, GivesSlots};
+ghost use Rattle.slot_store.specs.Spent.{IsSlotSpent, IsSlotEnd, NoneFree, IsResident};
+ghost use Rattle.slot_store.specs.Planned.{newest_images, with_image, before_of, row_of, written_slots};
 
 use crate::end::PlanEnd;
-use crate::plan::{LAST_SLOT, Placed};
+use crate::planning::{LAST_SLOT, Placed};
 use crate::slot_set::SlotSet;
 use crate::table::{PageTable, Row};
 use page_bytes::{NoMemory, PageId};
@@ -25,6 +26,7 @@ pub fn place_pages(
 ) -> Result<Vec<Placed>, PlanEnd>
     ensures pages { IfOk result (λ placed. map before_of placed.items ≡ newest_images commit (maps.entries versions.now.chains)) }
     ensures least { IfOk result (λ placed. AreLeast (λ s. maps.contains_key used.now s) 0 (written_slots placed.items)) }
+    ensures spent { (kind : SpentKind) (n : ℕ) → IsErrOf result (PlanEnd.Spent kind n) → IsSlotEnd kind n × IsSlotSpent (λ s. maps.contains_key used.now s) (newest_images commit (maps.entries versions.now.chains)) }
 {
     let mut placed = Vec::new(alloc);
     let mut from = 0;
@@ -54,7 +56,14 @@ fn place_image(
     id: PageId,
     image: &Image,
     used: &SlotSet,
-) -> Result<(), PlanEnd> {
+) -> Result<(), PlanEnd>
+    ensures pages { OnOk result (map before_of placed.new.items ≡ map before_of placed.old.items ++ with_image id image.now []) }
+    ensures slots { OnOk result (GivesSlots (λ s. maps.contains_key used.now s) from.old from.new (written_slots placed.old.items) (written_slots placed.new.items)) }
+
+    // Spent comes only for an image that is in no slot, where no slot is free.
+    ensures spent { (kind : SpentKind) (n : ℕ) → IsErrOf result (PlanEnd.Spent kind n) → IsSlotEnd kind n × NoneFree (λ s. maps.contains_key used.now s) from.old × IsResident image.now }
+    ensures stays { IsErr result → placed.new.items ≡ placed.old.items }
+{
     let page = match image {
         Image::Absent => return Ok(()),
         Image::Slot(slot) => Placed {
@@ -78,7 +87,13 @@ fn place_image(
 }
 
 // The least free slot from a place on, which then stands behind it.
-fn take_free(from: &mut u64, used: &SlotSet) -> Result<u64, PlanEnd> {
+fn take_free(from: &mut u64, used: &SlotSet) -> Result<u64, PlanEnd>
+    ensures found { IfOk result (λ s. (from.old ≤ s) × (s ≤ LAST_SLOT) × (maps.contains_key used.now s ≡ false) × ((t : ℕ) → from.old ≤ t → t < s → maps.contains_key used.now t ≡ true)) }
+    ensures behind { IfOk result (λ s. from.new ≡ s + 1) }
+    ensures none { IsErr result → NoneFree (λ s. maps.contains_key used.now s) from.old }
+    ensures end { (kind : SpentKind) (n : ℕ) → IsErrOf result (PlanEnd.Spent kind n) → IsSlotEnd kind n }
+    ensures err { IsErr result → IsErrOf result (PlanEnd.Spent SpentKind.Slot LAST_SLOT) }
+{
     match used.next_free(*from) {
         Some(slot) => {
             *from = slot + 1;

@@ -10,7 +10,7 @@ ghost use Rattle.slot_store.specs.Checkpoint.{IsReady, IsPlanned, IsPrepared};
 use crate::gate::close_gate;
 use crate::head::write_head;
 use crate::images::write_images;
-use crate::plan::CheckPlan;
+use crate::planning::CheckPlan;
 use crate::state::SlotState;
 use page_device::{Device, Failed};
 
@@ -30,14 +30,13 @@ pub fn prepare<D: Device>(
     ensures stand { IfSome (D.contents device.old) (λ _. Each (D.may_leave device.new) (From (SlotsStand (written_slots plan.old.placed.items)) (D.may_leave device.old))) }
     ensures cause { HasCause (D.failures device.old) (D.failures device.new) result }
 {
-    write_images(device, plan.placed.as_slice())?;
-    let file = plan.log.other().file();
+    let placed = plan.placed.as_slice();
+    write_images(device, placed)?;
+    let file = state.log.other().file();
     close_gate(device, file)?;
-    write_head(
-        device,
-        file,
-        plan.front.as_slice(),
-        plan.table.rows(),
-        plan.buffer.as_mut_slice(),
-    )
+    let front = plan.front.as_slice();
+    let rows = plan.table.rows();
+    let buffer = plan.buffer.as_mut_slice();
+    write_head(device, file, front, rows, buffer)?;
+    Ok(())
 }

@@ -5,7 +5,7 @@ ghost use Rattle.page_versions.specs.declared.version.Version.{Version as AVersi
 ghost use Rattle.slot_store.specs.Used.{with_slots, slots_of, slots_of_chains, slot_of_version, used_slots};
 ghost use Rattle.std.specs.List.{flat_map};
 
-use crate::plan::LAST_SLOT;
+use crate::planning::LAST_SLOT;
 use crate::state::SlotState;
 use crate::table::Row;
 use page_bytes::NoMemory;

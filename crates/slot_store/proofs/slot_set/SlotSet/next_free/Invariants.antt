@@ -1,7 +1,7 @@
 -- No slot so far is free.
 use Rattle.std.proofs.Common.{◌≡◌, ◌≤◌, ◌<◌, ◌-◌, ◌+◌, ℕ, true}
 use Rattle.std.specs.FinMap as map
-use Rattle.slot_store.specs.declared.plan.TheConstants.{LAST_SLOT}
+use Rattle.slot_store.specs.declared.planning.TheConstants.{LAST_SLOT}
 use Rattle.slot_store.proofs.slot_set.SlotSet.next_free.Given as goal
 
 abbrev pub invariant-loop-slot : goal.invariant-loop-slot

@@ -13,7 +13,7 @@ ghost use Rattle.slot_store.specs.Steps.{From, SlotsStand};
 ghost use Rattle.slot_store.specs.Checkpoint.{IsReady, IsPlanned, IsInDoubt, IsSettledAs, settled};
 
 use crate::end::CheckEnd;
-use crate::plan::CheckPlan;
+use crate::planning::CheckPlan;
 use crate::prepare::prepare;
 use crate::state::{DoubtedHead, SlotState};
 use crate::table::PageTable;
