@@ -1,6 +1,6 @@
 -- What the parts of a checkpoint leave, up to the gate of the new head and behind it.
-use Rattle.std.proofs.Common.{◌≡◌, inl, inr, ⊎_elim, ℕ, ◌+◌, ◌<◌, ◌≤◌, List, [], ◌∷◌, ◌++◌, length, map, get_or, take, drop, Option, Some, None, refl, sym, ap, ◌∙◌, subst, arith, append_assoc, true}
-use Rattle.std.specs.Prelude.{IfSome, IfNone}
+use Rattle.std.proofs.Common.{◌≡◌, inl, inr, ⊎_elim, ℕ, ◌+◌, ◌<◌, ◌≤◌, List, [], ◌∷◌, ◌++◌, length, map, get_or, take, drop, Option, Some, None, refl, sym, ap, ◌∙◌, subst, arith, append_assoc, rules, Bool, true, false}
+use Rattle.std.specs.Prelude.{IfSome, IfNone, slice_index}
 use Rattle.std.specs.List.{AllByRecursion, list_any, flat_map}
 use Rattle.std.specs.FinMap as finite
 use Rattle.std.proofs.lemmas.Bool.{cases_eq}
@@ -9,8 +9,10 @@ use Rattle.page_device.specs.declared.device.Which.{Which}
 use Rattle.page_device.specs.declared.device.Which.TheVariants.{Slots}
 use Rattle.page_device.specs.Image.{Image, bytes_of, SameOthers}
 use Rattle.page_device.specs.Device.{FileIs, TornIn}
-use Rattle.page_device.specs.Write.{Torn}
-use Rattle.page_device.specs.Run.{Each, InPart}
+use Rattle.page_device.specs.Write.{Torn, overlay}
+use Rattle.page_device.specs.Run.{Each, InPart, LeavesOnly}
+use Rattle.page_device.proofs.Runs.{weaker, joined}
+use Rattle.page_device.specs.Gate.{IsSettled}
 use Rattle.page_device.proofs.Gate.{torn_gate}
 use Rattle.slot_store.specs.declared.table.Row.{Row}
 use Rattle.slot_store.specs.declared.state.Log.{Log}
@@ -23,7 +25,7 @@ use Rattle.slot_store.specs.Head.{Head, head_bytes, front_bytes, row_bytes, IsRi
 use Rattle.slot_store.specs.Opens.{Opened, Opens, OpensBy, OpensFresh, Yields, IsOlder, store_of_head}
 use Rattle.slot_store.specs.Planned.{is_in_table, IsPlaced, IsPlacedIn, written_slots, row_of, image_in, head_of, opened_of, IsMadeFor}
 use Rattle.slot_store.specs.Steps.{From, SlotsStand, SlotsWritten, GateMoved, BehindGate, IsClosed, Stands, HasImage, HasImages, HasGate}
-use Rattle.slot_store.specs.Checkpoint.{IsAt, IsPlanned, StandsAs, IsInDoubt, IsPrepared}
+use Rattle.slot_store.specs.Checkpoint.{IsAt, IsPlanned, StandsAs, IsInDoubt, IsPrepared, IsSettledAs}
 use Rattle.slot_store.proofs.Steps.{stand_twice}
 use Rattle.slot_store.proofs.Opening.{all_so, all_both, same_log_beside, same_slots, other_twice, of_table, unwritten, at_slots, at_gate, at_behind, commit_of_names, names_of_names, placed_rows, placed_image, begins, all_rows, placed_inside}
 
@@ -148,6 +150,12 @@ module _ (state : SlotState) (plan : CheckPlan) (made : IsMadeFor state plan) (c
           }) (all part.was part.is_old)).at_rest;
         }
 
+    -- an image that has the file with the gate written as 1
+    pub opened_now : (new : Image → Type 0) → FileIs (other_file state.log) (overlay (bytes_of d (other_file state.log)) 0 (1 ∷ [])) new → (i : Image) → new i
+        → InPart (other_file state.log) 0 1 images i → OpensFresh (other_log state.log) new_head o i
+    opened_now new synced i left part =
+        opens_new part.was i part.is_old part.torn.others (synced i left ∙ ap (λ (l : List ℕ). overlay l 0 (1 ∷ [])) ready.read)
+
 -- an image with a head in doubt opens to the same, whatever the gate is
 pub doubt_opens : (state : SlotState) (head : Head) (rest : List ℕ) (o : Opened) (i : Image) → IsInDoubt state head rest o i → Opens o i
 doubt_opens state head rest o i doubt =
@@ -181,7 +189,7 @@ module _ (state : SlotState) (plan : CheckPlan) (made : IsMadeFor state plan) (c
   pub stand_slots : (old : Image → Type 0) (i : Image) → From (SlotsWritten slots) old i → From (SlotsStand slots) old i
   stand_slots old i from = record { was = from.was; is_old = from.is_old; does = from.does.slots }
 
-  stand_on : (old mid : Image → Type 0) → Each mid (From (SlotsStand slots) old) → (was i : Image) → mid was → SameOthers file was i → From (SlotsStand slots) old i
+  pub stand_on : (old mid : Image → Type 0) → Each mid (From (SlotsStand slots) old) → (was i : Image) → mid was → SameOthers file was i → From (SlotsStand slots) old i
   stand_on old mid all was i is same = let first = all was is in record {
     was = first.was;
     is_old = first.is_old;
@@ -202,10 +210,8 @@ module _ (state : SlotState) (plan : CheckPlan) (made : IsMadeFor state plan) (c
       ∙ ap (λ (l : List ℕ). l ++ 0 ∷ rest)
       (ap (λ (l : List ℕ). l ++ flat_map row_bytes plan.table) (made.front
       ∙ ap (front_bytes plan.generation plan.commit plan.entries.value) (sym (length-map plan.placed.items row_of)))
-      ∙ ap (λ (rows : List Row). head_front ++ flat_map row_bytes rows) made.table)
-    where
-      abbrev head_front : List ℕ
-      head_front = front_bytes plan.generation plan.commit plan.entries.value (length (map row_of plan.placed.items))
+      ∙ ap (λ (rows : List Row). front_bytes plan.generation plan.commit plan.entries.value (length (map row_of plan.placed.items)) ++ flat_map row_bytes rows)
+      made.table)
 
   -- all is written but the gate
   pub prepared : (mid mid' new : Image → Type 0) (k k' d : Image) → HasImages plan.placed.items c k → FileIs Slots k.slots mid → SameOthers file k k'
@@ -216,7 +222,7 @@ module _ (state : SlotState) (plan : CheckPlan) (made : IsMadeFor state plan) (c
       let log = other_log state.log in
       let slots_now : d.slots ≡ k.slots = same_slots log k' d stands.others ∙ same_slots log k k' same in
       let is : bytes_of d file ≡ stands.gate ∷ (head_bytes (head_of plan) ++ 0 ∷ stands.rest) =
-          stands.is ∙ ap (λ (l : List ℕ). stands.gate ∷ l) (spelled stands.rest) in
+      stands.is ∙ ap (λ (l : List ℕ). stands.gate ∷ l) (spelled stands.rest) in
       let gates : stands.gate ≡ closed.gate = ap (λ (l : List ℕ). get_or l 0 0) (sym stands.was_so ∙ closed.is) in
       record {
         synced = λ i left. let last = behind i left in let first = moved last.was last.is_old in
@@ -230,3 +236,90 @@ module _ (state : SlotState) (plan : CheckPlan) (made : IsMadeFor state plan) (c
         head = λ i left. written i left ∙ is;
         read = is;
       }
+
+-- a head that was in doubt and is settled
+pub settled_as : (state : SlotState) (head : Head) (rest : List ℕ) (o : Opened) (c : Image) (images : Image → Type 0) (sure : Bool)
+    → IsSettled (other_file state.log) 0 c images sure → Each images (IsInDoubt state head rest o) → Each images (IsSettledAs state head o sure)
+settled_as state head rest o c images sure settled all i left = one sure settled
+  where
+    doubt : IsInDoubt state head rest o i
+    doubt = all i left
+
+    gate_is : (b : Bool) → IsSettled (other_file state.log) 0 c images b → slice_index (bytes_of c (other_file state.log)) 0 ≡ doubt.gate
+    gate_is b s = ap (λ (l : List ℕ). get_or l 0 0) (sym (s.synced i left) ∙ doubt.is)
+
+    one : (b : Bool) → IsSettled (other_file state.log) 0 c images b → IsSettledAs state head o b i
+    one true s = doubt.new (sym (gate_is true s) ∙ s.is_open.0 (search rules))
+    one false s = doubt.old (λ is. absurd (cc (s.is_open.1 (gate_is false s ∙ is))))
+
+-- the first two parts of a preparation, as images and as runs
+module _ {D : Type 0} (moment : D → ℕ) (left_since : D → ℕ → Image → Type 0) (state : SlotState) (plan : CheckPlan) (made : IsMadeFor state plan) (c : Image)
+    (ps : List Placed) (placed_is : ps ≡ plan.placed.items) (file' : Which) (file_is : file' ≡ other_file state.log)
+    (old mid mid' new : Image → Type 0) (ready : Each old (IsPlanned state plan c))
+    (first : Each mid (From (SlotsWritten (written_slots ps)) old)) where
+  abbrev slots' : List ℕ
+  slots' = written_slots plan.placed.items
+
+  pub first_is : Each mid (From (SlotsWritten slots') old)
+  first_is = subst (λ (qs : List Placed). Each mid (From (SlotsWritten (written_slots qs)) old)) placed_is first
+
+  pub first_planned : Each mid (IsPlanned state plan c)
+  first_planned i left = from_slots state plan made c old ready i (first_is i left)
+
+  pub first_stand : Each mid (From (SlotsStand slots') old)
+  first_stand i left = stand_slots state plan made c old i (first_is i left)
+
+  pub first_run : (d d' : D) → LeavesOnly moment left_since d d' (From (SlotsWritten (written_slots ps)) old) → LeavesOnly moment left_since d d' (IsPlanned state plan c)
+  first_run d d' run = weaker moment left_since d d' (From (SlotsWritten slots') old) (IsPlanned state plan c)
+      (subst (λ (qs : List Placed). LeavesOnly moment left_since d d' (From (SlotsWritten (written_slots qs)) old)) placed_is run)
+      (from_slots state plan made c old ready)
+
+  module _ (second : Each mid' (From (GateMoved file') mid)) where
+    pub second_is : Each mid' (From (GateMoved (other_file state.log)) mid)
+    second_is = subst (λ (f : Which). Each mid' (From (GateMoved f) mid)) file_is second
+
+    pub second_planned : Each mid' (IsPlanned state plan c)
+    second_planned i left = from_gate state plan made c mid first_planned i (second_is i left)
+
+    pub second_stand : Each mid' (From (SlotsStand slots') old)
+    second_stand i left = stand_gate state plan made c old mid first_stand i (second_is i left)
+
+    pub second_run : (d d' d'' : D) → LeavesOnly moment left_since d d' (From (SlotsWritten (written_slots ps)) old)
+        → LeavesOnly moment left_since d' d'' (From (GateMoved file') mid) → LeavesOnly moment left_since d d'' (IsPlanned state plan c)
+    second_run d d' d'' run run' =
+        joined moment left_since d d' d'' (IsPlanned state plan c) (From (GateMoved (other_file state.log)) mid) (IsPlanned state plan c) (first_run d d' run)
+        (subst (λ (f : Which). LeavesOnly moment left_since d' d'' (From (GateMoved f) mid)) file_is run') (λ i is. is)
+        (from_gate state plan made c mid first_planned)
+
+    module _ (k : Image) (closed : IsClosed file' k mid') (third : Each new (From (BehindGate file') mid')) where
+      closed_is : IsClosed (other_file state.log) k mid'
+      closed_is = subst (λ (f : Which). IsClosed f k mid') file_is closed
+
+      pub third_is : Each new (From (BehindGate (other_file state.log)) mid')
+      third_is = subst (λ (f : Which). Each new (From (BehindGate f) mid')) file_is third
+
+      pub third_planned : Each new (IsPlanned state plan c)
+      third_planned i left = from_behind state plan made c mid' k closed_is second_planned i (third_is i left)
+
+      pub third_stand : Each new (From (SlotsStand slots') old)
+      third_stand i left = stand_behind state plan made c old mid' second_stand i (third_is i left)
+
+      pub third_run : (d d' d'' e : D) → LeavesOnly moment left_since d d' (From (SlotsWritten (written_slots ps)) old)
+          → LeavesOnly moment left_since d' d'' (From (GateMoved file') mid) → LeavesOnly moment left_since d'' e (From (BehindGate file') mid')
+          → LeavesOnly moment left_since d e (IsPlanned state plan c)
+      third_run d d' d'' e run run' run'' =
+          joined moment left_since d d'' e (IsPlanned state plan c) (From (BehindGate (other_file state.log)) mid') (IsPlanned state plan c)
+          (second_run d d' d'' run run')
+          (subst (λ (f : Which). LeavesOnly moment left_since d'' e (From (BehindGate f) mid')) file_is run'') (λ i is. is)
+          (from_behind state plan made c mid' k closed_is second_planned)
+
+      pub third_prepared : (k1 d : Image) (front : List ℕ) (rows : List Row) → front ≡ plan.front.items → rows ≡ plan.table → HasImages ps c k1 → FileIs Slots k1.slots mid
+          → SameOthers file' k1 k → Stands file' ((front ++ flat_map row_bytes rows) ++ 0 ∷ []) k d → FileIs file' (bytes_of d file') new
+          → IsPrepared state plan c d new
+      third_prepared k1 d front rows front_is rows_is images synced same stands written =
+          prepared state plan made c mid mid' new k1 k d (subst (λ (qs : List Placed). HasImages qs c k1) placed_is images) synced
+          (subst (λ (f : Which). SameOthers f k1 k) file_is same) closed_is second_is
+          (subst (λ (f : Which). Stands f ((plan.front.items ++ flat_map row_bytes plan.table) ++ 0 ∷ []) k d) file_is
+          (subst (λ (l : List ℕ). Stands file' ((l ++ flat_map row_bytes plan.table) ++ 0 ∷ []) k d) front_is
+          (subst (λ (l : List Row). Stands file' ((front ++ flat_map row_bytes l) ++ 0 ∷ []) k d) rows_is stands)))
+          (subst (λ (f : Which). FileIs f (bytes_of d f) new) file_is written) third_is

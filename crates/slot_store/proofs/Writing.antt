@@ -1,9 +1,14 @@
 -- Writes of a plan, one after another: its images to their slots, its head behind the gate.
-use Rattle.std.proofs.Common.{◌≡◌, ℕ, zero, suc, ◌+◌, ◌*◌, ◌<◌, ◌≤◌, List, [], ◌∷◌, ◌++◌, length, take, drop, get_or, Bool, true, false, ◌==◌, ◌||◌, Option, Some, None, refl, sym, ap, ◌∙◌, subst, arith, length-append, append_assoc}
+use Rattle.std.proofs.Common.{◌≡◌, ℕ, zero, suc, ◌+◌, ◌-◌, ◌*◌, ◌<◌, ◌≤◌, List, [], ◌∷◌, ◌++◌, length, take, drop, get_or, Bool, true, false, ◌==◌, ◌||◌, Option, Some, None, refl, sym, ap, ◌∙◌, subst, arith, length-append, append_assoc}
 use Rattle.std.specs.Prelude.{IfSome}
 use Rattle.std.specs.List.{list_any, AllByRecursion, flat_map}
 use Rattle.std.proofs.lemmas.Bool.{or_parts, or_from, ne_eqb}
-use Rattle.std.proofs.lemmas.List.{take_all, take_at, drop-drop, drop_at}
+use Rattle.std.proofs.lemmas.List.{take_all, take_at, drop-drop, drop_at, drop-take, take-take, take-append-drop}
+use Rattle.std.proofs.lemmas.List.Concat.{flat_map-append}
+use Rattle.redo_log.specs.Record.{number}
+use Rattle.redo_log.proofs.Bodies.{length-number}
+use Rattle.page_device.specs.Run.{Each}
+use Rattle.slot_store.specs.declared.table.Row.{Row}
 use Rattle.page_device.specs.declared.device.Which.{Which}
 use Rattle.page_device.specs.Image.{Image, bytes_of, with_bytes, SameOthers}
 use Rattle.page_device.specs.Write.{overlay}
@@ -11,10 +16,10 @@ use Rattle.page_device.proofs.Bytes.{overlay-inside}
 use Rattle.page_device.proofs.Runs.{same_others-twice, bytes_of-with_bytes}
 use Rattle.slot_store.specs.declared.planning.Placed.{Placed}
 use Rattle.slot_store.specs.Slots.{slot_in, IsInside}
-use Rattle.slot_store.specs.Head.{EachPair}
+use Rattle.slot_store.specs.Head.{EachPair, row_bytes}
 use Rattle.slot_store.specs.Planned.{written_slots, slot_if, AreApart}
-use Rattle.slot_store.specs.Steps.{From, SlotsWritten, HasImage, HasImages, BeginsWith}
-use Rattle.slot_store.proofs.Steps.{slots_twice, slots_more, from_weaker}
+use Rattle.slot_store.specs.Steps.{From, BehindGate, SlotsWritten, HasImage, HasImages, BeginsWith}
+use Rattle.slot_store.proofs.Steps.{slots_twice, slots_more, from_weaker, from_twice, behind_twice}
 
 -- what holds of each holds of one
 pub all_at : {X : Type 0} (P : X → Type 0) (xs : List X) (k : ℕ) (d : X) → AllByRecursion P xs → k < length xs → P (get_or xs k d)
@@ -137,3 +142,37 @@ one_of_many placed k p less is old i from =
     from_weaker (SlotsWritten (written_slots (p ∷ []))) (SlotsWritten (written_slots placed))
     (slots_more (written_slots (p ∷ [])) (written_slots placed)
     (λ s none. subst (λ (x : Placed). list_any (λ t. t == s) (written_slots (x ∷ [])) ≡ false) (sym is) (not_by_one placed k p less s none))) old i from
+
+-- an image that comes from a write behind the gate, and one from such an image
+pub behind_again : (file : Which) (old mid : Image → Type 0) → Each mid (From (BehindGate file) old) → (i : Image) → From (BehindGate file) mid i
+    → From (BehindGate file) old i
+behind_again file old mid all i from = from_twice (BehindGate file) (behind_twice file) old mid all i from
+
+-- the first of some rows, and those that are written next
+pub rows_more : (rows : List Row) (place next : ℕ) → place ≤ next
+    → flat_map row_bytes (take next rows) ≡ flat_map row_bytes (take place rows) ++ flat_map row_bytes (take (next - place) (drop place rows))
+rows_more rows place next le =
+    ap (λ (n : ℕ). flat_map row_bytes (take n rows)) (omega arith)
+    ∙ (ap (flat_map row_bytes) (take_parts rows place (next - place)) ∙ flat_map-append row_bytes (take place rows) (take (next - place) (drop place rows)))
+  where
+    take_parts : (xs : List Row) (k n : ℕ) → take (k + n) xs ≡ take k xs ++ take n (drop k xs)
+    take_parts xs k n =
+        let front = ap (λ l. l ++ drop k (take (k + n) xs)) (take-take k (k + n) xs (omega arith)) in
+        sym (take-append-drop k (take (k + n) xs)) ∙ (front ∙ ap (λ l. take k xs ++ l) (drop-take k n xs))
+
+-- how many bytes some rows have
+pub length-rows : (rows : List Row) → length (flat_map row_bytes rows) ≡ length rows * 32
+length-rows [] = refl
+length-rows (r ∷ rs) = omega (arith, length-append (row_bytes r) (flat_map row_bytes rs), length-row r, length-rows rs)
+  where
+    length-row : (r : Row) → length (row_bytes r) ≡ 32
+    length-row r = omega (
+      arith,
+      length-append ((number r.id.space.commit ++ number r.id.space.ordinal) ++ number r.id.number) (number r.slot),
+      length-append (number r.id.space.commit ++ number r.id.space.ordinal) (number r.id.number),
+      length-append (number r.id.space.commit) (number r.id.space.ordinal),
+      length-number r.id.space.commit,
+      length-number r.id.space.ordinal,
+      length-number r.id.number,
+      length-number r.slot,
+    )

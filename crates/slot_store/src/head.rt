@@ -59,17 +59,33 @@ fn write_rows<D: Device>(
     let mut place = 0;
     while place < rows.len() {
         let next = rows.len().min(place + BUFFER_BYTES / ROW_BYTES);
-        let some = &rows[place..next];
-        fill_rows(buffer, some);
-        put(
-            device,
-            file,
-            at + (place * ROW_BYTES) as u64,
-            &buffer[..some.len() * ROW_BYTES],
-        )?;
+        let there = at + (place * ROW_BYTES) as u64;
+        write_some(device, file, there, &rows[place..next], buffer)?;
         place = next;
     }
     Ok(at + (rows.len() * ROW_BYTES) as u64)
+}
+
+// Writes rows that fit the buffer.
+fn write_some<D: Device>(
+    device: &mut D,
+    file: Which,
+    at: u64,
+    rows: &[Row],
+    buffer: &mut [u8],
+) -> Result<(), Failed>
+    requires place { 1 ≤ at }
+    requires fits { at + length rows.now * 32 ≤ LONGEST }
+    requires buffer { length rows.now * 32 ≤ length buffer.old }
+    ensures buffer { length buffer.new ≡ length buffer.old }
+    ensures told { is_some (D.contents device.new) ≡ is_some (D.contents device.old) }
+    ensures begins { OnOk result (IfSome (D.contents device.old) (λ c. (front rest : List ℕ) → length front ≡ at → bytes_of c file ≡ front ++ rest → BeginsWith file (front ++ flat_map row_bytes rows.now) c (D.contents device.new))) }
+    ensures images { Each (D.may_leave device.new) (From (BehindGate file) (D.may_leave device.old)) }
+    ensures any_moment { LeavesOnly D.moment D.left_since device.old device.new (From (BehindGate file) (D.may_leave device.old)) }
+    ensures cause { HasCause (D.failures device.old) (D.failures device.new) result }
+{
+    fill_rows(buffer, rows);
+    put(device, file, at, &buffer[..rows.len() * ROW_BYTES])
 }
 
 // One write behind the gate.

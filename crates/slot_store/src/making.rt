@@ -89,14 +89,21 @@ pub fn settle_head<D: Device>(device: &mut D, state: &mut SlotState) -> Result<b
     ensures any_moment { LeavesOnly D.moment D.left_since device.old device.new (D.may_leave device.old) }
     ensures cause { HasCause (D.failures device.old) (D.failures device.new) result }
 {
-    let log = state.log.other();
-    let yes = settle_gate(device, log.file(), 0)?;
-    if let Some(head) = state.doubt.take() {
-        if yes {
-            state.log = log;
-            state.generation = head.generation;
-            state.table = head.table;
-        }
-    }
+    let yes = settle_gate(device, state.log.other().file(), 0)?;
+    settle_state(state, yes);
     Ok(yes)
+}
+
+// The state where a head in doubt counts, or not.
+fn settle_state(state: &mut SlotState, counts: bool)
+    ensures { state.new ≡ settled state.old counts }
+{
+    let Some(head) = state.doubt.take() else {
+        return;
+    };
+    if counts {
+        state.log = state.log.other();
+        state.generation = head.generation;
+        state.table = head.table;
+    }
 }

@@ -1,5 +1,5 @@
 //! Giving each page of a plan its slot.
-ghost use Rattle.std.specs.Prelude.{◌≡◌, ◌≤◌, ◌<◌, ◌+◌, ◌++◌, [], ℕ, true, false, map, IfOk, OnOk, IsErr, IsErrOf};
+ghost use Rattle.std.specs.Prelude.{◌≡◌, ◌≤◌, ◌<◌, ◌+◌, ◌++◌, ◌∷◌, [], ℕ, true, false, map, IfOk, OnOk, OnErr, IsErr, IsErrOf};
 ghost use Rattle.std.specs.Option.{option_copied, option_map};
 ghost use Rattle.std.specs.FinMap as maps;
 ghost use Rattle.page_versions.specs.Chains.{version_at};
@@ -64,25 +64,36 @@ fn place_image(
     ensures spent { (kind : SpentKind) (n : ℕ) → IsErrOf result (PlanEnd.Spent kind n) → IsSlotEnd kind n × NoneFree (λ s. maps.contains_key used.now s) from.old × IsResident image.now }
     ensures stays { IsErr result → placed.new.items ≡ placed.old.items }
 {
-    let page = match image {
-        Image::Absent => return Ok(()),
-        Image::Slot(slot) => Placed {
-            id,
-            slot: *slot,
-            page: None,
-        },
+    match image {
+        Image::Absent => Ok(()),
+        Image::Slot(slot) => {
+            let slot = *slot;
+            push_placed(
+                placed,
+                Placed {
+                    id,
+                    slot,
+                    page: None,
+                },
+            )?;
+            Ok(())
+        }
         Image::Resident(page) => {
             let slot = take_free(from, used)?;
-            Placed {
-                id,
-                slot,
-                page: Some(page.copy()?),
-            }
+            let page = Some(page.copy()?);
+            push_placed(placed, Placed { id, slot, page })?;
+            Ok(())
         }
-    };
+    }
+}
+
+fn push_placed(placed: &mut Vec<Placed>, page: Placed) -> Result<(), NoMemory>
+    ensures ok { OnOk result (placed.new.items ≡ placed.old.items ++ page ∷ []) }
+    ensures err { OnErr result (placed.new.items ≡ placed.old.items) }
+{
     match placed.push(page) {
         Ok(()) => Ok(()),
-        Err(_) => Err(PlanEnd::NoMemory),
+        Err(_) => Err(NoMemory),
     }
 }
 

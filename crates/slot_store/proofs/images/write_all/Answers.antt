@@ -20,8 +20,10 @@ loop-page-init g c = let d = c.args.device.now in let w = written_slots c.args.p
 }
 
 pub write_one-requires : goal.write_one-requires
-write_one-requires g c =
-    subst HasRoom (sym c.page-item.is) (all_at HasRoom c.args.placed.now c.loop-page.page-index c.page-item.result c.requires.slots c.loop-page-test.true)
+write_one-requires g c = record {
+  slot = subst HasRoom (sym c.page-item.is)
+      (all_at HasRoom c.args.placed.now c.loop-page.page-index c.page-item.result c.requires.slots c.loop-page-test.true);
+}
 
 pub loop-page-preserved : goal.loop-page-preserved
 loop-page-preserved g c =
