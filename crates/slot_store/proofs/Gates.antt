@@ -36,8 +36,8 @@ gates_still file old has i is = record { was = i; is_old = is; does = gate_still
 -- a gate that is not 1 is closed
 pub closed_so : (file : Which) (c : Image) (images : Image → Type 0) (sure : Bool) → sure ≡ false → HasGate file c → IsSettled file 0 c images sure
     → IsClosed file c images
-closed_so file c images true no has settled = absurd (cc no)
-closed_so file c images false no has settled = let first = first_of (bytes_of c file) has in record {
+closed_so file c images true is has settled = absurd (cc is)
+closed_so file c images false is has settled = let first = first_of (bytes_of c file) has in record {
   synced = settled.synced;
   gate = get_or (bytes_of c file) 0 0;
   rest = first.0;

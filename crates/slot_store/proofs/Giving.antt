@@ -13,7 +13,9 @@ use Rattle.page_versions.specs.declared.version.Image.{Image as PageImage}
 use Rattle.slot_store.specs.declared.planning.Placed.{Placed}
 use Rattle.slot_store.specs.Slots.{AreLeast, GivesSlots}
 use Rattle.slot_store.specs.Used.{SlotIds, with_slots}
-use Rattle.slot_store.specs.Planned.{written_slots, slot_if, before_of}
+use Rattle.page_versions.specs.declared.version.Image.TheVariants.{Resident, Slot, Absent}
+use Rattle.slot_store.specs.Planned.{written_slots, slot_if, before_of, image_before}
+use Rattle.slot_store.specs.Spent.{count_residents, one_resident, IsSlotSpent, NoneFree}
 
 -- one more page's slot comes behind
 pub written_snoc : (placed : List Placed) (p : Placed) → written_slots (placed ++ p ∷ []) ≡ written_slots placed ++ written_slots (p ∷ [])
@@ -95,4 +97,52 @@ gives_more used from mid to one two three first second = record {
   all = λ s is_low high free. list_any-append (λ t. t == s) first.given second.given ∙ ⊎_elim
       (λ less. or_left (list_any (λ t. t == s) first.given) (list_any (λ t. t == s) second.given) (first.all s is_low less free))
       (λ more. or_right (list_any (λ t. t == s) first.given) (list_any (λ t. t == s) second.given) (second.all s more high free)) (cases_lt s mid);
+}
+
+-- a page that stays in its slot takes none
+pub placed_kept : (used : ℕ → Bool) (from : ℕ) (old new : List Placed) (p : Placed) → new ≡ old ++ p ∷ [] → p.page ≡ None
+    → GivesSlots used from from (written_slots old) (written_slots new)
+placed_kept used from old new p is none =
+    subst (GivesSlots used from from (written_slots old))
+    (sym (ap written_slots is ∙ (written_snoc old p ∙ (ap (λ o. written_slots old ++ slot_if p.slot o []) none ∙ append-nil (written_slots old)))))
+    (gives_none used from (written_slots old))
+
+-- a page that is written takes the least free slot
+pub placed_given : (used : ℕ → Bool) (from : ℕ) (old new : List Placed) (p : Placed) (page : List ℕ) → new ≡ old ++ p ∷ [] → p.page ≡ Some page
+    → from ≤ p.slot → used p.slot ≡ false → ((t : ℕ) → from ≤ t → t < p.slot → used t ≡ true)
+    → GivesSlots used from (p.slot + 1) (written_slots old) (written_slots new)
+placed_given used from old new p page is some low free below =
+    gives_one used from p.slot (written_slots old) (written_slots new)
+    (ap written_slots is ∙ (written_snoc old p ∙ ap (λ o. written_slots old ++ slot_if p.slot o []) some)) low free below
+
+-- how many pages are written
+pub count_placed : (placed : List Placed) → count_residents (map before_of placed) ≡ length (written_slots placed)
+count_placed [] = refl
+count_placed (p ∷ ps) = one p.slot p.page
+  where
+    one : (slot : ℕ) (page : Option (List ℕ)) → one_resident (image_before slot page) (count_residents (map before_of ps)) ≡ length (slot_if slot page (written_slots ps))
+    one slot None = count_placed ps
+    one slot (Some page) = ap suc (count_placed ps)
+
+-- of images one after another
+pub count-append : (xs ys : List (PageId × PageImage)) → count_residents (xs ++ ys) ≡ count_residents xs + count_residents ys
+count-append [] ys = refl
+count-append (x ∷ xs) ys = one x.1
+  where
+    one : (image : PageImage) → one_resident image (count_residents (xs ++ ys)) ≡ one_resident image (count_residents xs) + count_residents ys
+    one (Resident page) = ap suc (count-append xs ys)
+    one (Slot slot) = count-append xs ys
+    one Absent = count-append xs ys
+
+-- where no slot is free any more, slots are spent
+pub slots_spent : (used : ℕ → Bool) (placed : List Placed) (from : ℕ) (images rest : List (PageId × PageImage)) → GivesSlots used 0 from [] (written_slots placed)
+    → map before_of placed ++ rest ≡ images → 0 < count_residents rest → NoneFree used from → IsSlotSpent used images
+slots_spent used placed from images rest gives is some none = record {
+  slots = written_slots placed;
+  least = subst (AreLeast used 0) (append-nil gives.given ∙ sym gives.is) (gives.least [] tt);
+  few = subst (λ (l : List (PageId × PageImage)). length (written_slots placed) < count_residents l) is
+      (omega (arith, count-append (map before_of placed) rest, count_placed placed, some));
+  all = λ s within free. ⊎_elim
+      (λ less. subst (λ l. list_any (λ t. t == s) l ≡ true) (sym gives.is) (gives.all s (omega arith) less free))
+      (λ more. absurd (both_ways (used s) free (none s more within))) (cases_lt s from);
 }

@@ -1,5 +1,5 @@
 -- What the parts of a checkpoint leave, up to the gate of the new head and behind it.
-use Rattle.std.proofs.Common.{◌≡◌, inl, inr, ⊎_elim, ℕ, ◌+◌, ◌<◌, ◌≤◌, List, [], ◌∷◌, ◌++◌, length, map, get_or, take, drop, Option, Some, None, refl, sym, ap, ◌∙◌, subst, arith, append_assoc, rules, Bool, true, false}
+use Rattle.std.proofs.Common.{◌≡◌, inl, inr, ⊎_elim, ℕ, ◌+◌, ◌*◌, ◌<◌, ◌≤◌, List, [], ◌∷◌, ◌++◌, length, map, get_or, take, drop, Option, Some, None, refl, sym, ap, ◌∙◌, subst, arith, append_assoc, length-append, rules, Bool, true, false}
 use Rattle.std.specs.Prelude.{IfSome, IfNone, slice_index}
 use Rattle.std.specs.List.{AllByRecursion, list_any, flat_map}
 use Rattle.std.specs.FinMap as finite
@@ -26,6 +26,8 @@ use Rattle.slot_store.specs.Opens.{Opened, Opens, OpensBy, OpensFresh, Yields, I
 use Rattle.slot_store.specs.Planned.{is_in_table, IsPlaced, IsPlacedIn, written_slots, row_of, image_in, head_of, opened_of, IsMadeFor}
 use Rattle.slot_store.specs.Steps.{From, SlotsStand, SlotsWritten, GateMoved, BehindGate, IsClosed, Stands, HasImage, HasImages, HasGate}
 use Rattle.slot_store.specs.Checkpoint.{IsAt, IsPlanned, StandsAs, IsInDoubt, IsPrepared, IsSettledAs}
+use Rattle.page_device.specs.declared.device.TheConstants.{LONGEST}
+use Rattle.slot_store.proofs.Writing.{length-rows}
 use Rattle.slot_store.proofs.Steps.{stand_twice}
 use Rattle.slot_store.proofs.Opening.{all_so, all_both, same_log_beside, same_slots, other_twice, of_table, unwritten, at_slots, at_gate, at_behind, commit_of_names, names_of_names, placed_rows, placed_image, begins, all_rows, placed_inside}
 
@@ -159,12 +161,12 @@ module _ (state : SlotState) (plan : CheckPlan) (made : IsMadeFor state plan) (c
 -- an image with a head in doubt opens to the same, whatever the gate is
 pub doubt_opens : (state : SlotState) (head : Head) (rest : List ℕ) (o : Opened) (i : Image) → IsInDoubt state head rest o i → Opens o i
 doubt_opens state head rest o i doubt =
-    ⊎_elim (λ one. (other_log state.log, (head, (doubt.new one).opens))) (λ shut. let at = doubt.old shut in (state.log, (at.head, at.opens)))
+    ⊎_elim (λ one. (other_log state.log, head, (doubt.new one).opens)) (λ shut. let at = doubt.old shut in (state.log, at.head, at.opens))
     (cases_eq doubt.gate 1)
 
 -- an image of the state opens
 pub at_opens : (state : SlotState) (o : Opened) (i : Image) → IsAt state o i → Opens o i
-at_opens state o i at = (state.log, (at.head, at.opens))
+at_opens state o i at = (state.log, at.head, at.opens)
 
 -- over the parts of a preparation, one after another
 module _ (state : SlotState) (plan : CheckPlan) (made : IsMadeFor state plan) (c : Image) where
@@ -203,15 +205,31 @@ module _ (state : SlotState) (plan : CheckPlan) (made : IsMadeFor state plan) (c
       → From (SlotsStand slots) old i
   stand_behind old mid all i from = stand_on old mid all from.was i from.is_old from.does.others
 
+  -- the head's bytes: its front, and its rows
+  spelled_head : plan.front.items ++ flat_map row_bytes plan.table ≡ head_bytes (head_of plan)
+  spelled_head =
+      ap (λ (l : List ℕ). l ++ flat_map row_bytes plan.table)
+      (made.front ∙ ap (front_bytes plan.generation plan.commit plan.entries.value) (sym (length-map plan.placed.items row_of)))
+      ∙ ap (λ (rows : List Row). front_bytes plan.generation plan.commit plan.entries.value (length (map row_of plan.placed.items)) ++ flat_map row_bytes rows)
+      made.table
+
   -- the head's bytes, as they are written
   spelled : (rest : List ℕ) → ((plan.front.items ++ flat_map row_bytes plan.table) ++ 0 ∷ []) ++ rest ≡ head_bytes (head_of plan) ++ 0 ∷ rest
   spelled rest =
-      append_assoc (plan.front.items ++ flat_map row_bytes plan.table) (0 ∷ []) rest
-      ∙ ap (λ (l : List ℕ). l ++ 0 ∷ rest)
-      (ap (λ (l : List ℕ). l ++ flat_map row_bytes plan.table) (made.front
-      ∙ ap (front_bytes plan.generation plan.commit plan.entries.value) (sym (length-map plan.placed.items row_of)))
-      ∙ ap (λ (rows : List Row). front_bytes plan.generation plan.commit plan.entries.value (length (map row_of plan.placed.items)) ++ flat_map row_bytes rows)
-      made.table)
+      append_assoc (plan.front.items ++ flat_map row_bytes plan.table) (0 ∷ []) rest ∙ ap (λ (l : List ℕ). l ++ 0 ∷ rest) spelled_head
+
+  -- the head fits the file, as it is written
+  pub head_fits : (front : List ℕ) (rows : List Row) → front ≡ plan.front.items → rows ≡ plan.table → length front + length rows * 32 + 2 ≤ LONGEST
+  head_fits front rows front_is rows_is =
+      omega (
+        arith,
+        made.fits,
+        ap length spelled_head,
+        length-append plan.front.items (flat_map row_bytes plan.table),
+        length-rows plan.table,
+        ap length front_is,
+        ap length rows_is,
+      )
 
   -- all is written but the gate
   pub prepared : (mid mid' new : Image → Type 0) (k k' d : Image) → HasImages plan.placed.items c k → FileIs Slots k.slots mid → SameOthers file k k'

@@ -1,6 +1,6 @@
 -- Writes of a plan, one after another: its images to their slots, its head behind the gate.
 use Rattle.std.proofs.Common.{◌≡◌, ℕ, zero, suc, ◌+◌, ◌-◌, ◌*◌, ◌<◌, ◌≤◌, List, [], ◌∷◌, ◌++◌, length, take, drop, get_or, Bool, true, false, ◌==◌, ◌||◌, Option, Some, None, refl, sym, ap, ◌∙◌, subst, arith, length-append, append_assoc}
-use Rattle.std.specs.Prelude.{IfSome}
+use Rattle.std.specs.Prelude.{IfSome, Result, Ok, Err, OnOk}
 use Rattle.std.specs.List.{list_any, AllByRecursion, flat_map}
 use Rattle.std.proofs.lemmas.Bool.{or_parts, or_from, ne_eqb}
 use Rattle.std.proofs.lemmas.List.{take_all, take_at, drop-drop, drop_at, drop-take, take-take, take-append-drop}
@@ -176,3 +176,8 @@ length-rows (r ∷ rs) = omega (arith, length-append (row_bytes r) (flat_map row
       length-number r.id.number,
       length-number r.slot,
     )
+
+-- of two things that hold after Ok
+pub both_ok : {T E : Type 0} (r : Result T E) (A B C : Type 0) → (A → B → C) → OnOk r A → OnOk r B → OnOk r C
+both_ok (Ok x) A B C f a b = f a b
+both_ok (Err e) A B C f a b = tt

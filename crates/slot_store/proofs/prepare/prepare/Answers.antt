@@ -1,11 +1,12 @@
-use Rattle.std.proofs.Common.{◌≡◌, List, ℕ, refl, sym, ap, ◌∙◌, subst, rules, arith}
+use Rattle.std.proofs.Common.{◌≡◌, [], List, ℕ, refl, sym, ap, ◌∙◌, subst, rules, arith}
 use Rattle.std.specs.Prelude.{IfSome}
 use Rattle.page_device.specs.declared.device.Which.{Which}
+use Rattle.page_device.specs.Image.{Image}
 use Rattle.page_device.proofs.Told.{if_told, told}
 use Rattle.slot_store.specs.declared.planning.Placed.{Placed}
 use Rattle.slot_store.specs.declared.table.Row.{Row}
 use Rattle.slot_store.specs.Logs.{other_file}
-use Rattle.slot_store.proofs.Preparing.{first_planned, first_stand, first_run, second_planned, second_stand, second_run, third_planned, third_stand, third_run, third_prepared}
+use Rattle.slot_store.proofs.Preparing.{first_planned, first_stand, first_run, second_planned, second_stand, second_run, third_planned, third_stand, third_run, third_prepared, head_fits}
 use Rattle.slot_store.proofs.prepare.prepare.Goals as goal
 
 pub returns-in_err-write_images-clause-images : goal.returns-in_err-write_images-clause-images
@@ -132,3 +133,10 @@ returns-clause-done g c =
           (told (g.D.Device.contents d1) _ _ (told o _ i is c.in_ok-write_images.ensures.contents).1 c.in_ok-close_gate.ensures.contents).0 (told (g.D.Device.contents d1) _ _ (told o _ i is c.in_ok-write_images.ensures.contents).1 c.in_ok-close_gate.ensures.contents).3 c.write_head.ensures.images
           one.0 three.0 front rows front_is rows_is one.2 one.3 two.2 three.2 three.3,
     ))
+
+no_image : Image
+no_image = record { slots = []; log_a = []; log_b = [] }
+
+pub write_head-requires-clause-fits : goal.write_head-requires-clause-fits
+write_head-requires-clause-fits g c =
+    head_fits c.args.state.now c.args.plan.now c.requires.made no_image c.as_slice-front.result.now c.rows-rows.result.now (search rules) (search rules)
