@@ -1,6 +1,7 @@
 -- Slots that are given one after another, and the set of those that are in use.
 use Rattle.std.proofs.Common.{◌≡◌, ℕ, suc, ◌+◌, ◌<◌, ◌≤◌, List, [], ◌∷◌, ◌++◌, length, map, Bool, true, false, ◌==◌, ◌||◌, Option, Some, None, is_some, cond, refl, sym, ap, ◌∙◌, subst, arith, ⊎_elim}
-use Rattle.std.specs.List.{list_any}
+use Rattle.std.specs.List.{list_any, AllByRecursion}
+use Rattle.slot_store.specs.declared.planning.TheConstants.{LAST_SLOT}
 use Rattle.std.specs.FinMap as finite
 use Rattle.std.specs.Ordering.{nat_cmp, eq_by_cmp}
 use Rattle.std.specs.Cmp.{nat_cmp_total, unsigned_tied}
@@ -33,17 +34,19 @@ gives_none used from before = record {
   is = sym (append-nil before);
   least = λ more h. h;
   all = λ s low high free. absurd (omega (arith, low, high));
+  within = tt;
 }
 
 -- the least free slot is given
-pub gives_one : (used : ℕ → Bool) (from s : ℕ) (before after : List ℕ) → after ≡ before ++ s ∷ [] → from ≤ s → used s ≡ false
+pub gives_one : (used : ℕ → Bool) (from s : ℕ) (before after : List ℕ) → after ≡ before ++ s ∷ [] → from ≤ s → s ≤ LAST_SLOT → used s ≡ false
     → ((t : ℕ) → from ≤ t → t < s → used t ≡ true) → GivesSlots used from (s + 1) before after
-gives_one used from s before after is low free below = record {
+gives_one used from s before after is low high_enough free below = record {
   given = s ∷ [];
   is = is;
   least = λ more h. (low, free, below, h);
   all = λ t from_low high t_free. ⊎_elim (λ less. absurd (both_ways (used t) t_free (below t from_low less)))
       (λ more. or_left (s == t) false (eq-eqb s t (omega (arith, high, more)))) (cases_lt t s);
+  within = (high_enough, tt);
 }
 
 is_some-cond : (b : Bool) (o : Option (Unit {0})) → is_some (cond b (Some tt) o) ≡ (b || is_some o)
@@ -97,7 +100,13 @@ gives_more used from mid to one two three first second = record {
   all = λ s is_low high free. list_any-append (λ t. t == s) first.given second.given ∙ ⊎_elim
       (λ less. or_left (list_any (λ t. t == s) first.given) (list_any (λ t. t == s) second.given) (first.all s is_low less free))
       (λ more. or_right (list_any (λ t. t == s) first.given) (list_any (λ t. t == s) second.given) (second.all s more high free)) (cases_lt s mid);
+  within = all_append first.given second.given first.within second.within;
 }
+  where
+    all_append : (xs ys : List ℕ) → AllByRecursion (λ (s : ℕ). s ≤ LAST_SLOT) xs → AllByRecursion (λ (s : ℕ). s ≤ LAST_SLOT) ys
+        → AllByRecursion (λ (s : ℕ). s ≤ LAST_SLOT) (xs ++ ys)
+    all_append [] ys all more = more
+    all_append (x ∷ xs) ys all more = (all.0, all_append xs ys all.1 more)
 
 -- a page that stays in its slot takes none
 pub placed_kept : (used : ℕ → Bool) (from : ℕ) (old new : List Placed) (p : Placed) → new ≡ old ++ p ∷ [] → p.page ≡ None
@@ -109,30 +118,32 @@ placed_kept used from old new p is none =
 
 -- a page that is written takes the least free slot
 pub placed_given : (used : ℕ → Bool) (from : ℕ) (old new : List Placed) (p : Placed) (page : List ℕ) → new ≡ old ++ p ∷ [] → p.page ≡ Some page
-    → from ≤ p.slot → used p.slot ≡ false → ((t : ℕ) → from ≤ t → t < p.slot → used t ≡ true)
+    → from ≤ p.slot → p.slot ≤ LAST_SLOT → used p.slot ≡ false → ((t : ℕ) → from ≤ t → t < p.slot → used t ≡ true)
     → GivesSlots used from (p.slot + 1) (written_slots old) (written_slots new)
-placed_given used from old new p page is some low free below =
+placed_given used from old new p page is some low high free below =
     gives_one used from p.slot (written_slots old) (written_slots new)
-    (ap written_slots is ∙ (written_snoc old p ∙ ap (λ o. written_slots old ++ slot_if p.slot o []) some)) low free below
+    (ap written_slots is ∙ (written_snoc old p ∙ ap (λ o. written_slots old ++ slot_if p.slot o []) some)) low high free below
 
 -- how many pages are written
 pub count_placed : (placed : List Placed) → count_residents (map before_of placed) ≡ length (written_slots placed)
 count_placed [] = refl
-count_placed (p ∷ ps) = one p.slot p.page
+count_placed (p ∷ ps) = one p.slot p.page (count_placed ps)
   where
-    one : (slot : ℕ) (page : Option (List ℕ)) → one_resident (image_before slot page) (count_residents (map before_of ps)) ≡ length (slot_if slot page (written_slots ps))
-    one slot None = count_placed ps
-    one slot (Some page) = ap suc (count_placed ps)
+    one : (slot : ℕ) (page : Option (List ℕ)) → count_residents (map before_of ps) ≡ length (written_slots ps)
+        → one_resident (image_before slot page) (count_residents (map before_of ps)) ≡ length (slot_if slot page (written_slots ps))
+    one slot None same = same
+    one slot (Some page) same = ap suc same
 
 -- of images one after another
 pub count-append : (xs ys : List (PageId × PageImage)) → count_residents (xs ++ ys) ≡ count_residents xs + count_residents ys
 count-append [] ys = refl
-count-append (x ∷ xs) ys = one x.1
+count-append (x ∷ xs) ys = one x.1 (count-append xs ys)
   where
-    one : (image : PageImage) → one_resident image (count_residents (xs ++ ys)) ≡ one_resident image (count_residents xs) + count_residents ys
-    one (Resident page) = ap suc (count-append xs ys)
-    one (Slot slot) = count-append xs ys
-    one Absent = count-append xs ys
+    one : (image : PageImage) → count_residents (xs ++ ys) ≡ count_residents xs + count_residents ys
+        → one_resident image (count_residents (xs ++ ys)) ≡ one_resident image (count_residents xs) + count_residents ys
+    one (Resident page) same = ap suc same
+    one (Slot slot) same = same
+    one Absent same = same
 
 -- where no slot is free any more, slots are spent
 pub slots_spent : (used : ℕ → Bool) (placed : List Placed) (from : ℕ) (images rest : List (PageId × PageImage)) → GivesSlots used 0 from [] (written_slots placed)

@@ -6,3 +6,4 @@ pub mod Preparing
 pub mod Writing
 pub mod Gates
 pub mod Giving
+pub mod Fitting

@@ -143,10 +143,26 @@ one_of_many placed k p less is old i from =
     (slots_more (written_slots (p ∷ [])) (written_slots placed)
     (λ s none. subst (λ (x : Placed). list_any (λ t. t == s) (written_slots (x ∷ [])) ≡ false) (sym is) (not_by_one placed k p less s none))) old i from
 
+-- and three
+pub begins_thrice : (file : Which) (one two three : List ℕ) (c : Image) (now next last : Option Image) → (first : BeginsWith file one c now)
+    → (second : BeginsWith file two first.image next) → BeginsWith file three second.image last → BeginsWith file three c last
+begins_thrice file one two three c now next last first second third = record {
+  image = third.image;
+  told = third.told;
+  others = same_others-twice file c second.image third.image (same_others-twice file c first.image second.image first.others second.others) third.others;
+  rest = third.rest;
+  is = third.is;
+}
+
 -- an image that comes from a write behind the gate, and one from such an image
 pub behind_again : (file : Which) (old mid : Image → Type 0) → Each mid (From (BehindGate file) old) → (i : Image) → From (BehindGate file) mid i
     → From (BehindGate file) old i
 behind_again file old mid all i from = from_twice (BehindGate file) (behind_twice file) old mid all i from
+
+-- the same of all such images
+pub behind_all : (file : Which) (old mid new : Image → Type 0) → Each mid (From (BehindGate file) old) → Each new (From (BehindGate file) mid)
+    → Each new (From (BehindGate file) old)
+behind_all file old mid new all more i left = behind_again file old mid all i (more i left)
 
 -- the first of some rows, and those that are written next
 pub rows_more : (rows : List Row) (place next : ℕ) → place ≤ next

@@ -1,6 +1,7 @@
 -- The slots of the slot file: slot k is the 4,096 bytes from k * 4096 on.
 use Rattle.std.specs.Prelude.{◌≡◌, ℕ, ◌+◌, ◌*◌, ◌<◌, ◌≤◌, Bool, true, false, ◌==◌, List, [], ◌∷◌, ◌++◌, length, take, drop}
-use Rattle.std.specs.List.{list_any}
+use Rattle.std.specs.List.{list_any, AllByRecursion}
+use Rattle.slot_store.specs.declared.planning.TheConstants.{LAST_SLOT}
 
 -- the bytes of a slot
 abbrev pub slot_in : List ℕ → ℕ → List ℕ
@@ -21,9 +22,10 @@ behind_slots from [] = from
 behind_slots from (s ∷ ss) = behind_slots (s + 1) ss
 
 -- These slots were given one after another, each the least free one from a place on, up to another place: those after are those
--- before and then the given ones, and each free slot between is given.
+-- before and then the given ones, each free slot between is given, and none is past the last.
 pub record GivesSlots (used : ℕ → Bool) (from to : ℕ) (before after : List ℕ) : Type 0 where
   pub given : List ℕ
   pub is : after ≡ before ++ given
   pub least : (more : List ℕ) → AreLeast used to more → AreLeast used from (given ++ more)
   pub all : (s : ℕ) → from ≤ s → s < to → used s ≡ false → list_any (λ t. t == s) given ≡ true
+  pub within : AllByRecursion (λ (s : ℕ). s ≤ LAST_SLOT) given

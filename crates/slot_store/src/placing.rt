@@ -3,6 +3,7 @@ ghost use Rattle.std.specs.Prelude.{◌≡◌, ◌≤◌, ◌<◌, ◌+◌, ◌+
 ghost use Rattle.std.specs.Option.{option_copied, option_map};
 ghost use Rattle.std.specs.FinMap as maps;
 ghost use Rattle.page_versions.specs.Chains.{version_at};
+ghost use Rattle.std.specs.List.{AllByRecursion};
 ghost use Rattle.slot_store.specs.Slots.{AreLeast, GivesSlots};
 ghost use Rattle.slot_store.specs.Spent.{IsSlotSpent, IsSlotEnd, NoneFree, IsResident};
 ghost use Rattle.slot_store.specs.Planned.{newest_images, with_image, before_of, row_of, written_slots};
@@ -26,6 +27,7 @@ pub fn place_pages(
 ) -> Result<Vec<Placed>, PlanEnd>
     ensures pages { IfOk result (λ placed. map before_of placed.items ≡ newest_images commit (maps.entries versions.now.chains)) }
     ensures least { IfOk result (λ placed. AreLeast (λ s. maps.contains_key used.now s) 0 (written_slots placed.items)) }
+    ensures within { IfOk result (λ placed. AllByRecursion (λ (s : ℕ). s ≤ LAST_SLOT) (written_slots placed.items)) }
     ensures spent { (kind : SpentKind) (n : ℕ) → IsErrOf result (PlanEnd.Spent kind n) → IsSlotEnd kind n × IsSlotSpent (λ s. maps.contains_key used.now s) (newest_images commit (maps.entries versions.now.chains)) }
 {
     let mut placed = Vec::new(alloc);

@@ -6,7 +6,7 @@ use Rattle.page_device.proofs.Runs.{joined, goes_on}
 use Rattle.slot_store.specs.Head.{row_bytes}
 use Rattle.slot_store.specs.Steps.{From, BehindGate, BeginsWith}
 use Rattle.slot_store.proofs.Gates.{first_of}
-use Rattle.slot_store.proofs.Writing.{behind_again, length-rows, begins_twice, both_ok}
+use Rattle.slot_store.proofs.Writing.{behind_again, behind_all, length-rows, begins_thrice, both_ok}
 use Rattle.slot_store.proofs.head.write_head.Goals as goal
 
 pub returns-in_err-end-clause-any_moment : goal.returns-in_err-end-clause-any_moment
@@ -18,7 +18,7 @@ returns-in_err-end-clause-any_moment g c =
 pub returns-in_err-put-2-clause-any_moment : goal.returns-in_err-put-2-clause-any_moment
 returns-in_err-put-2-clause-any_moment g c =
     let d = c.args.device.now in let d1 = c.put.new.device in let d2 = c.write_rows.new.device in let f = c.args.file in let old = g.D.Device.may_leave d in
-    let two = λ i left. behind_again f old (g.D.Device.may_leave d1) c.put.ensures.images i (c.write_rows.ensures.images i left) in
+    let two = behind_all f old (g.D.Device.may_leave d1) (g.D.Device.may_leave d2) c.put.ensures.images c.write_rows.ensures.images in
     joined g.D.Device.moment g.D.Device.left_since d d2 c.put-2.new.device _ _ (From (BehindGate f) old)
     (joined g.D.Device.moment g.D.Device.left_since d d1 d2 _ _ (From (BehindGate f) old) c.put.ensures.any_moment c.write_rows.ensures.any_moment
     (λ i from. from) (behind_again f old (g.D.Device.may_leave d1) c.put.ensures.images)) c.put-2.ensures.any_moment
@@ -27,14 +27,14 @@ returns-in_err-put-2-clause-any_moment g c =
 pub returns-clause-images : goal.returns-clause-images
 returns-clause-images g c i left =
     let d = c.args.device.now in let d1 = c.put.new.device in let d2 = c.write_rows.new.device in let f = c.args.file in let old = g.D.Device.may_leave d in
-    let two = λ k there. behind_again f old (g.D.Device.may_leave d1) c.put.ensures.images k (c.write_rows.ensures.images k there) in
+    let two = behind_all f old (g.D.Device.may_leave d1) (g.D.Device.may_leave d2) c.put.ensures.images c.write_rows.ensures.images in
     behind_again f old (g.D.Device.may_leave d2) two i (c.put-2.ensures.images i (c.sync.ensures.crash i left))
 
 pub returns-clause-any_moment : goal.returns-clause-any_moment
 returns-clause-any_moment g c =
     let d = c.args.device.now in let d1 = c.put.new.device in let d2 = c.write_rows.new.device in let d3 = c.put-2.new.device in let f = c.args.file in
     let old = g.D.Device.may_leave d in
-    let two = λ i left. behind_again f old (g.D.Device.may_leave d1) c.put.ensures.images i (c.write_rows.ensures.images i left) in
+    let two = behind_all f old (g.D.Device.may_leave d1) (g.D.Device.may_leave d2) c.put.ensures.images c.write_rows.ensures.images in
     goes_on g.D.Device.moment g.D.Device.left_since d d3 c.sync.new.self (From (BehindGate f) old) (g.D.Device.may_leave c.sync.new.self)
     (joined g.D.Device.moment g.D.Device.left_since d d2 d3 _ _ (From (BehindGate f) old)
     (joined g.D.Device.moment g.D.Device.left_since d d1 d2 _ _ (From (BehindGate f) old) c.put.ensures.any_moment c.write_rows.ensures.any_moment
@@ -52,8 +52,8 @@ returns-clause-contents g c =
     let b2 = told (g.D.Device.contents d1) _ b1.image b1.told c.in_ok-end.ensures.begins (gate ∷ fr) b1.rest (search rules) b1.is in
     let b3 = told (g.D.Device.contents d2) _ b2.image b2.told c.in_ok-put-2.ensures.begins (gate ∷ (fr ++ rows)) b2.rest
     (omega (arith, length-append fr rows, length-rows c.args.rows.now, c.in_ok-end.ensures.end)) b2.is in
-    let two = begins_twice f (gate ∷ fr) (gate ∷ (fr ++ rows)) i (g.D.Device.contents d1) (g.D.Device.contents d2) b1 b2 in
-    let three = begins_twice f (gate ∷ (fr ++ rows)) (gate ∷ ((fr ++ rows) ++ 0 ∷ [])) i (g.D.Device.contents d2) (g.D.Device.contents d3) two b3 in (
+    let three = begins_thrice f (gate ∷ fr) (gate ∷ (fr ++ rows)) (gate ∷ ((fr ++ rows) ++ 0 ∷ [])) i (g.D.Device.contents d1) (g.D.Device.contents d2)
+    (g.D.Device.contents d3) b1 b2 b3 in (
       three.image,
       same ∙ three.told,
       record {
