@@ -1,16 +1,24 @@
 -- A plan fits its state: no two of its pages are in one slot, and what it writes goes to slots that the table doesn't name.
-use Rattle.std.proofs.Common.{◌≡◌, ◌≢◌, ℕ, ◌+◌, ◌<◌, ◌≤◌, List, [], ◌∷◌, ◌++◌, length, map, Bool, true, false, ◌==◌, ◌||◌, Option, Some, None, refl, sym, ap, ◌∙◌, subst, arith}
+use Rattle.std.proofs.Common.{◌≡◌, ◌≢◌, ℕ, ◌+◌, ◌*◌, ◌<◌, ◌≤◌, List, [], ◌∷◌, ◌++◌, length, map, Bool, true, false, ◌==◌, ◌||◌, Option, Some, None, refl, sym, ap, ◌∙◌, subst, arith, length-append, append_assoc}
 use Rattle.std.specs.Prelude.{IfSome}
-use Rattle.std.specs.List.{list_any, AllByRecursion}
+use Rattle.std.specs.List.{list_any, AllByRecursion, flat_map}
 use Rattle.std.proofs.lemmas.Bool.{both_ways, false_from_ne_true, or_left}
 use Rattle.page_bytes.specs.declared.ids.PageId.{PageId}
 use Rattle.page_versions.specs.declared.version.Image.{Image as PageImage}
 use Rattle.slot_store.specs.declared.table.Row.{Row}
 use Rattle.slot_store.specs.declared.planning.Placed.{Placed}
 use Rattle.slot_store.specs.declared.planning.TheConstants.{LAST_SLOT}
+use Rattle.page_versions.specs.declared.version.Version.{Version}
+use Rattle.slot_store.specs.declared.state.SlotState.{SlotState}
+use Rattle.slot_store.specs.Used.{used_slots, slots_of, slots_if, slots_of_chains}
 use Rattle.slot_store.specs.Slots.{AreLeast}
-use Rattle.slot_store.specs.Head.{EachPair}
-use Rattle.slot_store.specs.Planned.{written_slots, slot_if, before_of, image_before, is_in_table, IsPlaced, IsPlacedIn, IsTabled, AreInTwo, AreApart}
+use Rattle.page_device.specs.declared.device.TheConstants.{LONGEST}
+use Rattle.redo_log.specs.declared.change.LogName.{LogName}
+use Rattle.slot_store.specs.Head.{EachPair, front_bytes, head_bytes, row_bytes}
+use Rattle.slot_store.specs.Spent.{IsSlotSpent}
+use Rattle.slot_store.proofs.Writing.{length-rows}
+use Rattle.std.proofs.lemmas.List.{length-map}
+use Rattle.slot_store.specs.Planned.{written_slots, slot_if, before_of, row_of, image_before, is_in_table, IsPlaced, IsPlacedIn, IsTabled, AreInTwo, AreApart}
 use Rattle.slot_store.proofs.Opening.{all_so, all_both}
 
 -- each of a list's images is one of a page's
@@ -113,3 +121,29 @@ table_used (r ∷ rs) more s is = one (r.slot == s) is (table_used rs more s)
         → (b || list_any (λ t. t == s) (map (λ (x : Row). x.slot) rs ++ more)) ≡ true
     one true h later = refl
     one false h later = later h
+
+-- so is one of the state's table
+pub state_used : (state : SlotState) (commit : ℕ) (entries : List (PageId × List Version)) (s : ℕ) → is_in_table state.table s ≡ true
+    → list_any (λ t. t == s) (used_slots state commit entries) ≡ true
+state_used state commit entries s is =
+    ap (list_any (λ t. t == s)) (append_assoc (slots_of state.table) (slots_if state.doubt) (slots_of_chains commit entries))
+    ∙ table_used state.table (slots_if state.doubt ++ slots_of_chains commit entries) s is
+
+-- a head of which the front and the rows fit a file fits it
+pub fits_from : (generation commit : ℕ) (entries : List LogName) (placed : List Placed) (front : List ℕ) → front ≡ front_bytes generation commit entries (length placed)
+    → length front + length placed * 32 + 2 ≤ LONGEST
+    → length (head_bytes (record { generation = generation; commit = commit; entries = entries; rows = map row_of placed })) + 2 ≤ LONGEST
+fits_from generation commit entries placed front is fits =
+    let rows = map row_of placed in
+    let same : length (front_bytes generation commit entries (length rows)) ≡ length front =
+    ap (λ (n : ℕ). length (front_bytes generation commit entries n)) (length-map placed row_of) ∙ ap length (sym is) in
+    omega (arith, fits, same, length-append (front_bytes generation commit entries (length rows)) (flat_map row_bytes rows), length-rows rows, length-map placed row_of)
+
+-- slots that are spent by one test are so by another that says the same
+pub spent_by : (f h : ℕ → Bool) → ((s : ℕ) → f s ≡ h s) → (images : List (PageId × PageImage)) → IsSlotSpent f images → IsSlotSpent h images
+spent_by f h same images spent = record {
+  slots = spent.slots;
+  least = least_by f h same spent.slots 0 spent.least;
+  few = spent.few;
+  all = λ s within free. spent.all s within (same s ∙ free);
+}

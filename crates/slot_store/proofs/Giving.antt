@@ -15,7 +15,9 @@ use Rattle.slot_store.specs.declared.planning.Placed.{Placed}
 use Rattle.slot_store.specs.Slots.{AreLeast, GivesSlots}
 use Rattle.slot_store.specs.Used.{SlotIds, with_slots}
 use Rattle.page_versions.specs.declared.version.Image.TheVariants.{Resident, Slot, Absent}
-use Rattle.slot_store.specs.Planned.{written_slots, slot_if, before_of, image_before}
+use Rattle.slot_store.specs.Planned.{written_slots, slot_if, before_of, image_before, newest_images, with_version, with_image}
+use Rattle.page_versions.specs.Chains.{version_at}
+use Rattle.std.specs.Option.{option_map, unwrap_or}
 use Rattle.slot_store.specs.Spent.{count_residents, one_resident, IsSlotSpent, NoneFree}
 
 -- one more page's slot comes behind
@@ -157,3 +159,27 @@ slots_spent used placed from images rest gives is some none = record {
       (λ less. subst (λ l. list_any (λ t. t == s) l ≡ true) (sym gives.is) (gives.all s (omega arith) less free))
       (λ more. absurd (both_ways (used s) free (none s more within))) (cases_lt s from);
 }
+
+-- the newest images of one page, and of those after it
+pub newest_more : (commit : ℕ) (e : PageId × List Version) (es : List (PageId × List Version))
+    → newest_images commit (e ∷ es) ≡ with_version e.0 (version_at e.1 commit) [] ++ newest_images commit es
+newest_more commit e es = one (version_at e.1 commit)
+  where
+    two : (image : PageImage) → with_image e.0 image (newest_images commit es) ≡ with_image e.0 image [] ++ newest_images commit es
+    two (Resident page) = refl
+    two (Slot slot) = refl
+    two Absent = refl
+
+    one : (v : Option Version) → with_version e.0 v (newest_images commit es) ≡ with_version e.0 v [] ++ newest_images commit es
+    one None = refl
+    one (Some v) = two v.image
+
+-- a page's image that is found is that of its version
+pub found_version : (id : PageId) (v : Option Version) (image : PageImage) → Some image ≡ option_map (λ w. w.image) v → with_version id v [] ≡ with_image id image []
+found_version id None image is = absurd (cc is)
+found_version id (Some v) image is = ap (λ o. with_image id (unwrap_or o image) []) (sym is)
+
+-- a page of which no image is found has no version
+pub no_version : (id : PageId) (v : Option Version) → None ≡ option_map {B = PageImage} (λ w. w.image) v → with_version id v [] ≡ []
+no_version id None is = refl
+no_version id (Some v) is = absurd (cc is)

@@ -56,9 +56,3 @@ IsSlotEnd Log n = ⊥
 -- no slot from a place on is free, up to the last
 abbrev pub NoneFree : (ℕ → Bool) → ℕ → Type 0
 NoneFree used from = (t : ℕ) → from ≤ t → t ≤ LAST_SLOT → used t ≡ true
-
--- the image is in no slot
-abbrev pub IsResident : PageImage → Type 0
-IsResident (image.Resident page) = Unit {0}
-IsResident (image.Slot slot) = ⊥
-IsResident image.Absent = ⊥

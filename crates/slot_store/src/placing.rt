@@ -5,8 +5,8 @@ ghost use Rattle.std.specs.FinMap as maps;
 ghost use Rattle.page_versions.specs.Chains.{version_at};
 ghost use Rattle.std.specs.List.{AllByRecursion};
 ghost use Rattle.slot_store.specs.Slots.{AreLeast, GivesSlots};
-ghost use Rattle.slot_store.specs.Spent.{IsSlotSpent, IsSlotEnd, NoneFree, IsResident};
-ghost use Rattle.slot_store.specs.Planned.{newest_images, with_image, before_of, row_of, written_slots};
+ghost use Rattle.slot_store.specs.Spent.{IsSlotSpent, IsSlotEnd, NoneFree, count_residents};
+ghost use Rattle.slot_store.specs.Planned.{newest_images, with_image, with_version, before_of, row_of, written_slots};
 
 use crate::end::PlanEnd;
 use crate::planning::{LAST_SLOT, Placed};
@@ -33,11 +33,28 @@ pub fn place_pages(
     let mut placed = Vec::new(alloc);
     let mut from = 0;
     for (id, chain) in versions.chains() {
-        if let Some(image) = newest(chain, commit) {
-            place_image(&mut placed, &mut from, *id, image, used)?;
-        }
+        place_newest(&mut placed, &mut from, *id, chain, commit, used)?;
     }
     Ok(placed)
+}
+
+// Places the newest image of a page, if it has one.
+fn place_newest(
+    placed: &mut Vec<Placed>,
+    from: &mut u64,
+    id: PageId,
+    chain: &Chain,
+    commit: u64,
+    used: &SlotSet,
+) -> Result<(), PlanEnd>
+    ensures pages { OnOk result (map before_of placed.new.items ≡ map before_of placed.old.items ++ with_version id (version_at chain.now commit) []) }
+    ensures slots { OnOk result (GivesSlots (λ s. maps.contains_key used.now s) from.old from.new (written_slots placed.old.items) (written_slots placed.new.items)) }
+    ensures spent { (kind : SpentKind) (n : ℕ) → IsErrOf result (PlanEnd.Spent kind n) → IsSlotEnd kind n × NoneFree (λ s. maps.contains_key used.now s) from.old × (0 < count_residents (with_version id (version_at chain.now commit) [])) }
+{
+    match newest(chain, commit) {
+        None => Ok(()),
+        Some(image) => place_image(placed, from, id, image, used),
+    }
 }
 
 // The image of the newest version that is not after the commit.
@@ -63,8 +80,7 @@ fn place_image(
     ensures slots { OnOk result (GivesSlots (λ s. maps.contains_key used.now s) from.old from.new (written_slots placed.old.items) (written_slots placed.new.items)) }
 
     // Spent comes only for an image that is in no slot, where no slot is free.
-    ensures spent { (kind : SpentKind) (n : ℕ) → IsErrOf result (PlanEnd.Spent kind n) → IsSlotEnd kind n × NoneFree (λ s. maps.contains_key used.now s) from.old × IsResident image.now }
-    ensures stays { IsErr result → placed.new.items ≡ placed.old.items }
+    ensures spent { (kind : SpentKind) (n : ℕ) → IsErrOf result (PlanEnd.Spent kind n) → IsSlotEnd kind n × NoneFree (λ s. maps.contains_key used.now s) from.old × (0 < count_residents (with_image id image.now [])) }
 {
     match image {
         Image::Absent => Ok(()),

@@ -1,0 +1,38 @@
+use Rattle.std.proofs.Common.{◌≡◌, ◌++◌, ℕ, true, List, map, refl, sym, ap, ◌∙◌, subst, rules, length}
+use Rattle.std.specs.List.{AllByRecursion, list_any}
+use Rattle.std.specs.FinMap as maps
+use Rattle.page_bytes.specs.declared.ids.PageId.{PageId}
+use Rattle.page_versions.specs.declared.version.Image.{Image as PageImage}
+use Rattle.slot_store.specs.Head.{EachPair}
+use Rattle.slot_store.specs.Used.{is_used, used_slots}
+use Rattle.slot_store.specs.Planned.{written_slots, is_in_table, IsTabled, AreInTwo, before_of}
+use Rattle.slot_store.proofs.Giving.{slots_has}
+use Rattle.slot_store.proofs.Fitting.{least_by, spent_by, all_placed, all_apart, state_used, fits_from}
+use Rattle.slot_store.proofs.planning.plan.Goals as goal
+
+pub returns-clause-least : goal.returns-clause-least
+returns-clause-least c =
+    let st = c.args.state.now in let es = maps.entries c.args.versions.now.chains in let used = c.in_ok-used.used in
+    least_by (λ s. maps.contains_key used s) (is_used st c.args.commit es)
+    (λ s. ap (λ m. maps.contains_key m s) c.in_ok-used.ensures ∙ slots_has (used_slots st c.args.commit es) s)
+    (written_slots c.in_ok-placed.placed.items) 0 c.in_ok-placed.ensures.least
+
+pub returns-clause-made : goal.returns-clause-made
+returns-clause-made c =
+    let st = c.args.state.now in let es = maps.entries c.args.versions.now.chains in let used = c.in_ok-used.used in
+    let placed = c.in_ok-placed.placed.items in
+    let in_use : (s : ℕ) → is_in_table st.table s ≡ true → maps.contains_key used s ≡ true =
+    λ s is. ap (λ m. maps.contains_key m s) c.in_ok-used.ensures ∙ slots_has (used_slots st c.args.commit es) s ∙ state_used st c.args.commit es s is in
+    let tabled = subst (AllByRecursion (λ (x : PageId × PageImage). IsTabled st.table x.1)) (sym c.in_ok-placed.ensures.pages) c.requires.fits.tabled in
+    let two = subst (EachPair (λ (x y : PageId × PageImage). AreInTwo x.1 y.1)) (sym c.in_ok-placed.ensures.pages) c.requires.fits.apart in
+    let all = all_placed st.table (λ s. maps.contains_key used s) in_use placed 0 tabled c.in_ok-placed.ensures.least c.in_ok-placed.ensures.within in
+    record {
+      log = refl;
+      generation = refl;
+      table = c.in_ok-table.ensures;
+      front = c.in_ok-front.ensures;
+      placed = all;
+      apart = all_apart st.table (λ s. maps.contains_key used s) in_use placed 0 c.in_ok-placed.ensures.least all two;
+      fits = fits_from _ c.args.commit c.args.entries.now placed c.in_ok-front.front.items c.in_ok-front.ensures c.in_ok-test_length.ensures.fits;
+      buffer = search rules;
+    }
