@@ -90,7 +90,7 @@ or_none false = refl
 -- the set of these slots has exactly these
 pub slots_has : (ss : List ℕ) (q : ℕ) → finite.contains_key (with_slots ss finite.empty) q ≡ list_any (λ t. t == q) ss
 slots_has ss q = with_slots-has ss finite.empty q
-    ∙ (ap (λ (o : Option (Unit {0})). list_any (λ t. t == q) ss || is_some o) (finite.get-empty q) ∙ or_none (list_any (λ t. t == q) ss))
+    ∙ (ap (λ (o : Option (Unit {0})). list_any (λ t. t == q) ss || is_some o) (finite.get-empty nat_cmp q) ∙ or_none (list_any (λ t. t == q) ss))
 
 -- slots that are given after others
 pub gives_more : (used : ℕ → Bool) (from mid to : ℕ) (one two three : List ℕ) → GivesSlots used from mid one two → GivesSlots used mid to two three
@@ -138,12 +138,12 @@ count_placed (p ∷ ps) = one p.slot p.page (count_placed ps)
 
 -- of images one after another
 pub count-append : (xs ys : List (PageId × PageImage)) → count_residents (xs ++ ys) ≡ count_residents xs + count_residents ys
-count-append [] ys = refl
+count-append [] ys = omega arith
 count-append (x ∷ xs) ys = one x.1 (count-append xs ys)
   where
     one : (image : PageImage) → count_residents (xs ++ ys) ≡ count_residents xs + count_residents ys
         → one_resident image (count_residents (xs ++ ys)) ≡ one_resident image (count_residents xs) + count_residents ys
-    one (Resident page) same = ap suc same
+    one (Resident page) same = omega (arith, same)
     one (Slot slot) same = same
     one Absent same = same
 
@@ -180,6 +180,6 @@ found_version id None image is = absurd (cc is)
 found_version id (Some v) image is = ap (λ o. with_image id (unwrap_or o image) []) (sym is)
 
 -- a page of which no image is found has no version
-pub no_version : (id : PageId) (v : Option Version) → None ≡ option_map {B = PageImage} (λ w. w.image) v → with_version id v [] ≡ []
+pub no_version : (id : PageId) (v : Option Version) → ◌≡◌ {A = Option PageImage} None (option_map (λ w. w.image) v) → with_version id v [] ≡ []
 no_version id None is = refl
 no_version id (Some v) is = absurd (cc is)

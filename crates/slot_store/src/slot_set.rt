@@ -2,11 +2,11 @@
 ghost use Rattle.std.specs.Prelude.{◌≡◌, ◌≤◌, ◌<◌, ℕ, true, false, None, IfSome, OnOk, IfOk, is_none};
 ghost use Rattle.std.specs.FinMap as map;
 ghost use Rattle.page_versions.specs.declared.version.Version.{Version as AVersion};
-ghost use Rattle.slot_store.specs.Used.{with_slots, slots_of, slots_of_chains, slot_of_version, used_slots};
+ghost use Rattle.slot_store.specs.Used.{with_slots, slots_of, slots_if, slots_of_chains, slot_of_version, used_slots};
 ghost use Rattle.std.specs.List.{flat_map};
 
 use crate::planning::LAST_SLOT;
-use crate::state::SlotState;
+use crate::state::{DoubtedHead, SlotState};
 use crate::table::Row;
 use page_bytes::NoMemory;
 use page_versions::{Chain, Image, Version, Versions};
@@ -82,11 +82,18 @@ pub fn used_slots(
 {
     let mut slots = SlotSet::new(alloc);
     add_rows(&mut slots, state.table.rows())?;
-    if let Some(head) = &state.doubt {
-        add_rows(&mut slots, head.table.rows())?;
-    }
+    add_doubted(&mut slots, &state.doubt)?;
     add_versions(&mut slots, versions, commit)?;
     Ok(slots)
+}
+
+fn add_doubted(slots: &mut SlotSet, doubt: &Option<DoubtedHead>) -> Result<(), NoMemory>
+    ensures { OnOk result (slots.new ≡ with_slots (slots_if doubt.now) slots.old) }
+{
+    match doubt {
+        None => Ok(()),
+        Some(head) => add_rows(slots, head.table.rows()),
+    }
 }
 
 fn add_rows(slots: &mut SlotSet, rows: &[Row]) -> Result<(), NoMemory>

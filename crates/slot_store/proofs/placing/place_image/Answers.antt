@@ -16,28 +16,15 @@ pub returns-in-Absent-clause-slots : goal.returns-in-Absent-clause-slots
 returns-in-Absent-clause-slots c =
     gives_none (λ s. maps.contains_key c.args.used.now s) c.args.from.now (written_slots c.args.placed.now.items)
 
-pub returns-in-Slot-clause-pages : goal.returns-in-Slot-clause-pages
-returns-in-Slot-clause-pages c =
-    let old = c.args.placed.now.items in
-    ap (map before_of) c.in_ok-push_placed.ensures.ok ∙ map-append before_of old _
-    ∙ ap (λ im. map before_of old ++ with_image c.args.id im []) (sym c.in-Slot.is)
+pub returns-in_ok-push_placed-in-Slot-clause-slots : goal.returns-in_ok-push_placed-in-Slot-clause-slots
+returns-in_ok-push_placed-in-Slot-clause-slots c =
+    placed_kept (λ s. maps.contains_key c.args.used.now s) c.args.from.now c.args.placed.now.items c.push_placed-in-Slot.new.placed.items _
+    c.in_ok-push_placed-in-Slot.ensures.ok refl
 
-pub returns-in-Slot-clause-slots : goal.returns-in-Slot-clause-slots
-returns-in-Slot-clause-slots c =
-    placed_kept (λ s. maps.contains_key c.args.used.now s) c.args.from.now c.args.placed.now.items c.push_placed.new.placed.items _
-    c.in_ok-push_placed.ensures.ok refl
-
-pub returns-in-Resident-clause-pages : goal.returns-in-Resident-clause-pages
-returns-in-Resident-clause-pages c =
-    let old = c.args.placed.now.items in
-    ap (map before_of) c.in_ok-push_placed.ensures.ok ∙ map-append before_of old _
-    ∙ ap (λ g. map before_of old ++ with_image c.args.id (Resident g) []) c.in_ok-copy.ensures
-    ∙ ap (λ im. map before_of old ++ with_image c.args.id im []) (sym c.in-Resident.is)
-
-pub returns-in-Resident-clause-slots : goal.returns-in-Resident-clause-slots
-returns-in-Resident-clause-slots c =
-    let found = c.in_ok-slot.ensures.found in
+pub returns-in_ok-push_placed-in-Resident-clause-slots : goal.returns-in_ok-push_placed-in-Resident-clause-slots
+returns-in_ok-push_placed-in-Resident-clause-slots c =
+    let found = c.in_ok-slot-in-Resident.ensures.found in
     subst (λ to. GivesSlots (λ s. maps.contains_key c.args.used.now s) c.args.from.now to (written_slots c.args.placed.now.items)
-    (written_slots c.push_placed.new.placed.items)) (sym c.in_ok-slot.ensures.behind)
-    (placed_given (λ s. maps.contains_key c.args.used.now s) c.args.from.now c.args.placed.now.items c.push_placed.new.placed.items _ _
-    c.in_ok-push_placed.ensures.ok refl found.0 found.1 found.2 found.3)
+    (written_slots c.push_placed-in-Resident.new.placed.items)) (sym c.in_ok-slot-in-Resident.ensures.behind)
+    (placed_given (λ s. maps.contains_key c.args.used.now s) c.args.from.now c.args.placed.now.items c.push_placed-in-Resident.new.placed.items _ _
+    c.in_ok-push_placed-in-Resident.ensures.ok refl found.0 found.1 found.2 found.3)

@@ -2,6 +2,8 @@ use Rattle.std.proofs.Common.{◌≡◌, ◌∷◌, ◌++◌, ◌≤◌, ◌<◌
 use Rattle.std.specs.List.{AllByRecursion}
 use Rattle.std.proofs.lemmas.List.{append-nil}
 use Rattle.std.specs.FinMap as maps
+use Rattle.page_bytes.specs.declared.ids.PageId.{PageId}
+use Rattle.page_versions.specs.declared.version.Version.{Version}
 use Rattle.slot_store.specs.declared.planning.TheConstants.{LAST_SLOT}
 use Rattle.slot_store.specs.Slots.{GivesSlots, AreLeast}
 use Rattle.slot_store.specs.Spent.{count_residents}
@@ -18,7 +20,7 @@ loop-id-init c = let none = c.new-placed.ensures.items in record {
 
 pub loop-id-preserved : goal.loop-id-preserved
 loop-id-preserved c =
-    let commit = c.args.commit in let inv = c.loop-id.invariant in let e = (c.in-Some.id.now, c.in-Some.chain.now) in let rest = c.next.new.self in record {
+    let commit = c.args.commit in let inv = c.loop-id.invariant in let e : PageId × List Version = (c.in-Some.id.now, c.in-Some.chain.now) in let rest = c.next.new.self in record {
       pages = ap (λ l. l ++ newest_images commit rest) c.in_ok-place_newest.ensures.pages ∙ append_assoc (map before_of c.loop-id.placed.items) _ _
           ∙ ap (λ l. map before_of c.loop-id.placed.items ++ l) (sym (newest_more commit e rest) ∙ ap (newest_images commit) (sym c.in-Some.ensures.steps))
           ∙ inv.pages;
@@ -31,9 +33,10 @@ returns-in_err-place_newest-clause-spent c = ?
 
 pub returns-clause-pages : goal.returns-clause-pages
 returns-clause-pages c =
+    let whole : c.into_iter-id-iterator.result ≡ maps.entries c.args.versions.now.chains = search rules in
     sym (append-nil (map before_of c.loop-id.placed.items))
     ∙ ap (λ left. map before_of c.loop-id.placed.items ++ newest_images c.args.commit left) (sym c.in-None.ensures.steps.0) ∙ c.loop-id.invariant.pages
-    ∙ ap (newest_images c.args.commit) (search rules)
+    ∙ ap (newest_images c.args.commit) whole
 
 pub returns-clause-least : goal.returns-clause-least
 returns-clause-least c = let gives = c.loop-id.invariant.slots in

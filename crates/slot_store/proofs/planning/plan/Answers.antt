@@ -1,11 +1,11 @@
-use Rattle.std.proofs.Common.{◌≡◌, ◌++◌, ℕ, true, List, map, refl, sym, ap, ◌∙◌, subst, rules, length}
+use Rattle.std.proofs.Common.{◌≡◌, ◌++◌, ◌+◌, ℕ, true, List, map, refl, sym, ap, ◌∙◌, subst, rules, length}
 use Rattle.std.specs.List.{AllByRecursion, list_any}
 use Rattle.std.specs.FinMap as maps
 use Rattle.page_bytes.specs.declared.ids.PageId.{PageId}
 use Rattle.page_versions.specs.declared.version.Image.{Image as PageImage}
-use Rattle.slot_store.specs.Head.{EachPair}
+use Rattle.slot_store.specs.Head.{EachPair, front_bytes}
 use Rattle.slot_store.specs.Used.{is_used, used_slots}
-use Rattle.slot_store.specs.Planned.{written_slots, is_in_table, IsTabled, AreInTwo, before_of}
+use Rattle.slot_store.specs.Planned.{written_slots, is_in_table, IsTabled, AreInTwo, before_of, row_of}
 use Rattle.slot_store.proofs.Giving.{slots_has}
 use Rattle.slot_store.proofs.Fitting.{least_by, spent_by, all_placed, all_apart, state_used, fits_from}
 use Rattle.slot_store.proofs.planning.plan.Goals as goal
@@ -26,13 +26,15 @@ returns-clause-made c =
     let tabled = subst (AllByRecursion (λ (x : PageId × PageImage). IsTabled st.table x.1)) (sym c.in_ok-placed.ensures.pages) c.requires.fits.tabled in
     let two = subst (EachPair (λ (x y : PageId × PageImage). AreInTwo x.1 y.1)) (sym c.in_ok-placed.ensures.pages) c.requires.fits.apart in
     let all = all_placed st.table (λ s. maps.contains_key used s) in_use placed 0 tabled c.in_ok-placed.ensures.least c.in_ok-placed.ensures.within in
+    let sliced : c.as_slice.result.now ≡ placed = search rules in
+    let spelled : c.in_ok-front.front.items ≡ front_bytes (st.generation + 1) c.args.commit c.args.entries.now (length placed) = search rules in
     record {
       log = refl;
       generation = refl;
-      table = c.in_ok-table.ensures;
-      front = c.in_ok-front.ensures;
+      table = c.in_ok-table.ensures ∙ ap (map row_of) sliced;
+      front = spelled;
       placed = all;
       apart = all_apart st.table (λ s. maps.contains_key used s) in_use placed 0 c.in_ok-placed.ensures.least all two;
-      fits = fits_from _ c.args.commit c.args.entries.now placed c.in_ok-front.front.items c.in_ok-front.ensures c.in_ok-test_length.ensures.fits;
+      fits = fits_from (st.generation + 1) c.args.commit c.args.entries.now placed c.in_ok-front.front.items spelled (search rules);
       buffer = search rules;
     }
