@@ -18,7 +18,7 @@ returns-in-Absent-clause-slots c =
 
 pub returns-in_ok-push_placed-in-Slot-clause-slots : goal.returns-in_ok-push_placed-in-Slot-clause-slots
 returns-in_ok-push_placed-in-Slot-clause-slots c =
-    placed_kept (λ s. maps.contains_key c.args.used.now s) c.args.from.now c.args.placed.now.items c.push_placed-in-Slot.new.placed.items _
+    placed_kept (λ s. maps.contains_key c.args.used.now s) c.args.from.now c.args.placed.now.items c.push_placed.new.placed.items _
     c.in_ok-push_placed-in-Slot.ensures.ok refl
 
 pub returns-in_ok-push_placed-in-Resident-clause-slots : goal.returns-in_ok-push_placed-in-Resident-clause-slots
