@@ -1,0 +1,3 @@
+mod PlaceTotal
+mod UpdateComputing
+mod UpdateRows

@@ -14,14 +14,20 @@ use Rattle.xml_model.specs.declared.node.Node.TheVariants.{Element, Text, Pi}
 use Rattle.xml_model.specs.declared.place.PlaceStep.{PlaceStep}
 use Rattle.xml_model.specs.declared.place.PlaceStep.TheVariants as steps
 use Rattle.xml_model.specs.Constructors.{text_in}
-use Rattle.xml_model.specs.Place.{place_cmp}
+use Rattle.xml_model.specs.Numbering.{place_of_number}
+use Rattle.xml_model.specs.Place.{the_document, place_cmp}
 use Rattle.xml_model.specs.Trees.{count_of, bytes_of, depth_of}
+use Rattle.update_try.specs.declared.edit.Edit.{Edit}
 use Rattle.update_try.specs.declared.edit.EditKind.{EditKind}
 use Rattle.update_try.specs.declared.edit.EditKind.TheVariants as edit
 
 -- edits: what is done at which places of a document
 abbrev pub Edits : Type 0
 Edits = fin_map.FinMap place_cmp EditKind
+
+-- edits at the numbers of nodes, as ids count them, by the places that the numbers stand for
+abbrev pub edits_at : Doc → List Edit → Edits
+edits_at doc edits = fin_map.from_entries (map (λ e. (place_of_number (the_document doc) e.at, e.what)) edits)
 
 -- what is done at each place in a node, by the steps from the node
 abbrev pub EditsIn : Type 0
