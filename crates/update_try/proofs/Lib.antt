@@ -1,3 +1,3 @@
-mod PlaceTotal
+pub mod PlaceTotal
 mod UpdateComputing
 mod UpdateRows
