@@ -1,3 +1,4 @@
 pub mod PlaceTotal
 mod UpdateComputing
 mod UpdateRows
+pub mod RebuildValid
