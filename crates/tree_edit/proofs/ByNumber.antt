@@ -35,7 +35,7 @@ use Rattle.update_try.proofs.PlaceTotal.{place_total}
 use Rattle.tree_edit.specs.Numbered.{look, Numbered, numbered_kids, numbered_attributes, numbered_step, numbered, numbered_node, numbered_nodes}
 use Rattle.tree_edit.specs.declared.kids.Kids.{Kids}
 use Rattle.tree_edit.specs.Tidy.{with_nodes}
-use Rattle.tree_edit.proofs.Comes.{with_nodes-append}
+use Rattle.tree_edit.proofs.Comes.{with_nodes_append}
 
 module _ (at : ℕ → Option EditKind) where
   -- ---- how many nodes
@@ -61,7 +61,7 @@ module _ (at : ℕ → Option EditKind) where
   pub one_more : (k : Kids) (x : Node) (xs : List Node) (n : ℕ)
       → with_nodes k (numbered_nodes at (x ∷ xs) n) ≡ with_nodes (with_nodes k (numbered_node at x n)) (numbered_nodes at xs (n + count_node x))
   one_more k x xs n =
-      with_nodes-append k (numbered_node at x n) (numbered_nodes at xs (n + (numbered at x).size))
+      with_nodes_append k (numbered_node at x n) (numbered_nodes at xs (n + (numbered at x).size))
       ∙ ap (λ size. with_nodes (with_nodes k (numbered_node at x n)) (numbered_nodes at xs (n + size))) (size_is x)
 
   -- ---- the variants
@@ -215,3 +215,5 @@ edited_by_number doc edits =
     let start : number p (Some (the_document doc)) ≡ 0 + number p (Some (the_document doc)) = omega arith in
     fin_map.get-from_entries place_total (map (λ e. (place_of_number (the_document doc) e.at, e.what)) edits) p
     ∙ (found (the_document doc) p w s edits ∙ ap (look edits) start))
+
+pub ruleset variants = (number-Element, number-Text, number-Pi)

@@ -7,16 +7,16 @@ use Rattle.xml_model.specs.declared.node.Node.TheVariants.{Element, Text, Pi, ou
 use Rattle.xml_model.specs.Constructors.{text_in}
 use Rattle.update_try.specs.declared.edit.EditKind.{EditKind}
 use Rattle.update_try.specs.declared.edit.EditKind.TheVariants as edit
-use Rattle.update_try.specs.Rebuild.{joined_front, text_front, front, tidied, edited_leaf, edited_element}
+use Rattle.update_try.specs.Rebuild.{joined_front, text_front, front, tidied, edited_document}
 use Rattle.tree_edit.specs.declared.kids.Kids.{Kids}
-use Rattle.tree_edit.specs.Tidy.{no_kids, text_child, closed, with_text, with_other, with_layer, with_node, with_nodes, with_element, renamed_leaf, renamed_layer}
+use Rattle.tree_edit.specs.Tidy.{no_kids, text_child, closed, with_text, with_other, with_layer, with_node, with_nodes, with_element, renamed_leaf, renamed_layer, into_document}
 
 -- ---- one node after another
 
 -- nodes come one list after another
-pub with_nodes-append : (k : Kids) (xs ys : List Node) → with_nodes k (xs ++ ys) ≡ with_nodes (with_nodes k xs) ys
-with_nodes-append k [] ys = refl
-with_nodes-append k (x ∷ xs) ys = with_nodes-append (with_node k x) xs ys
+pub with_nodes_append : (k : Kids) (xs ys : List Node) → with_nodes k (xs ++ ys) ≡ with_nodes (with_nodes k xs) ys
+with_nodes_append k [] ys = refl
+with_nodes_append k (x ∷ xs) ys = with_nodes_append (with_node k x) xs ys
 
 -- ---- tidying
 
@@ -65,12 +65,14 @@ behind k n nodes e rest =
 -- what has come and what is still to come
 comes : (k : Kids) (nodes : List Node) → (closed (with_nodes k nodes)).nodes ≡ k.nodes ++ before k.text (tidied nodes)
 comes k [] = ap (λ more. k.nodes ++ more) (ends k.text)
-comes k (n ∷ nodes) = go (out-Node n) refl
+comes k (n ∷ nodes) = go (out-Node n) refl (comes (with_other k n) nodes) (λ value. comes (with_text k value) nodes)
   where
-    go : (l : Node-F Node) → out-Node n ≡ l → (closed (with_nodes (with_layer k l n) nodes)).nodes ≡ k.nodes ++ before k.text (front l n (tidied nodes))
-    go (Node-F.Element name attrs kids) e = behind k n nodes (ap text_in e) (comes (with_other k n) nodes)
-    go (Node-F.Text value) e = comes (with_text k value) nodes ∙ ap (λ more. k.nodes ++ more) (joins k.text value n (tidied nodes))
-    go (Node-F.Pi target value) e = behind k n nodes (ap text_in e) (comes (with_other k n) nodes)
+    go : (l : Node-F Node) → out-Node n ≡ l → (closed (with_nodes (with_other k n) nodes)).nodes ≡ (with_other k n).nodes ++ tidied nodes
+        → ((value : List ℕ) → (closed (with_nodes (with_text k value) nodes)).nodes ≡ k.nodes ++ before (k.text ++ value) (tidied nodes))
+        → (closed (with_nodes (with_layer k l n) nodes)).nodes ≡ k.nodes ++ before k.text (front l n (tidied nodes))
+    go (Node-F.Element name attrs kids) e rest more = behind k n nodes (ap text_in e) rest
+    go (Node-F.Text value) e rest more = more value ∙ ap (λ more. k.nodes ++ more) (joins k.text value n (tidied nodes))
+    go (Node-F.Pi target value) e rest more = behind k n nodes (ap text_in e) rest
 
 -- all that come are tidied
 pub finished : (nodes : List Node) → (closed (with_nodes no_kids nodes)).nodes ≡ tidied nodes
@@ -91,7 +93,7 @@ one_element k name attrs nodes =
 pub others_first : (k : Kids) (name : List ℕ) (attrs : List Attr) (nodes others : List Node)
     → with_element (with_nodes k others) name attrs (with_nodes no_kids nodes) ≡ with_nodes k (others ++ Element name attrs (tidied nodes) ∷ [])
 others_first k name attrs nodes others =
-    one_element (with_nodes k others) name attrs nodes ∙ sym (with_nodes-append k others (Element name attrs (tidied nodes) ∷ []))
+    one_element (with_nodes k others) name attrs nodes ∙ sym (with_nodes_append k others (Element name attrs (tidied nodes) ∷ []))
 
 -- before other nodes
 pub others_last : (k : Kids) (name : List ℕ) (attrs : List Attr) (nodes others : List Node)
@@ -102,7 +104,7 @@ others_last k name attrs nodes others = ap (λ k. with_nodes k others) (one_elem
 pub one_filled : (k : Kids) (name : List ℕ) (attrs more_attrs : List Attr) (nodes more : List Node)
     → with_element k name (attrs ++ more_attrs) (with_nodes (with_nodes no_kids nodes) more) ≡ with_nodes k (Element name (attrs ++ more_attrs) (tidied (nodes ++ more)) ∷ [])
 one_filled k name attrs more_attrs nodes more =
-    ap (λ kids. with_element k name (attrs ++ more_attrs) kids) (sym (with_nodes-append no_kids nodes more)) ∙ one_element k name (attrs ++ more_attrs) (nodes ++ more)
+    ap (λ kids. with_element k name (attrs ++ more_attrs) kids) (sym (with_nodes_append no_kids nodes more)) ∙ one_element k name (attrs ++ more_attrs) (nodes ++ more)
 
 -- ---- texts and instructions
 
@@ -113,3 +115,26 @@ renamed-Text value = ap (λ l name. renamed_layer l (Text value) name) (outs-Tex
 -- an instruction has another target
 pub renamed-Pi : (target value : List ℕ) → renamed_leaf (Pi target value) ≡ (λ name. Pi name value)
 renamed-Pi target value = ap (λ l name. renamed_layer l (Pi target value) name) (outs-Pi target value)
+
+-- ---- documents
+
+edited_document-append : (kids : List Node) (o : Option EditKind) → edited_document kids o ≡ kids ++ into_document o
+edited_document-append kids None = sym (append-nil kids)
+edited_document-append kids (Some (edit.Into attrs more)) = refl
+edited_document-append kids (Some (edit.Before others)) = sym (append-nil kids)
+edited_document-append kids (Some (edit.After others)) = sym (append-nil kids)
+edited_document-append kids (Some edit.Delete) = sym (append-nil kids)
+edited_document-append kids (Some edit.Undeep) = sym (append-nil kids)
+edited_document-append kids (Some (edit.Put attrs others)) = sym (append-nil kids)
+edited_document-append kids (Some (edit.Rename name)) = sym (append-nil kids)
+
+-- all nodes of a document have come, and then what goes into it
+pub document_finished : (kids : List Node) (o : Option EditKind)
+    → (closed (with_nodes (with_nodes no_kids kids) (into_document o))).nodes ≡ tidied (edited_document kids o)
+document_finished kids o =
+    ap (λ k. (closed k).nodes) (sym (with_nodes_append no_kids kids (into_document o)))
+    ∙ (finished (kids ++ into_document o) ∙ ap tidied (sym (edited_document-append kids o)))
+
+pub ruleset comings = (with_nodes_append, one_element, others_first, others_last, one_filled)
+
+pub ruleset renamings = (renamed-Text, renamed-Pi)

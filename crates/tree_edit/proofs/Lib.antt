@@ -1,3 +1,3 @@
-mod Spots
-mod Comes
-mod ByNumber
+pub mod Spots
+pub mod Comes
+pub mod ByNumber

@@ -125,3 +125,5 @@ arrives edits from to i e on h less =
 -- there is no edit any more
 pub arrives_last : (edits : List Edit) (from to i : ℕ) → IsOnTheWay edits from to i → slice_get edits i ≡ None → IsAt edits to i
 arrives_last edits from to i on e = record { rises = subst (RisesFrom to) (sym (drop_none edits i e)) tt; same = on.same }
+
+pub ruleset ways = (sets_out, goes_past, arrives, arrives_last)

@@ -1,9 +1,11 @@
 -- Children as they come: texts are joined, and empty ones are dropped.
-use Rattle.std.specs.Prelude.{ℕ, List, [], ◌∷◌, ◌++◌}
+use Rattle.std.specs.Prelude.{ℕ, List, [], ◌∷◌, ◌++◌, Option, None, Some}
 use Rattle.xml_model.specs.declared.node.Attr.{Attr}
 use Rattle.xml_model.specs.declared.node.Node.{Node, out-Node}
 use Rattle.xml_model.specs.declared.node.Node.TheOpen.{Node-F}
 use Rattle.xml_model.specs.declared.node.Node.TheVariants.{Element, Text, Pi}
+use Rattle.update_try.specs.declared.edit.EditKind.{EditKind}
+use Rattle.update_try.specs.declared.edit.EditKind.TheVariants as edit
 use Rattle.tree_edit.specs.declared.kids.Kids.{Kids}
 
 abbrev pub no_kids : Kids
@@ -50,3 +52,14 @@ renamed_layer (Node-F.Pi target value) n name = Pi name value
 
 abbrev pub renamed_leaf : Node → List ℕ → Node
 renamed_leaf n name = renamed_layer (out-Node n) n name
+
+-- the nodes that an edit of a document brings
+abbrev pub into_document : Option EditKind → List Node
+into_document None = []
+into_document (Some (edit.Into attrs more)) = more
+into_document (Some (edit.Before others)) = []
+into_document (Some (edit.After others)) = []
+into_document (Some edit.Delete) = []
+into_document (Some edit.Undeep) = []
+into_document (Some (edit.Put attrs others)) = []
+into_document (Some (edit.Rename name)) = []

@@ -13,7 +13,7 @@ use xq_ast::{NoMemory, Sequence};
 
 // What stands in the place of one attribute goes to the end.
 fn edit_attribute(attr: &Attr, what: Option<&EditKind>, out: &mut AttrList) -> Result<(), NoMemory>
-    ensures { OnOk result (out.new ≡ out.old ++ edited_attribute attr.now (option_copied what)) }
+    ensures { OnOk result (out.new ≡ out.old ++ edited_attribute attr.now (option_copied what.entry)) }
 {
     match what {
         Some(EditKind::Delete) => Ok(()),

@@ -14,13 +14,13 @@
 //! ```
 #![tactic(auto)]
 
-mod apply;
 mod attributes;
 mod copies;
+mod document;
 mod end;
 mod kids;
 mod nodes;
 mod spot;
 
-pub use apply::apply;
+pub use document::apply;
 pub use end::EditEnd;

@@ -33,8 +33,9 @@ fn push_element(alloc: Global, name: &Str, parts: Parts, out: &mut Kids) -> Resu
 }
 
 // What stands in the place of a text or an instruction comes.
+#[tactic(auto, using(crate::proofs::Comes::with_nodes_append))]
 fn edit_leaf(alloc: Global, node: &Node, what: Option<&EditKind>, out: &mut Kids) -> Result<(), NoMemory>
-    ensures { OnOk result (out.new ≡ spec.with_nodes out.old (edited_leaf node.now (spec.renamed_leaf node.now) (option_copied what))) }
+    ensures { OnOk result (out.new ≡ spec.with_nodes out.old (edited_leaf node.now (spec.renamed_leaf node.now) (option_copied what.entry))) }
 {
     match what {
         Some(EditKind::Delete) => Ok(()),
@@ -90,6 +91,7 @@ fn edit_parts(
 
 // What stands in the place of an element comes.
 #[cycle(edit)]
+#[tactic(auto, using(crate::proofs::Comes::comings))]
 fn edit_element(
     alloc: Global,
     edits: &[Edit],
@@ -102,7 +104,7 @@ fn edit_element(
 ) -> Result<(), NoMemory>
     requires at { IsAt edits.now spot.old.number spot.old.next }
     requires room { spot.old.number + length attrs.now + count_of kids.now < 2 ^ 32 }
-    ensures made { OnOk result (out.new ≡ spec.with_nodes out.old (edited_element name.now (numbered_attributes (look edits.now) spot.old.number attrs.now) (numbered_nodes (look edits.now) kids.now (spot.old.number + length attrs.now)) (option_copied what))) }
+    ensures made { OnOk result (out.new ≡ spec.with_nodes out.old (edited_element name.now (numbered_attributes (look edits.now) spot.old.number attrs.now) (numbered_nodes (look edits.now) kids.now (spot.old.number + length attrs.now)) (option_copied what.entry))) }
     ensures number { OnOk result (spot.new.number ≡ spot.old.number + length attrs.now + count_of kids.now) }
     ensures at { OnOk result (IsAt edits.now spot.new.number spot.new.next) }
 {
@@ -153,6 +155,7 @@ fn edit_element(
 
 // What stands in the place of the next node comes.
 #[cycle(edit)]
+#[tactic(auto, using(crate::proofs::Comes::renamings, crate::proofs::ByNumber::variants))]
 fn edit_node(
     alloc: Global,
     edits: &[Edit],
@@ -178,6 +181,7 @@ fn edit_node(
 
 /// What stands in the place of nodes comes, the first of which is the next node.
 #[cycle(edit)]
+#[tactic(auto, using(crate::proofs::ByNumber::one_more))]
 pub fn edit_nodes(
     alloc: Global,
     edits: &[Edit],

@@ -38,6 +38,7 @@ pub fn edit_here<'a>(edits: &'a [Edit], spot: &mut Spot) -> Option<&'a EditKind>
 }
 
 /// Goes past as many nodes, with their edits.
+#[tactic(auto, using(crate::proofs::Spots::ways))]
 pub fn skip(edits: &[Edit], spot: &mut Spot, nodes: u32)
     requires at { IsAt edits.now spot.old.number spot.old.next }
     requires room { spot.old.number + nodes < 2 ^ 32 }

@@ -1,9 +1,11 @@
 //! The new document.
-ghost use Rattle.std.specs.Prelude.{◌≡◌};
+ghost use Rattle.std.specs.Prelude.{◌≡◌, OnOk};
+ghost use Rattle.std.specs.Option.{option_copied};
 ghost use Rattle.xml_model.specs.Document.{IsValid};
 ghost use Rattle.update_try.specs.Rebuild.{limited_document, rebuild, edits_at};
 ghost use Rattle.tree_edit.specs.Numbered.{RisesFrom};
 ghost use Rattle.tree_edit.specs.Ends.{Gives};
+ghost use Rattle.tree_edit.specs.Tidy as spec;
 
 use crate::copies::push_copies;
 use crate::end::EditEnd;
@@ -13,7 +15,7 @@ use crate::spot::{Spot, edit_here};
 use std::alloc::Global;
 use update_try::{EditKind, EditList};
 use xml_model::{DEPTH_MAX, Doc, NODES_MAX, TEXT_BYTES_MAX};
-use xq_ast::Code;
+use xq_ast::{Code, NoMemory};
 
 // The document, where it keeps to the three limits.
 fn limited(doc: Doc) -> Result<Doc, EditEnd>
@@ -32,6 +34,22 @@ fn limited(doc: Doc) -> Result<Doc, EditEnd>
     Ok(doc)
 }
 
+// The nodes come that go into the document itself.
+fn push_into(alloc: Global, what: Option<&EditKind>, out: &mut Kids) -> Result<(), NoMemory>
+    ensures { OnOk result (out.new ≡ spec.with_nodes out.old (spec.into_document (option_copied what.entry))) }
+{
+    match what {
+        Some(EditKind::Into { kids, .. }) => push_copies(alloc, kids, out),
+        Some(EditKind::Before { .. }) => Ok(()),
+        Some(EditKind::After { .. }) => Ok(()),
+        Some(EditKind::Delete) => Ok(()),
+        Some(EditKind::Undeep) => Ok(()),
+        Some(EditKind::Put { .. }) => Ok(()),
+        Some(EditKind::Rename { .. }) => Ok(()),
+        None => Ok(()),
+    }
+}
+
 /// The document after the edits, which are in the order of their places, no two at one place. All
 /// of them are applied at once.
 pub fn apply(alloc: Global, doc: &Doc, edits: &EditList) -> Result<Doc, EditEnd>
@@ -44,9 +62,7 @@ pub fn apply(alloc: Global, doc: &Doc, edits: &EditList) -> Result<Doc, EditEnd>
     let what = edit_here(edits, &mut spot);
     let mut kids = Kids::new(alloc);
     edit_nodes(alloc, edits, &doc.kids, &mut spot, &mut kids)?;
-    if let Some(EditKind::Into { kids: more, .. }) = what {
-        push_copies(alloc, more, &mut kids)?;
-    }
+    push_into(alloc, what, &mut kids)?;
     let kids = kids.finish()?;
     limited(Doc { kids })
 }
