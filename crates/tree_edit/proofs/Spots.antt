@@ -1,24 +1,30 @@
 -- Edits in the order of their numbers: what is done at a number, and the edits from a number on.
-use Rattle.std.proofs.Common.{◌≡◌, ℕ, zero, suc, ◌+◌, ◌<◌, ◌≤◌, List, [], ◌∷◌, drop, Option, None, Some, refl, sym, ap, subst, ◌∙◌, arith}
+use Rattle.std.proofs.Common.{◌≡◌, ℕ, zero, suc, ◌+◌, ◌<◌, ◌≤◌, List, [], ◌∷◌, length, get_or, drop, Option, None, Some, refl, sym, ap, subst, ◌∙◌, arith}
 use Rattle.std.specs.Prelude.{if◌then◌else◌}
 use Rattle.std.specs.List.{slice_get}
 use Rattle.std.proofs.lemmas.Bool.{ne_eqb}
 use Rattle.std.proofs.lemmas.Bool.Decides.{Decides-eqb}
 use Rattle.std.proofs.lemmas.Option.{none-some, same_Some}
-use Rattle.update_try.specs.declared.edit.Edit.{Edit}
-use Rattle.update_try.specs.declared.edit.EditKind.{EditKind}
+use Rattle.xml_model.specs.declared.edit.Edit.{Edit}
+use Rattle.xml_model.specs.declared.edit.EditKind.{EditKind}
 use Rattle.tree_edit.specs.Numbered.{look, RisesFrom, IsAt}
 
 -- ---- lists
 
 -- from an element that is there on
-drop_some : {A : Type 0} (xs : List A) (i : ℕ) (x : A) → slice_get xs i ≡ Some x → drop i xs ≡ x ∷ drop (i + 1) xs
+pub drop_some : {A : Type 0} (xs : List A) (i : ℕ) (x : A) → slice_get xs i ≡ Some x → drop i xs ≡ x ∷ drop (i + 1) xs
 drop_some [] i x e = absurd (none-some x e)
 drop_some (y ∷ xs) zero x e = ap (λ y. y ∷ xs) (same_Some y x e)
 drop_some (y ∷ xs) (suc i) x e =
     let same : i + 1 + 1 ≡ suc i + 1 = omega arith in
     let one : suc i + 1 ≡ suc (i + 1) = omega arith in
     drop_some xs i x e ∙ ap (λ n. x ∷ drop n (y ∷ xs)) (sym one)
+
+-- what a slice tells of an element that is there
+pub got : {A : Type 0} (xs : List A) (i : ℕ) (x : A) → i < length xs → x ≡ get_or xs i x → slice_get xs i ≡ Some x
+got [] i x less e = absurd (omega arith)
+got (y ∷ xs) zero x less e = ap (λ y. Some y) (sym e)
+got (y ∷ xs) (suc i) x less e = got xs i x (omega arith) e
 
 -- from one that is not there on
 drop_none : {A : Type 0} (xs : List A) (i : ℕ) → slice_get xs i ≡ None → drop i xs ≡ []
@@ -90,7 +96,8 @@ found_later edits n i e at h apart =
     let first : n ≤ e.at = r.0 in
     let less : n + 1 ≤ e.at = omega (arith, apart) in
     record {
-      is = sym (at.same n (omega arith) ∙ (ap (λ es. look es n) next ∙ (other e (drop (i + 1) edits) n apart ∙ none_before (e.at + 1) n (drop (i + 1) edits) r.1 (omega arith))));
+      is = sym (at.same n (omega arith) ∙ (ap (λ es. look es n) next ∙ (other e (drop (i + 1) edits) n apart ∙ none_before (e.at + 1) n (drop (i + 1)
+          edits) r.1 (omega arith))));
       at = record { rises = subst (RisesFrom (n + 1)) (sym next) (less, r.1); same = λ k h. at.same k (omega arith) };
     }
 
@@ -105,7 +112,8 @@ pub sets_out : (edits : List Edit) (from to next : ℕ) → IsAt edits from next
 sets_out edits from to next at less = record { rises = at.rises; same = λ n h. at.same n (omega arith) }
 
 -- an edit before the other number is gone past
-pub goes_past : (edits : List Edit) (from to i : ℕ) (e : Edit) → IsOnTheWay edits from to i → slice_get edits i ≡ Some e → e.at < to → IsOnTheWay edits from to (i + 1)
+pub goes_past : (edits : List Edit) (from to i : ℕ) (e : Edit) → IsOnTheWay edits from to i → slice_get edits i ≡ Some e → e.at < to
+    → IsOnTheWay edits from to (i + 1)
 goes_past edits from to i e on h less =
     let next : drop i edits ≡ e ∷ drop (i + 1) edits = drop_some edits i e h in
     let r : RisesFrom from (e ∷ drop (i + 1) edits) = subst (RisesFrom from) next on.rises in

@@ -6,9 +6,9 @@ use Rattle.xml_model.specs.declared.node.Node.TheOpen.{Node-F}
 use Rattle.xml_model.specs.declared.node.Node.TheFolds.{fold-Node}
 use Rattle.xml_model.specs.declared.node.Node.TheVariants.{Text, Pi}
 use Rattle.xml_model.specs.Trees.{total}
-use Rattle.update_try.specs.declared.edit.Edit.{Edit}
-use Rattle.update_try.specs.declared.edit.EditKind.{EditKind}
-use Rattle.update_try.specs.Rebuild.{edited_attribute, edited_element, edited_leaf}
+use Rattle.xml_model.specs.declared.edit.Edit.{Edit}
+use Rattle.xml_model.specs.declared.edit.EditKind.{EditKind}
+use Rattle.xml_model.specs.Rebuild.{edited_attribute, edited_element, edited_leaf}
 
 -- ---- edits
 

@@ -4,8 +4,8 @@ use Rattle.xml_model.specs.declared.node.Attr.{Attr}
 use Rattle.xml_model.specs.declared.node.Node.{Node, out-Node}
 use Rattle.xml_model.specs.declared.node.Node.TheOpen.{Node-F}
 use Rattle.xml_model.specs.declared.node.Node.TheVariants.{Element, Text, Pi}
-use Rattle.update_try.specs.declared.edit.EditKind.{EditKind}
-use Rattle.update_try.specs.declared.edit.EditKind.TheVariants as edit
+use Rattle.xml_model.specs.declared.edit.EditKind.{EditKind}
+use Rattle.xml_model.specs.declared.edit.EditKind.TheVariants as edit
 use Rattle.tree_edit.specs.declared.kids.Kids.{Kids}
 
 abbrev pub no_kids : Kids

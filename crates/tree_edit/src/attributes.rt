@@ -1,14 +1,13 @@
 //! What stands in the place of attributes.
 ghost use Rattle.std.specs.Prelude.{◌≡◌, ◌+◌, ◌<◌, ◌^◌, ◌++◌, length, OnOk, IfOk};
 ghost use Rattle.std.specs.Option.{option_copied};
-ghost use Rattle.update_try.specs.Rebuild.{edited_attribute};
+ghost use Rattle.xml_model.specs.Rebuild.{edited_attribute};
 ghost use Rattle.tree_edit.specs.Numbered.{look, IsAt, numbered_attributes};
 
 use crate::copies::push_attrs;
 use crate::spot::{Spot, edit_here};
 use std::alloc::Global;
-use update_try::{Edit, EditKind};
-use xml_model::{Attr, AttrList};
+use xml_model::{Attr, AttrList, Edit, EditKind};
 use xq_ast::{NoMemory, Sequence};
 
 // What stands in the place of one attribute goes to the end.

@@ -2,7 +2,7 @@
 ghost use Rattle.std.specs.Prelude.{◌≡◌, OnOk};
 ghost use Rattle.std.specs.Option.{option_copied};
 ghost use Rattle.xml_model.specs.Document.{IsValid};
-ghost use Rattle.update_try.specs.Rebuild.{limited_document, rebuild, edits_at};
+ghost use Rattle.xml_model.specs.Rebuild.{limited_document, rebuild, edits_at};
 ghost use Rattle.tree_edit.specs.Numbered.{RisesFrom};
 ghost use Rattle.tree_edit.specs.Ends.{Gives};
 ghost use Rattle.tree_edit.specs.Tidy as spec;
@@ -13,8 +13,7 @@ use crate::kids::Kids;
 use crate::nodes::edit_nodes;
 use crate::spot::{Spot, edit_here};
 use std::alloc::Global;
-use update_try::{EditKind, EditList};
-use xml_model::{DEPTH_MAX, Doc, NODES_MAX, TEXT_BYTES_MAX};
+use xml_model::{DEPTH_MAX, Doc, EditKind, EditList, NODES_MAX, TEXT_BYTES_MAX};
 use xq_ast::{Code, NoMemory};
 
 // The document, where it keeps to the three limits.

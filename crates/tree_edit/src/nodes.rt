@@ -2,7 +2,7 @@
 ghost use Rattle.std.specs.Prelude.{◌≡◌, ◌+◌, ◌<◌, ◌^◌, length, OnOk, IfOk};
 ghost use Rattle.std.specs.Option.{option_copied};
 ghost use Rattle.xml_model.specs.Trees.{count_node, count_of};
-ghost use Rattle.update_try.specs.Rebuild.{edited_element, edited_leaf};
+ghost use Rattle.xml_model.specs.Rebuild.{edited_element, edited_leaf};
 ghost use Rattle.tree_edit.specs.Numbered.{look, IsAt, numbered_attributes, numbered_node, numbered_nodes};
 ghost use Rattle.tree_edit.specs.Tidy as spec;
 
@@ -11,8 +11,7 @@ use crate::copies::{push_attrs, push_copies, push_copy, push_renamed};
 use crate::kids::Kids;
 use crate::spot::{Spot, edit_here, skip};
 use std::alloc::Global;
-use update_try::{Edit, EditKind};
-use xml_model::{AttrList, Node, NodeList};
+use xml_model::{AttrList, Edit, EditKind, Node, NodeList};
 use xq_ast::{NoMemory, Str};
 
 /// What stands in an element: its attributes, and its children as they come.
@@ -34,7 +33,12 @@ fn push_element(alloc: Global, name: &Str, parts: Parts, out: &mut Kids) -> Resu
 
 // What stands in the place of a text or an instruction comes.
 #[tactic(auto, using(crate::proofs::Comes::with_nodes_append))]
-fn edit_leaf(alloc: Global, node: &Node, what: Option<&EditKind>, out: &mut Kids) -> Result<(), NoMemory>
+fn edit_leaf(
+    alloc: Global,
+    node: &Node,
+    what: Option<&EditKind>,
+    out: &mut Kids,
+) -> Result<(), NoMemory>
     ensures { OnOk result (out.new ≡ spec.with_nodes out.old (edited_leaf node.now (spec.renamed_leaf node.now) (option_copied what.entry))) }
 {
     match what {
@@ -133,10 +137,12 @@ fn edit_element(
             push_element(alloc, name, parts, out)?;
             push_copies(alloc, others, out)
         }
-        Some(EditKind::Into {
-            attrs: more_attrs,
-            kids: more,
-        }) => {
+        Some(
+            EditKind::Into {
+                attrs: more_attrs,
+                kids: more,
+            },
+        ) => {
             let mut parts = edit_parts(alloc, edits, attrs, kids, spot)?;
             push_attrs(more_attrs, &mut parts.attrs)?;
             push_copies(alloc, more, &mut parts.kids)?;

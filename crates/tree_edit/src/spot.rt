@@ -3,7 +3,7 @@ ghost use Rattle.std.specs.Prelude.{◌≡◌, ◌+◌, ◌<◌, ◌≤◌, ◌^
 ghost use Rattle.std.specs.Option.{option_copied};
 ghost use Rattle.tree_edit.specs.Numbered.{look, IsAt};
 
-use update_try::{Edit, EditKind};
+use xml_model::{Edit, EditKind};
 
 /// A place in the walk.
 #[derive(Debug, Drop)]

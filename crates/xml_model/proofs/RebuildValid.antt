@@ -4,7 +4,7 @@ use Rattle.std.specs.Prelude.{◌||◌, if◌then◌else◌, nat_lt}
 use Rattle.std.specs.FinMap as fin_map
 use Rattle.std.specs.List.{slice_get}
 use Rattle.std.specs.Option.{option_map}
-use Rattle.std.proofs.lemmas.Bool.{ltb-false}
+use Rattle.std.proofs.lemmas.Bool.{and_parts, ltb-false}
 use Rattle.std.proofs.lemmas.Option.{none-some}
 use Rattle.xq_ast.specs.Names.{is_name}
 use Rattle.xq_ast.specs.declared.code.Code.{Code}
@@ -23,13 +23,14 @@ use Rattle.xml_model.specs.Document.{IsValid}
 use Rattle.xml_model.specs.Place.{Placed, the_document, a_node, an_attribute, attrs_in, kids_in, attrs_of, kids_of, placed_from}
 use Rattle.xml_model.specs.Trees.{count_of, bytes_of, depth_of, has_attribute}
 use Rattle.xml_model.proofs.Alike.{Each, each_append}
-use Rattle.xml_model.proofs.Formed.{IsFormed, AreFormed, AllFormed, IsApart, AreAttributes, HasForm, is_text, form_is_valid, valid_has_form}
+use Rattle.xml_model.proofs.Formed.{IsFormed, AreFormed, AllFormed, IsApart, AreAttributes, HasForm, is_text, node_of, form_is_valid, valid_has_form}
 use Rattle.xml_model.proofs.NodeCases.{Each as EachNode, node_has}
 use Rattle.xml_model.proofs.Nodes.{fold-Element, fold-Text, fold-Pi, formed-Element}
 use Rattle.xml_model.proofs.WellFormed.{IsNamed}
-use Rattle.update_try.specs.declared.edit.EditKind.{EditKind}
-use Rattle.update_try.specs.declared.edit.EditKind.TheVariants as edit
-use Rattle.update_try.specs.Rebuild.{Edits, EditsIn, behind, joined_front, text_front, front, tidied, edited_attribute, edited_attributes, edited_element, edited_leaf, edited_kids, edited_step, edited_node, edited_document, edited, limited_document, rebuild}
+use Rattle.xml_model.specs.GoodEdits.{are_named, are_formed_alone, brings_formed, with_more, KeepForm}
+use Rattle.xml_model.specs.declared.edit.EditKind.{EditKind}
+use Rattle.xml_model.specs.declared.edit.EditKind.TheVariants as edit
+use Rattle.xml_model.specs.Rebuild.{Edits, EditsIn, behind, joined_front, text_front, front, tidied, edited_attribute, edited_attributes, edited_element, edited_leaf, edited_kids, edited_step, edited_node, edited_document, edited, limited_document, rebuild}
 
 -- ---- tidied nodes
 
@@ -41,7 +42,8 @@ all_append : (xs ys : List Node) → AllFormed xs → AllFormed ys → AllFormed
 all_append [] ys g h = h
 all_append (x ∷ xs) ys g h = (g.0, all_append xs ys g.1 h)
 
-joined_formed : (value : List ℕ) (o : Option (List ℕ)) (n : Node) (rest : List Node) → 0 < length value → IsFormed n → AllFormed rest → AllFormed (joined_front value o n rest)
+joined_formed : (value : List ℕ) (o : Option (List ℕ)) (n : Node) (rest : List Node) → 0 < length value → IsFormed n → AllFormed rest
+    → AllFormed (joined_front value o n rest)
 joined_formed value (Some first) n rest some g h = (more_bytes value first some, h)
 joined_formed value None n rest some g h = (some, (g, h))
 
@@ -73,7 +75,8 @@ apart_anyway after (n ∷ nodes) h = (refl, h.1)
 apart_behind : (n : Node) (rest : List Node) → is_text n ≡ false → IsApart false rest → IsApart (is_text n) rest
 apart_behind n rest e h = subst (λ t. IsApart t rest) (sym e) h
 
-joined_apart : (value : List ℕ) (o : Option (List ℕ)) (n : Node) (rest : List Node) → text_in (out-Node n) ≡ o → IsApart false (n ∷ rest) → IsApart false (joined_front value o n rest)
+joined_apart : (value : List ℕ) (o : Option (List ℕ)) (n : Node) (rest : List Node) → text_in (out-Node n) ≡ o → IsApart false (n ∷ rest)
+    → IsApart false (joined_front value o n rest)
 joined_apart value (Some first) n rest e h = (refl, text_behind n e h.1)
   where
     text_behind : (n : Node) → text_in (out-Node n) ≡ Some first → IsApart (is_text n) rest → IsApart true rest
@@ -111,17 +114,6 @@ IsGood (edit.Rename name) = IsTrue (is_name name)
 abbrev pub AreGood : EditsIn → Type 0
 AreGood at = (p : List PlaceStep) → IfSome (at p) IsGood
 
--- the attributes that an element has in the end: those that come go behind the others
-abbrev pub with_more : List Attr → Option EditKind → List Attr
-with_more attrs None = attrs
-with_more attrs (Some (edit.Into more kids)) = attrs ++ more
-with_more attrs (Some (edit.Before kids)) = attrs
-with_more attrs (Some (edit.After kids)) = attrs
-with_more attrs (Some edit.Delete) = attrs
-with_more attrs (Some edit.Undeep) = attrs
-with_more attrs (Some (edit.Put others kids)) = attrs
-with_more attrs (Some (edit.Rename name)) = attrs
-
 -- no element of a tree has two attributes of one name in the end
 abbrev pub NamesOnce : EditsIn → Placed → Type 0
 NamesOnce at root = (p : List PlaceStep) (w : Placed) → placed_from p (Some root) ≡ Some w
@@ -142,7 +134,8 @@ attribute_named a (Some (edit.Rename name)) g h = (h, tt)
 attributes_named : (at : EditsIn) → AreGood at → (i : ℕ) (attrs : List Attr) → AreAttributes attrs → Each IsNamed (edited_attributes at i attrs)
 attributes_named at good i [] h = tt
 attributes_named at good i (a ∷ more) h =
-    each_append IsNamed (edited_attribute a (at (steps.Attr i ∷ []))) _ (attribute_named a (at (steps.Attr i ∷ [])) h.0 (good (steps.Attr i ∷ []))) (attributes_named at good (i + 1) more h.2)
+    each_append IsNamed (edited_attribute a (at (steps.Attr i ∷ []))) _ (attribute_named a (at (steps.Attr i ∷ [])) h.0 (good (steps.Attr i ∷ [])))
+    (attributes_named at good (i + 1) more h.2)
 
 more_named : (attrs : List Attr) (o : Option EditKind) → Each IsNamed attrs → IfSome o IsGood → Each IsNamed (with_more attrs o)
 more_named attrs None g h = g
@@ -172,10 +165,12 @@ row_all _ (more_of-Node x row) h = (h.0, row_all _ row h.1)
 kids_formed : (name : List ℕ) (attrs : List Attr) (kids : List Node) → IsFormed (Element name attrs kids) → AllFormed kids
 kids_formed name attrs kids h = subst AllFormed (items_hidden-the_row-Node-0 kids) (row_all _ (hidden-the_row-Node-0 kids) h.3)
 
-one_formed : (name : List ℕ) (attrs : List Attr) (kids : List Node) → IsTrue (is_name name) → AreAttributes attrs → AllFormed kids → IsFormed (Element name attrs (tidied kids))
+one_formed : (name : List ℕ) (attrs : List Attr) (kids : List Node) → IsTrue (is_name name) → AreAttributes attrs → AllFormed kids
+    → IsFormed (Element name attrs (tidied kids))
 one_formed name attrs kids named are formed = formed-Element name attrs (tidied kids) named are (tidied_apart kids) (tidied_formed kids formed)
 
-element_formed : (name : List ℕ) (attrs : List Attr) (kids : List Node) (o : Option EditKind) → IsTrue (is_name name) → AreAttributes (with_more attrs o) → AllFormed kids → IfSome o IsGood
+element_formed : (name : List ℕ) (attrs : List Attr) (kids : List Node) (o : Option EditKind) → IsTrue (is_name name)
+    → AreAttributes (with_more attrs o) → AllFormed kids → IfSome o IsGood
     → AllFormed (edited_element name attrs kids o)
 element_formed name attrs kids None named are formed good = (one_formed name attrs kids named are formed, tt)
 element_formed name attrs kids (Some (edit.Into more_attrs more)) named are formed good =
@@ -189,7 +184,8 @@ element_formed name attrs kids (Some (edit.Rename other)) named are formed good 
 
 -- ---- texts and instructions
 
-leaf_formed : (n : Node) (renamed : List ℕ → Node) (o : Option EditKind) → IsFormed n → ((name : List ℕ) → IsTrue (is_name name) → IsFormed (renamed name)) → IfSome o IsGood
+leaf_formed : (n : Node) (renamed : List ℕ → Node) (o : Option EditKind) → IsFormed n → ((name : List ℕ) → IsTrue (is_name name)
+    → IsFormed (renamed name)) → IfSome o IsGood
     → AllFormed (edited_leaf n renamed o)
 leaf_formed n renamed None g named good = (g, tt)
 leaf_formed n renamed (Some (edit.Into attrs kids)) g named good = (g, tt)
@@ -206,13 +202,15 @@ Stays : Node → Type 0
 Stays n = IsFormed n → (at : EditsIn) → AreGood at → NamesOnce at (a_node n) → AllFormed (edited_node n at)
 
 kids_stay : (at : EditsIn) → AreGood at → (i : ℕ) (kids : List Node) → EachNode Stays kids → AllFormed kids
-    → ((j : ℕ) (kid : Node) → slice_get kids j ≡ Some kid → NamesOnce (behind at (steps.Kid (i + j))) (a_node kid)) → AllFormed (edited_kids at i (map edited_node kids))
+    → ((j : ℕ) (kid : Node) → slice_get kids j ≡ Some kid → NamesOnce (behind at (steps.Kid (i + j))) (a_node kid))
+    → AllFormed (edited_kids at i (map edited_node kids))
 unfolding Stays
 kids_stay at good i [] stay formed once = tt
 kids_stay at good i (kid ∷ more) stay formed once =
     let first : i + 0 ≡ i = omega arith in
     all_append (edited_node kid (behind at (steps.Kid i))) _
-    (stay.0 formed.0 (behind at (steps.Kid i)) (λ p. good (steps.Kid i ∷ p)) (subst (λ k. NamesOnce (behind at (steps.Kid k)) (a_node kid)) first (once 0 kid refl)))
+    (stay.0 formed.0 (behind at (steps.Kid i)) (λ p. good (steps.Kid i ∷ p)) (subst (λ k. NamesOnce (behind at (steps.Kid k)) (a_node kid)) first
+    (once 0 kid refl)))
     (kids_stay at good (i + 1) more stay.1 formed.1 (λ j x e.
     let this : i + suc j ≡ i + 1 + j = omega arith in
     subst (λ k. NamesOnce (behind at (steps.Kid k)) (a_node x)) this (once (suc j) x e)))
@@ -267,9 +265,11 @@ document_formed kids (Some (edit.Rename name)) h good = h
 
 -- a document that passes the three tests keeps to the limits
 within : (doc new : Doc) → AllFormed doc.kids → IsApart false doc.kids → limited_document doc ≡ Ok new → IsValid new
-within doc new formed apart is = depth (nat_lt DEPTH_MAX (depth_of doc.kids)) (nat_lt NODES_MAX (count_of doc.kids)) (nat_lt TEXT_BYTES_MAX (bytes_of doc.kids)) refl refl refl is
+within doc new formed apart is = depth (nat_lt DEPTH_MAX (depth_of doc.kids)) (nat_lt NODES_MAX (count_of doc.kids)) (nat_lt TEXT_BYTES_MAX (bytes_of
+    doc.kids)) refl refl refl is
   where
-    depth : (a b c : Bool) → nat_lt DEPTH_MAX (depth_of doc.kids) ≡ a → nat_lt NODES_MAX (count_of doc.kids) ≡ b → nat_lt TEXT_BYTES_MAX (bytes_of doc.kids) ≡ c
+    depth : (a b c : Bool) → nat_lt DEPTH_MAX (depth_of doc.kids) ≡ a → nat_lt NODES_MAX (count_of doc.kids) ≡ b
+        → nat_lt TEXT_BYTES_MAX (bytes_of doc.kids) ≡ c
         → (if a then Err TooDeep else (if b then Err TooManyNodes else (if c then Err TooMuchText else Ok doc))) ≡ Ok new → IsValid new
     depth true b c x y z is = absurd (cc)
     depth false true c x y z is = absurd (cc)
@@ -285,10 +285,38 @@ within doc new formed apart is = depth (nat_lt DEPTH_MAX (depth_of doc.kids)) (n
         }))
 
 -- what is rebuilt is valid
-pub rebuilt_is_valid : (doc new : Doc) (edits : Edits) → IsValid doc → AreGood (fin_map.get edits) → NamesOnce (fin_map.get edits) (the_document doc)
+rebuilt_is_valid : (doc new : Doc) (edits : Edits) → IsValid doc → AreGood (fin_map.get edits) → NamesOnce (fin_map.get edits) (the_document doc)
     → rebuild doc edits ≡ Ok new → IsValid new
 rebuilt_is_valid doc new edits valid good once is =
     let at = fin_map.get edits in
     let formed : AllFormed (edited_document (edited_kids at 0 (map edited_node doc.kids)) (at [])) =
     document_formed _ (at []) (root_kids (the_document doc) at good once (all_stay doc.kids) (valid_has_form doc valid).formed) (good []) in
     within (edited doc at) new (tidied_formed _ formed) (tidied_apart _) is
+
+-- ---- what edits bring, by the tests
+
+all_named : (attrs : List Attr) → IsTrue (are_named attrs) → Each IsNamed attrs
+all_named [] h = tt
+all_named (a ∷ attrs) h = let parts = and_parts _ _ h in (parts.0, all_named attrs parts.1)
+
+all_formed : (kids : List Node) → IsTrue (are_formed_alone kids) → AllFormed kids
+all_formed [] h = tt
+all_formed (n ∷ kids) h = let parts = and_parts _ _ h in (node_of n parts.0, all_formed kids parts.1)
+
+is_good : (what : EditKind) → IsTrue (brings_formed what) → IsGood what
+is_good (edit.Into attrs kids) h = let parts = and_parts _ _ h in (all_named attrs parts.0, all_formed kids parts.1)
+is_good (edit.Before kids) h = all_formed kids h
+is_good (edit.After kids) h = all_formed kids h
+is_good edit.Delete h = tt
+is_good edit.Undeep h = tt
+is_good (edit.Put attrs kids) h = let parts = and_parts _ _ h in (all_named attrs parts.0, all_formed kids parts.1)
+is_good (edit.Rename name) h = h
+
+good_at : (o : Option EditKind) → IfSome o (λ what. IsTrue (brings_formed what)) → IfSome o IsGood
+good_at None h = tt
+good_at (Some what) h = is_good what h
+
+-- edits that keep a valid document well-formed leave a valid one, where it keeps to the limits
+pub stays_valid : (doc new : Doc) (edits : Edits) → IsValid doc → KeepForm doc (fin_map.get edits) → rebuild doc edits ≡ Ok new → IsValid new
+stays_valid doc new edits valid keep is =
+    rebuilt_is_valid doc new edits valid (λ p. good_at (fin_map.get edits p) (keep.bring p)) keep.once is

@@ -1,5 +1,5 @@
 //! Edits: what an update does at the places of documents.
-use xml_model::{AttrList, NodeList};
+use crate::node::{AttrList, NodeList};
 use xq_ast::{Sequence, Str};
 
 /// What is done at a place.

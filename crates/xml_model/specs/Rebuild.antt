@@ -17,9 +17,9 @@ use Rattle.xml_model.specs.Constructors.{text_in}
 use Rattle.xml_model.specs.Numbering.{place_of_number}
 use Rattle.xml_model.specs.Place.{the_document, place_cmp}
 use Rattle.xml_model.specs.Trees.{count_of, bytes_of, depth_of}
-use Rattle.update_try.specs.declared.edit.Edit.{Edit}
-use Rattle.update_try.specs.declared.edit.EditKind.{EditKind}
-use Rattle.update_try.specs.declared.edit.EditKind.TheVariants as edit
+use Rattle.xml_model.specs.declared.edit.Edit.{Edit}
+use Rattle.xml_model.specs.declared.edit.EditKind.{EditKind}
+use Rattle.xml_model.specs.declared.edit.EditKind.TheVariants as edit
 
 -- edits: what is done at which places of a document
 abbrev pub Edits : Type 0

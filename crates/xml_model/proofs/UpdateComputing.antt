@@ -28,17 +28,18 @@ use Rattle.xml_model.specs.Tuples.{Means}
 use Rattle.xml_model.proofs.Bounded.{bounded, fits}
 use Rattle.xml_model.proofs.Computing.{Entries, looked, forest_of, refold, refold_row, meaning_to}
 use Rattle.xml_model.proofs.Nodes.{fold-Element', fold-Pi, fold-Text}
-use Rattle.update_try.specs.declared.edit.EditKind.{EditKind}
-use Rattle.update_try.specs.declared.edit.EditKind.TheVariants as edit
-use Rattle.update_try.specs.Rebuild.{Edits, EditsIn, tidied, edited_step, edited_kids, edited_document, rebuild}
-use Rattle.update_try.specs.Edits.{Change, DocumentEdits, insert_into, insert_beside, delete, replace, rename, changes, by_document, rebuilt_there, rebuilt_all, updated_by, updated}
-use Rattle.update_try.proofs.PlaceTotal.{place_total}
+use Rattle.xml_model.specs.declared.edit.EditKind.{EditKind}
+use Rattle.xml_model.specs.declared.edit.EditKind.TheVariants as edit
+use Rattle.xml_model.specs.Rebuild.{Edits, EditsIn, tidied, edited_step, edited_kids, edited_document, rebuild}
+use Rattle.xml_model.specs.Edits.{Change, DocumentEdits, insert_into, insert_beside, delete, replace, rename, changes, by_document, rebuilt_there, rebuilt_all, updated_by, updated}
+use Rattle.xml_model.proofs.PlaceTotal.{place_total}
 
 -- ---- the fold of nodes computes
 
 mutual
   refolds : (A : Type 0) (step : Node-F A → A) (n : Node) → fold-Node A step n ≡ refold A step n
-  refolds A step (Element' name attrs s row) = fold-Element' A step name attrs s row ∙ ap (λ kids. step (Node-F.Element name attrs kids)) (refolds_row A step row)
+  refolds A step (Element' name attrs s row) = fold-Element' A step name attrs s row ∙ ap (λ kids. step (Node-F.Element name attrs kids))
+      (refolds_row A step row)
   refolds A step (Text value) = fold-Text A step value
   refolds A step (Pi target value) = fold-Pi A step target value
 
@@ -63,9 +64,13 @@ module _ (fold : (A : Type 0) → (Node-F A → A) → Node → A) where
 
   -- the document after edits
   abbrev pub rebuild_to : Doc → EditsIn → Result Doc Code
-  rebuild_to doc at = limited_to (record { kids = tidied (edited_document (edited_kids at 0 (map (fold (EditsIn → List Node) edited_step) doc.kids)) (at [])) })
+  rebuild_to doc at = limited_to (record {
+    kids = tidied (edited_document (edited_kids at 0 (map (fold (EditsIn
+        → List Node) edited_step) doc.kids)) (at []));
+  })
 
-same_rebuild : (doc : Doc) (es : List (List PlaceStep × EditKind)) → rebuild doc (fin_map.from_entries es) ≡ rebuild_to refold doc (λ place. fin_map.find place_cmp place es)
+same_rebuild : (doc : Doc) (es : List (List PlaceStep × EditKind)) → rebuild doc (fin_map.from_entries es)
+    ≡ rebuild_to refold doc (λ place. fin_map.find place_cmp place es)
 same_rebuild doc es = λ i. rebuild_to (same_fold i) doc (λ place. fin_map.get-from_entries place_total es place i)
 
 -- ---- what an update asks for
@@ -107,7 +112,8 @@ module _ (docs : Documents) (n : ℕ) where
   at_fold = changes_to docs (λ A step m. fold-Node A step m) n
 
   two : (e f : Expr) → (fits n e && fits n f) ≡ true → (form : Means → Means → Making (List Change))
-      → form (meaning_to docs (λ A step m. fold-Node A step m) n e) (meaning_to docs (λ A step m. fold-Node A step m) n f) ≡ form (spec.meaning docs e) (spec.meaning docs f)
+      → form (meaning_to docs (λ A step m. fold-Node A step m) n e) (meaning_to docs (λ A step m. fold-Node A step m) n f)
+      ≡ form (spec.meaning docs e) (spec.meaning docs f)
   two e f h form = λ i. form (same_meaning docs n e (first (fits n e) _ h) i) (same_meaning docs n f (second (fits n e) _ h) i)
 
   same_changes : (u : UpdateCall) → update_fits n u ≡ true → changes_to docs (λ A step m. fold-Node A step m) n u ≡ changes docs u
@@ -141,7 +147,8 @@ rebuilt_list es (d ∷ ds) = rebuilt_in es d (looked es d.name) >>? (λ gs. rebu
 same_all : (F : Forest) (ds : List DocumentEdits) → with_entries (rebuilt_all F ds) ≡ rebuilt_list (fin_map.entries F) ds
 same_all F [] = refl
 same_all F (d ∷ ds) =
-    ap (λ o. with_entries (rebuilt_there F d o >>? (λ G. rebuilt_all G ds))) (fin_map.get-entries F d.name) ∙ found (looked (fin_map.entries F) d.name) (same_all F ds) (λ G. same_all G ds)
+    ap (λ o. with_entries (rebuilt_there F d o >>? (λ G. rebuilt_all G ds))) (fin_map.get-entries F d.name) ∙ found (looked (fin_map.entries F)
+    d.name) (same_all F ds) (λ G. same_all G ds)
   where
     made : (new : Result Doc Code) → ((G : Forest) → with_entries (rebuilt_all G ds) ≡ rebuilt_list (fin_map.entries G) ds)
         → with_entries ((new >>? (λ doc. Ok (fin_map.insert F d.name doc))) >>? (λ G. rebuilt_all G ds))
@@ -149,7 +156,8 @@ same_all F (d ∷ ds) =
     made (Ok doc) more = more (fin_map.insert F d.name doc) ∙ ap (λ es. rebuilt_list es ds) (fin_map.entries-insert nat_list_cmp_total F d.name doc)
     made (Err code) more = refl
 
-    found : (o : Option Doc) → with_entries (rebuilt_all F ds) ≡ rebuilt_list (fin_map.entries F) ds → ((G : Forest) → with_entries (rebuilt_all G ds) ≡ rebuilt_list (fin_map.entries G) ds)
+    found : (o : Option Doc) → with_entries (rebuilt_all F ds) ≡ rebuilt_list (fin_map.entries F) ds → ((G : Forest)
+        → with_entries (rebuilt_all G ds) ≡ rebuilt_list (fin_map.entries G) ds)
         → with_entries (rebuilt_there F d o >>? (λ G. rebuilt_all G ds)) ≡ (rebuilt_in (fin_map.entries F) d o >>? (λ gs. rebuilt_list gs ds))
     found None same more = same
     found (Some doc) same more =

@@ -25,9 +25,9 @@ use Rattle.xml_model.specs.Nav.{Stored, Ending, ending, at_place}
 use Rattle.xml_model.specs.Nodes.{no_nodes}
 use Rattle.xml_model.specs.Place.{Placed, the_document, a_node, an_attribute, attrs_of, placed_from, place_cmp, step_cmp}
 use Rattle.xml_model.specs.Tuples.{Bindings, Means}
-use Rattle.update_try.specs.declared.edit.EditKind.{EditKind}
-use Rattle.update_try.specs.declared.edit.EditKind.TheVariants as edit
-use Rattle.update_try.specs.Rebuild.{Edits, EditsIn, edited_attributes, rebuild}
+use Rattle.xml_model.specs.declared.edit.EditKind.{EditKind}
+use Rattle.xml_model.specs.declared.edit.EditKind.TheVariants as edit
+use Rattle.xml_model.specs.Rebuild.{Edits, EditsIn, edited_attributes, rebuild}
 
 -- what is done to a node of a document
 pub record Change : Type 0 where

@@ -1,4 +1,0 @@
-pub mod PlaceTotal
-mod UpdateComputing
-mod UpdateRows
-pub mod RebuildValid
