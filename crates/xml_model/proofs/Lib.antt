@@ -53,3 +53,4 @@ pub mod PlaceTotal
 pub mod RebuildValid
 pub mod UpdateComputing
 mod UpdateRows
+mod LimitRows
