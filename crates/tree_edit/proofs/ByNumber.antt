@@ -1,6 +1,6 @@
 -- What stands in the place of nodes by their numbers is what stands there by their places, where the edits at the places
 -- are those at the numbers.
-use Rattle.std.proofs.Common.{◌≡◌, ℕ, zero, suc, ◌+◌, ◌<◌, List, [], ◌∷◌, ◌++◌, map, length, take, Bool, true, false, Option, None, Some, refl, sym, ap, subst, ◌∙◌, arith}
+use Rattle.std.proofs.Common.{◌≡◌, ℕ, zero, suc, ◌+◌, ◌<◌, List, [], ◌∷◌, ◌++◌, map, length, take, drop, Bool, true, false, Option, None, Some, Result, refl, sym, ap, subst, ◌∙◌, arith}
 use Rattle.std.specs.Prelude.{if◌then◌else◌, ◌==◌}
 use Rattle.std.specs.Cmp.{nat_cmp_is}
 use Rattle.std.specs.FinMap as fin_map
@@ -34,8 +34,10 @@ use Rattle.update_try.specs.Rebuild.{EditsIn, behind, edits_at, edited_attribute
 use Rattle.update_try.proofs.PlaceTotal.{place_total}
 use Rattle.tree_edit.specs.Numbered.{look, Numbered, numbered_kids, numbered_attributes, numbered_step, numbered, numbered_node, numbered_nodes}
 use Rattle.tree_edit.specs.declared.kids.Kids.{Kids}
-use Rattle.tree_edit.specs.Tidy.{with_nodes}
-use Rattle.tree_edit.proofs.Comes.{with_nodes_append}
+use Rattle.tree_edit.specs.declared.end.EditEnd.{EditEnd}
+use Rattle.tree_edit.specs.Ends.{Gives}
+use Rattle.tree_edit.specs.Tidy.{no_kids, closed, with_nodes, into_document}
+use Rattle.tree_edit.proofs.Comes.{with_nodes_append, document_finished}
 
 module _ (at : ℕ → Option EditKind) where
   -- ---- how many nodes
@@ -63,6 +65,14 @@ module _ (at : ℕ → Option EditKind) where
   one_more k x xs n =
       with_nodes_append k (numbered_node at x n) (numbered_nodes at xs (n + (numbered at x).size))
       ∙ ap (λ size. with_nodes (with_nodes k (numbered_node at x n)) (numbered_nodes at xs (n + size))) (size_is x)
+
+  -- a turn of a loop over nodes
+  pub turn : (k new whole : Kids) (xs : List Node) (i : ℕ) (x : Node) (n next : ℕ) → drop i xs ≡ x ∷ drop (i + 1) xs
+      → new ≡ with_nodes k (numbered_node at x n) → next ≡ n + count_node x
+      → with_nodes k (numbered_nodes at (drop i xs) n) ≡ whole → with_nodes new (numbered_nodes at (drop (i + 1) xs) next) ≡ whole
+  turn k new whole xs i x n next is made moved all =
+      (λ j. with_nodes (made j) (numbered_nodes at (drop (i + 1) xs) (moved j)))
+      ∙ (sym (one_more k x (drop (i + 1) xs) n) ∙ (ap (λ ys. with_nodes k (numbered_nodes at ys n)) (sym is) ∙ all))
 
   -- ---- the variants
 
@@ -215,5 +225,18 @@ edited_by_number doc edits =
     let start : number p (Some (the_document doc)) ≡ 0 + number p (Some (the_document doc)) = omega arith in
     fin_map.get-from_entries place_total (map (λ e. (place_of_number (the_document doc) e.at, e.what)) edits) p
     ∙ (found (the_document doc) p w s edits ∙ ap (look edits) start))
+
+-- the answer for the nodes of a document and what goes into it is the answer for the document
+pub whole : (doc : Doc) (edits : List Edit) (start made all : Kids) (n : ℕ) (what : Option EditKind) (kids : List Node) (r : Result Doc EditEnd)
+    → start ≡ no_kids → n ≡ 1 → made ≡ with_nodes start (numbered_nodes (look edits) doc.kids n) → what ≡ look edits 0 → all ≡ with_nodes made (into_document what)
+    → kids ≡ (closed all).nodes → Gives r (limited_document (record { kids = kids })) → Gives r (rebuild doc (edits_at doc edits))
+whole doc edits start made all n what kids r none one come is more finish gives =
+    let first : made ≡ with_nodes no_kids (numbered_nodes (look edits) doc.kids 1) = come ∙ (λ i. with_nodes (none i) (numbered_nodes (look edits) doc.kids (one i))) in
+    let last : all ≡ with_nodes (with_nodes no_kids (numbered_nodes (look edits) doc.kids 1)) (into_document (look edits 0)) =
+    more ∙ (λ i. with_nodes (first i) (into_document (is i))) in
+    let tidy : kids ≡ tidied (edited_document (numbered_nodes (look edits) doc.kids 1) (look edits 0)) =
+    finish ∙ (ap (λ k. (closed k).nodes) last ∙ document_finished (numbered_nodes (look edits) doc.kids 1) (look edits 0)) in
+    let D : Doc → Type 0 = λ d. Gives r (limited_document d) in
+    subst D (sym (edited_by_number doc edits)) (subst (λ kids. Gives r (limited_document (record { kids = kids }))) tidy gives)
 
 pub ruleset variants = (number-Element, number-Text, number-Pi)

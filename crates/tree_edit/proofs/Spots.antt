@@ -1,5 +1,5 @@
 -- Edits in the order of their numbers: what is done at a number, and the edits from a number on.
-use Rattle.std.proofs.Common.{◌≡◌, ℕ, zero, suc, ◌+◌, ◌<◌, ◌≤◌, List, [], ◌∷◌, drop, Option, None, Some, refl, sym, ap, subst, ◌∙◌, arith}
+use Rattle.std.proofs.Common.{◌≡◌, ℕ, zero, suc, ◌+◌, ◌<◌, ◌≤◌, List, [], ◌∷◌, length, get_or, drop, Option, None, Some, refl, sym, ap, subst, ◌∙◌, arith}
 use Rattle.std.specs.Prelude.{if◌then◌else◌}
 use Rattle.std.specs.List.{slice_get}
 use Rattle.std.proofs.lemmas.Bool.{ne_eqb}
@@ -12,13 +12,19 @@ use Rattle.tree_edit.specs.Numbered.{look, RisesFrom, IsAt}
 -- ---- lists
 
 -- from an element that is there on
-drop_some : {A : Type 0} (xs : List A) (i : ℕ) (x : A) → slice_get xs i ≡ Some x → drop i xs ≡ x ∷ drop (i + 1) xs
+pub drop_some : {A : Type 0} (xs : List A) (i : ℕ) (x : A) → slice_get xs i ≡ Some x → drop i xs ≡ x ∷ drop (i + 1) xs
 drop_some [] i x e = absurd (none-some x e)
 drop_some (y ∷ xs) zero x e = ap (λ y. y ∷ xs) (same_Some y x e)
 drop_some (y ∷ xs) (suc i) x e =
     let same : i + 1 + 1 ≡ suc i + 1 = omega arith in
     let one : suc i + 1 ≡ suc (i + 1) = omega arith in
     drop_some xs i x e ∙ ap (λ n. x ∷ drop n (y ∷ xs)) (sym one)
+
+-- what a slice tells of an element that is there
+pub got : {A : Type 0} (xs : List A) (i : ℕ) (x : A) → i < length xs → x ≡ get_or xs i x → slice_get xs i ≡ Some x
+got [] i x less e = absurd (omega arith)
+got (y ∷ xs) zero x less e = ap (λ y. Some y) (sym e)
+got (y ∷ xs) (suc i) x less e = got xs i x (omega arith) e
 
 -- from one that is not there on
 drop_none : {A : Type 0} (xs : List A) (i : ℕ) → slice_get xs i ≡ None → drop i xs ≡ []
