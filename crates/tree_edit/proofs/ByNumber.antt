@@ -55,7 +55,11 @@ module _ (at : ℕ → Option EditKind) where
   unfolding Counted
   size_is n =
       node_has Counted
-      (λ name attrs kids h. ap (λ x. x.size) (fold-Element Numbered (numbered_step at) name attrs kids) ∙ omega (arith, counted_all kids h, count-Element name attrs kids))
+      (λ name attrs kids h. ap (λ x. x.size) (fold-Element Numbered (numbered_step at) name attrs kids) ∙ omega (
+        arith,
+        counted_all kids h,
+        count-Element name attrs kids,
+      ))
       (λ value. ap (λ x. x.size) (fold-Text Numbered (numbered_step at) value) ∙ sym (count-Text value))
       (λ target value. ap (λ x. x.size) (fold-Pi Numbered (numbered_step at) target value) ∙ sym (count-Pi target value)) n
 
@@ -77,7 +81,8 @@ module _ (at : ℕ → Option EditKind) where
   -- ---- the variants
 
   pub number-Element : (name : List ℕ) (attrs : List Attr) (kids : List Node) (n : ℕ)
-      → numbered_node at (Element name attrs kids) n ≡ edited_element name (numbered_attributes at (n + 1) attrs) (numbered_nodes at kids (n + 1 + length attrs)) (at n)
+      → numbered_node at (Element name attrs kids) n ≡ edited_element name (numbered_attributes at (n + 1) attrs) (numbered_nodes at kids (n + 1 +
+      length attrs)) (at n)
   number-Element name attrs kids n = ap (λ x. x.made n) (fold-Element Numbered (numbered_step at) name attrs kids)
 
   pub number-Text : (value : List ℕ) (n : ℕ) → numbered_node at (Text value) n ≡ (numbered_step at (Node-F.Text value)).made n
@@ -125,13 +130,15 @@ module _ (at : ℕ → Option EditKind) where
       ap (λ k. by (steps.Kid k ∷ p)) (sym first) ∙ (h 0 kid refl p w e ∙ ap at start)) in
       let rest = kids_alike by (i + 1) (n + count_node kid) more alike.1 (λ j x e p w s.
       let this : i + 1 + j ≡ i + suc j = omega arith in
-      let that : n + count_of (take (suc j) (kid ∷ more)) + number p (Some (a_node x)) ≡ n + count_node kid + count_of (take j more) + number p (Some (a_node x)) = omega arith in
+      let that : n + count_of (take (suc j) (kid ∷ more)) + number p (Some (a_node x)) ≡ n + count_node kid + count_of (take j more) + number p (Some
+      (a_node x)) = omega arith in
       ap (λ k. by (steps.Kid k ∷ p)) this ∙ (h (suc j) x e p w s ∙ ap at that)) in
       (λ k. one k ++ rest k) ∙ ap (λ size. numbered_node at kid n ++ numbered_nodes at more (n + size)) (sym (size_is at kid))
 
   -- ---- what stands in a tree's root
 
-  attributes_of_root : (from : Placed) (by : EditsIn) (n : ℕ) → Follows by at n from → edited_attributes by 0 (attrs_of from) ≡ numbered_attributes at (n + 1) (attrs_of from)
+  attributes_of_root : (from : Placed) (by : EditsIn) (n : ℕ) → Follows by at n from → edited_attributes by 0 (attrs_of from)
+      ≡ numbered_attributes at (n + 1) (attrs_of from)
   unfolding Follows
   attributes_of_root from by n h =
       attributes_alike by 0 (n + 1) (attrs_of from) (λ j a e.
@@ -146,7 +153,8 @@ module _ (at : ℕ → Option EditKind) where
       kids_alike by 0 (n + 1 + length (attrs_of from)) (kids_of from) alike (λ j kid e p w s.
       let this : 0 + j ≡ j = omega arith in
       let before = length (attrs_of from) + count_of (take j (kids_of from)) in
-      let that : n + (1 + before + number p (Some (a_node kid))) ≡ n + 1 + length (attrs_of from) + count_of (take j (kids_of from)) + number p (Some (a_node kid)) = omega arith in
+      let that : n + (1 + before + number p (Some (a_node kid))) ≡ n + 1 + length (attrs_of from) + count_of (take j (kids_of from)) + number p (Some
+      (a_node kid)) = omega arith in
       ap (λ k. by (steps.Kid k ∷ p)) this
       ∙ (h (steps.Kid j ∷ p) w (ap (λ o. placed_from p (option_map a_node o)) e ∙ s)
       ∙ (ap (λ o. at (n + (1 + before + number p (option_map a_node o)))) e ∙ ap at that)))
@@ -179,7 +187,8 @@ module _ (at : ℕ → Option EditKind) where
       (λ value by n h. ap (λ f. f by) (fold-Text (EditsIn → List Node) edited_step value)
       ∙ (ap (λ what. edited_step (Node-F.Text value) (λ place. what)) (root_itself (a_node (Text value)) by n h) ∙ sym (number-Text at value n)))
       (λ target value by n h. ap (λ f. f by) (fold-Pi (EditsIn → List Node) edited_step target value)
-      ∙ (ap (λ what. edited_step (Node-F.Pi target value) (λ place. what)) (root_itself (a_node (Pi target value)) by n h) ∙ sym (number-Pi at target value n)))
+      ∙ (ap (λ what. edited_step (Node-F.Pi target value) (λ place. what)) (root_itself (a_node (Pi target value)) by n h) ∙ sym (number-Pi at target
+      value n)))
 
   all_alike : (nodes : List Node) → Each Alike nodes
   unfolding Alike
@@ -228,10 +237,12 @@ edited_by_number doc edits =
 
 -- the answer for the nodes of a document and what goes into it is the answer for the document
 pub whole : (doc : Doc) (edits : List Edit) (start made all : Kids) (n : ℕ) (what : Option EditKind) (kids : List Node) (r : Result Doc EditEnd)
-    → start ≡ no_kids → n ≡ 1 → made ≡ with_nodes start (numbered_nodes (look edits) doc.kids n) → what ≡ look edits 0 → all ≡ with_nodes made (into_document what)
+    → start ≡ no_kids → n ≡ 1 → made ≡ with_nodes start (numbered_nodes (look edits) doc.kids n) → what ≡ look edits 0
+    → all ≡ with_nodes made (into_document what)
     → kids ≡ (closed all).nodes → Gives r (limited_document (record { kids = kids })) → Gives r (rebuild doc (edits_at doc edits))
 whole doc edits start made all n what kids r none one come is more finish gives =
-    let first : made ≡ with_nodes no_kids (numbered_nodes (look edits) doc.kids 1) = come ∙ (λ i. with_nodes (none i) (numbered_nodes (look edits) doc.kids (one i))) in
+    let first : made ≡ with_nodes no_kids (numbered_nodes (look edits) doc.kids 1) = come ∙ (λ i. with_nodes (none i) (numbered_nodes (look edits)
+    doc.kids (one i))) in
     let last : all ≡ with_nodes (with_nodes no_kids (numbered_nodes (look edits) doc.kids 1)) (into_document (look edits 0)) =
     more ∙ (λ i. with_nodes (first i) (into_document (is i))) in
     let tidy : kids ≡ tidied (edited_document (numbered_nodes (look edits) doc.kids 1) (look edits 0)) =

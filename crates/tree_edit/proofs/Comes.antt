@@ -80,7 +80,8 @@ finished nodes = comes no_kids nodes
 
 -- ---- what comes
 
-pub with-Element : (k : Kids) (name : List ℕ) (attrs : List Attr) (kids : List Node) → with_node k (Element name attrs kids) ≡ with_other k (Element name attrs kids)
+pub with-Element : (k : Kids) (name : List ℕ) (attrs : List Attr) (kids : List Node) → with_node k (Element name attrs kids)
+    ≡ with_other k (Element name attrs kids)
 with-Element k name attrs kids = ap (λ l. with_layer k l (Element name attrs kids)) (outs-Element name attrs kids)
 
 -- an element whose children have come
@@ -102,9 +103,11 @@ others_last k name attrs nodes others = ap (λ k. with_nodes k others) (one_elem
 
 -- with more of both
 pub one_filled : (k : Kids) (name : List ℕ) (attrs more_attrs : List Attr) (nodes more : List Node)
-    → with_element k name (attrs ++ more_attrs) (with_nodes (with_nodes no_kids nodes) more) ≡ with_nodes k (Element name (attrs ++ more_attrs) (tidied (nodes ++ more)) ∷ [])
+    → with_element k name (attrs ++ more_attrs) (with_nodes (with_nodes no_kids nodes) more)
+    ≡ with_nodes k (Element name (attrs ++ more_attrs) (tidied (nodes ++ more)) ∷ [])
 one_filled k name attrs more_attrs nodes more =
-    ap (λ kids. with_element k name (attrs ++ more_attrs) kids) (sym (with_nodes_append no_kids nodes more)) ∙ one_element k name (attrs ++ more_attrs) (nodes ++ more)
+    ap (λ kids. with_element k name (attrs ++ more_attrs) kids) (sym (with_nodes_append no_kids nodes more)) ∙ one_element k name (attrs ++
+    more_attrs) (nodes ++ more)
 
 -- ---- texts and instructions
 

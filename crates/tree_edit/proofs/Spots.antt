@@ -96,7 +96,8 @@ found_later edits n i e at h apart =
     let first : n ≤ e.at = r.0 in
     let less : n + 1 ≤ e.at = omega (arith, apart) in
     record {
-      is = sym (at.same n (omega arith) ∙ (ap (λ es. look es n) next ∙ (other e (drop (i + 1) edits) n apart ∙ none_before (e.at + 1) n (drop (i + 1) edits) r.1 (omega arith))));
+      is = sym (at.same n (omega arith) ∙ (ap (λ es. look es n) next ∙ (other e (drop (i + 1) edits) n apart ∙ none_before (e.at + 1) n (drop (i + 1)
+          edits) r.1 (omega arith))));
       at = record { rises = subst (RisesFrom (n + 1)) (sym next) (less, r.1); same = λ k h. at.same k (omega arith) };
     }
 
@@ -111,7 +112,8 @@ pub sets_out : (edits : List Edit) (from to next : ℕ) → IsAt edits from next
 sets_out edits from to next at less = record { rises = at.rises; same = λ n h. at.same n (omega arith) }
 
 -- an edit before the other number is gone past
-pub goes_past : (edits : List Edit) (from to i : ℕ) (e : Edit) → IsOnTheWay edits from to i → slice_get edits i ≡ Some e → e.at < to → IsOnTheWay edits from to (i + 1)
+pub goes_past : (edits : List Edit) (from to i : ℕ) (e : Edit) → IsOnTheWay edits from to i → slice_get edits i ≡ Some e → e.at < to
+    → IsOnTheWay edits from to (i + 1)
 goes_past edits from to i e on h less =
     let next : drop i edits ≡ e ∷ drop (i + 1) edits = drop_some edits i e h in
     let r : RisesFrom from (e ∷ drop (i + 1) edits) = subst (RisesFrom from) next on.rises in

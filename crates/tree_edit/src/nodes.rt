@@ -34,7 +34,12 @@ fn push_element(alloc: Global, name: &Str, parts: Parts, out: &mut Kids) -> Resu
 
 // What stands in the place of a text or an instruction comes.
 #[tactic(auto, using(crate::proofs::Comes::with_nodes_append))]
-fn edit_leaf(alloc: Global, node: &Node, what: Option<&EditKind>, out: &mut Kids) -> Result<(), NoMemory>
+fn edit_leaf(
+    alloc: Global,
+    node: &Node,
+    what: Option<&EditKind>,
+    out: &mut Kids,
+) -> Result<(), NoMemory>
     ensures { OnOk result (out.new ≡ spec.with_nodes out.old (edited_leaf node.now (spec.renamed_leaf node.now) (option_copied what.entry))) }
 {
     match what {
@@ -133,10 +138,12 @@ fn edit_element(
             push_element(alloc, name, parts, out)?;
             push_copies(alloc, others, out)
         }
-        Some(EditKind::Into {
-            attrs: more_attrs,
-            kids: more,
-        }) => {
+        Some(
+            EditKind::Into {
+                attrs: more_attrs,
+                kids: more,
+            },
+        ) => {
             let mut parts = edit_parts(alloc, edits, attrs, kids, spot)?;
             push_attrs(more_attrs, &mut parts.attrs)?;
             push_copies(alloc, more, &mut parts.kids)?;
