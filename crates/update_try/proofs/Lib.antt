@@ -2,3 +2,4 @@ pub mod PlaceTotal
 mod UpdateComputing
 mod UpdateRows
 pub mod RebuildValid
+mod LimitRows

@@ -4,7 +4,7 @@ use Rattle.std.specs.Prelude.{◌||◌, if◌then◌else◌, nat_lt}
 use Rattle.std.specs.FinMap as fin_map
 use Rattle.std.specs.List.{slice_get}
 use Rattle.std.specs.Option.{option_map}
-use Rattle.std.proofs.lemmas.Bool.{ltb-false}
+use Rattle.std.proofs.lemmas.Bool.{and_parts, ltb-false}
 use Rattle.std.proofs.lemmas.Option.{none-some}
 use Rattle.xq_ast.specs.Names.{is_name}
 use Rattle.xq_ast.specs.declared.code.Code.{Code}
@@ -19,7 +19,7 @@ use Rattle.xml_model.specs.declared.node.Node.TheVariants.{Element, Text, Pi, ou
 use Rattle.xml_model.specs.declared.place.PlaceStep.{PlaceStep}
 use Rattle.xml_model.specs.declared.place.PlaceStep.TheVariants as steps
 use Rattle.xml_model.specs.Constructors.{text_in, has_name_twice}
-use Rattle.xml_model.specs.Document.{IsValid}
+use Rattle.xml_model.specs.Document.{IsValid, sibling}
 use Rattle.xml_model.specs.Place.{Placed, the_document, a_node, an_attribute, attrs_in, kids_in, attrs_of, kids_of, placed_from}
 use Rattle.xml_model.specs.Trees.{count_of, bytes_of, depth_of, has_attribute}
 use Rattle.xml_model.proofs.Alike.{Each, each_append}
@@ -27,6 +27,7 @@ use Rattle.xml_model.proofs.Formed.{IsFormed, AreFormed, AllFormed, IsApart, Are
 use Rattle.xml_model.proofs.NodeCases.{Each as EachNode, node_has}
 use Rattle.xml_model.proofs.Nodes.{fold-Element, fold-Text, fold-Pi, formed-Element}
 use Rattle.xml_model.proofs.WellFormed.{IsNamed}
+use Rattle.update_try.specs.GoodEdits.{are_named, are_formed_alone, brings_formed, with_more, KeepForm}
 use Rattle.update_try.specs.declared.edit.EditKind.{EditKind}
 use Rattle.update_try.specs.declared.edit.EditKind.TheVariants as edit
 use Rattle.update_try.specs.Rebuild.{Edits, EditsIn, behind, joined_front, text_front, front, tidied, edited_attribute, edited_attributes, edited_element, edited_leaf, edited_kids, edited_step, edited_node, edited_document, edited, limited_document, rebuild}
@@ -110,17 +111,6 @@ IsGood (edit.Rename name) = IsTrue (is_name name)
 
 abbrev pub AreGood : EditsIn → Type 0
 AreGood at = (p : List PlaceStep) → IfSome (at p) IsGood
-
--- the attributes that an element has in the end: those that come go behind the others
-abbrev pub with_more : List Attr → Option EditKind → List Attr
-with_more attrs None = attrs
-with_more attrs (Some (edit.Into more kids)) = attrs ++ more
-with_more attrs (Some (edit.Before kids)) = attrs
-with_more attrs (Some (edit.After kids)) = attrs
-with_more attrs (Some edit.Delete) = attrs
-with_more attrs (Some edit.Undeep) = attrs
-with_more attrs (Some (edit.Put others kids)) = attrs
-with_more attrs (Some (edit.Rename name)) = attrs
 
 -- no element of a tree has two attributes of one name in the end
 abbrev pub NamesOnce : EditsIn → Placed → Type 0
@@ -285,10 +275,40 @@ within doc new formed apart is = depth (nat_lt DEPTH_MAX (depth_of doc.kids)) (n
         }))
 
 -- what is rebuilt is valid
-pub rebuilt_is_valid : (doc new : Doc) (edits : Edits) → IsValid doc → AreGood (fin_map.get edits) → NamesOnce (fin_map.get edits) (the_document doc)
+rebuilt_is_valid : (doc new : Doc) (edits : Edits) → IsValid doc → AreGood (fin_map.get edits) → NamesOnce (fin_map.get edits) (the_document doc)
     → rebuild doc edits ≡ Ok new → IsValid new
 rebuilt_is_valid doc new edits valid good once is =
     let at = fin_map.get edits in
     let formed : AllFormed (edited_document (edited_kids at 0 (map edited_node doc.kids)) (at [])) =
     document_formed _ (at []) (root_kids (the_document doc) at good once (all_stay doc.kids) (valid_has_form doc valid).formed) (good []) in
     within (edited doc at) new (tidied_formed _ formed) (tidied_apart _) is
+
+-- ---- what edits bring, by the tests
+
+-- In `xml_model` the argument is `node_of` of `Formed`.
+module _ (node_of : (n : Node) → IsTrue (sibling n).is_formed → IsFormed n) where
+  all_named : (attrs : List Attr) → IsTrue (are_named attrs) → Each IsNamed attrs
+  all_named [] h = tt
+  all_named (a ∷ attrs) h = let parts = and_parts _ _ h in (parts.0, all_named attrs parts.1)
+
+  all_formed : (kids : List Node) → IsTrue (are_formed_alone kids) → AllFormed kids
+  all_formed [] h = tt
+  all_formed (n ∷ kids) h = let parts = and_parts _ _ h in (node_of n parts.0, all_formed kids parts.1)
+
+  is_good : (what : EditKind) → IsTrue (brings_formed what) → IsGood what
+  is_good (edit.Into attrs kids) h = let parts = and_parts _ _ h in (all_named attrs parts.0, all_formed kids parts.1)
+  is_good (edit.Before kids) h = all_formed kids h
+  is_good (edit.After kids) h = all_formed kids h
+  is_good edit.Delete h = tt
+  is_good edit.Undeep h = tt
+  is_good (edit.Put attrs kids) h = let parts = and_parts _ _ h in (all_named attrs parts.0, all_formed kids parts.1)
+  is_good (edit.Rename name) h = h
+
+  good_at : (o : Option EditKind) → IfSome o (λ what. IsTrue (brings_formed what)) → IfSome o IsGood
+  good_at None h = tt
+  good_at (Some what) h = is_good what h
+
+  -- edits that keep a valid document well-formed leave a valid one, where it keeps to the limits
+  pub stays_valid : (doc new : Doc) (edits : Edits) → IsValid doc → KeepForm doc (fin_map.get edits) → rebuild doc edits ≡ Ok new → IsValid new
+  stays_valid doc new edits valid keep is =
+      rebuilt_is_valid doc new edits valid (λ p. good_at (fin_map.get edits p) (keep.bring p)) keep.once is

@@ -65,8 +65,9 @@ module _ (fold : (A : Type 0) → (Node-F A → A) → Node → A) where
   abbrev pub rebuild_to : Doc → EditsIn → Result Doc Code
   rebuild_to doc at = limited_to (record { kids = tidied (edited_document (edited_kids at 0 (map (fold (EditsIn → List Node) edited_step) doc.kids)) (at [])) })
 
-same_rebuild : (doc : Doc) (es : List (List PlaceStep × EditKind)) → rebuild doc (fin_map.from_entries es) ≡ rebuild_to refold doc (λ place. fin_map.find place_cmp place es)
-same_rebuild doc es = λ i. rebuild_to (same_fold i) doc (λ place. fin_map.get-from_entries place_total es place i)
+-- a document that is rebuilt is what computes
+pub rebuilds : (doc : Doc) (es : List (List PlaceStep × EditKind)) → rebuild doc (fin_map.from_entries es) ≡ rebuild_to refold doc (λ place. fin_map.find place_cmp place es)
+rebuilds doc es = λ i. rebuild_to (same_fold i) doc (λ place. fin_map.get-from_entries place_total es place i)
 
 -- ---- what an update asks for
 
@@ -153,7 +154,7 @@ same_all F (d ∷ ds) =
         → with_entries (rebuilt_there F d o >>? (λ G. rebuilt_all G ds)) ≡ (rebuilt_in (fin_map.entries F) d o >>? (λ gs. rebuilt_list gs ds))
     found None same more = same
     found (Some doc) same more =
-        ap (λ new. with_entries ((new >>? (λ doc. Ok (fin_map.insert F d.name doc))) >>? (λ G. rebuilt_all G ds))) (same_rebuild doc d.edits)
+        ap (λ new. with_entries ((new >>? (λ doc. Ok (fin_map.insert F d.name doc))) >>? (λ G. rebuilt_all G ds))) (rebuilds doc d.edits)
         ∙ made (rebuild_to refold doc (λ place. fin_map.find place_cmp place d.edits)) more
 
 abbrev after_by : Entries → Result (List Change × Made) Code → Result Entries Code

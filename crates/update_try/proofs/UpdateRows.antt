@@ -22,22 +22,28 @@ use Rattle.update_try.proofs.UpdateComputing.{after, updates}
 --     UPDATE insert attribute n{sum(2 to 4)}into doc('e')/r/x/b
 --     e: <r><i k="2"/> 5 <x><b><c id="-3"/><i id="4" n="2" k="3"><x k="9" n="a\tb" a="01"><i/><b/></x></i></b></x></r>
 abbrev attribute_into_documents : Entries
-attribute_into_documents = ((codes "e", doc (Element (codes "r") [] (Element (codes "i") (attr (codes "k") (codes "2") ∷ []) [] ∷ Text (codes " 5 ") ∷
-    Element (codes "x") [] (Element (codes "b") [] (Element (codes "c") (attr (codes "id") (codes "-3") ∷ []) [] ∷ Element (codes "i") (attr (codes
-    "id") (codes "4") ∷ attr (codes "n") (codes "2") ∷ attr (codes "k") (codes "3") ∷ []) (Element (codes "x") (attr (codes "k") (codes "9") ∷ attr
-    (codes "n") (codes "a" ++ (9 ∷ []) ++ codes "b") ∷ attr (codes "a") (codes "01") ∷ []) (Element (codes "i") [] [] ∷ Element (codes "b") [] [] ∷
-    []) ∷ []) ∷ []) ∷ []) ∷ []) ∷ [])) ∷ [])
+attribute_into_documents = ((
+  codes "e",
+  doc (Element (codes "r") [] (Element (codes "i") (attr (codes "k") (codes "2") ∷ []) [] ∷ Text (codes " 5 ") ∷
+      Element (codes "x") [] (Element (codes "b") [] (Element (codes "c") (attr (codes "id") (codes "-3") ∷ []) [] ∷ Element (codes "i") (attr (codes
+      "id") (codes "4") ∷ attr (codes "n") (codes "2") ∷ attr (codes "k") (codes "3") ∷ []) (Element (codes "x") (attr (codes "k") (codes "9") ∷ attr
+      (codes "n") (codes "a" ++ (9 ∷ []) ++ codes "b") ∷ attr (codes "a") (codes "01") ∷ []) (Element (codes "i") [] [] ∷ Element (codes "b") [] [] ∷
+      []) ∷ []) ∷ []) ∷ []) ∷ []) ∷ []),
+) ∷ [])
 
 abbrev attribute_into_update : UpdateCall
 attribute_into_update = update.Into (e.Attribute (codes "n") (Some (e.Fun (codes "sum") ((e.Range (e.Int (pos 2)) (e.Int (pos 4))) ∷ [])))) (e.Path
     (st.Value (e.Doc (codes "e"))) (step ax.Child (te.Name (Some (codes "r"))) [] ∷ step ax.Child (te.Name (Some (codes "x"))) [] ∷ step ax.Child
     (te.Name (Some (codes "b"))) [] ∷ []))
 
-attribute_into : after attribute_into_documents attribute_into_update ≡ Ok ((codes "e", doc (Element (codes "r") [] (Element (codes "i") (attr (codes
-    "k") (codes "2") ∷ []) [] ∷ Text (codes " 5 ") ∷ Element (codes "x") [] (Element (codes "b") (attr (codes "n") (codes "9") ∷ []) (Element (codes
-    "c") (attr (codes "id") (codes "-3") ∷ []) [] ∷ Element (codes "i") (attr (codes "id") (codes "4") ∷ attr (codes "n") (codes "2") ∷ attr (codes
-    "k") (codes "3") ∷ []) (Element (codes "x") (attr (codes "k") (codes "9") ∷ attr (codes "n") (codes "a" ++ (9 ∷ []) ++ codes "b") ∷ attr (codes
-    "a") (codes "01") ∷ []) (Element (codes "i") [] [] ∷ Element (codes "b") [] [] ∷ []) ∷ []) ∷ []) ∷ []) ∷ []) ∷ [])) ∷ [])
+attribute_into : after attribute_into_documents attribute_into_update ≡ Ok ((
+  codes "e",
+  doc (Element (codes "r") [] (Element (codes "i") (attr (codes
+      "k") (codes "2") ∷ []) [] ∷ Text (codes " 5 ") ∷ Element (codes "x") [] (Element (codes "b") (attr (codes "n") (codes "9") ∷ []) (Element (codes
+      "c") (attr (codes "id") (codes "-3") ∷ []) [] ∷ Element (codes "i") (attr (codes "id") (codes "4") ∷ attr (codes "n") (codes "2") ∷ attr (codes
+      "k") (codes "3") ∷ []) (Element (codes "x") (attr (codes "k") (codes "9") ∷ attr (codes "n") (codes "a" ++ (9 ∷ []) ++ codes "b") ∷ attr (codes
+      "a") (codes "01") ∷ []) (Element (codes "i") [] [] ∷ Element (codes "b") [] [] ∷ []) ∷ []) ∷ []) ∷ []) ∷ []) ∷ []),
+) ∷ [])
 unfolding seen
 attribute_into = updates attribute_into_documents tt 9 attribute_into_update refl ∙ refl
 
@@ -46,25 +52,31 @@ attribute_into = updates attribute_into_documents tt 9 attribute_into_update ref
 --     d: <a><x k="😀"><b/><b k="2">three<i n="0" k="9223372036854775808"/>abc<x k="8" n="w">v</x></b></x><i><a><c n="b">aba<c id="a\tb" n="4" k="1
 --        2">8</c></c></a></i></a>
 abbrev element_into_first_documents : Entries
-element_into_first_documents = ((codes "d", doc (Element (codes "a") [] (Element (codes "x") (attr (codes "k") ((240 ∷ 159 ∷ 152 ∷ 128 ∷ [])) ∷ [])
-    (Element (codes "b") [] [] ∷ Element (codes "b") (attr (codes "k") (codes "2") ∷ []) (Text (codes "three") ∷ Element (codes "i") (attr (codes "n")
-    (codes "0") ∷ attr (codes "k") (codes "9223372036854775808") ∷ []) [] ∷ Text (codes "abc") ∷ Element (codes "x") (attr (codes "k") (codes "8") ∷
-    attr (codes "n") (codes "w") ∷ []) (Text (codes "v") ∷ []) ∷ []) ∷ []) ∷ Element (codes "i") [] (Element (codes "a") [] (Element (codes "c") (attr
-    (codes "n") (codes "b") ∷ []) (Text (codes "aba") ∷ Element (codes "c") (attr (codes "id") (codes "a" ++ (9 ∷ []) ++ codes "b") ∷ attr (codes "n")
-    (codes "4") ∷ attr (codes "k") (codes "1 2") ∷ []) (Text (codes "8") ∷ []) ∷ []) ∷ []) ∷ []) ∷ []) ∷ [])) ∷ [])
+element_into_first_documents = ((
+  codes "d",
+  doc (Element (codes "a") [] (Element (codes "x") (attr (codes "k") ((240 ∷ 159 ∷ 152 ∷ 128 ∷ [])) ∷ [])
+      (Element (codes "b") [] [] ∷ Element (codes "b") (attr (codes "k") (codes "2") ∷ []) (Text (codes "three") ∷ Element (codes "i") (attr (codes "n")
+      (codes "0") ∷ attr (codes "k") (codes "9223372036854775808") ∷ []) [] ∷ Text (codes "abc") ∷ Element (codes "x") (attr (codes "k") (codes "8") ∷
+      attr (codes "n") (codes "w") ∷ []) (Text (codes "v") ∷ []) ∷ []) ∷ []) ∷ Element (codes "i") [] (Element (codes "a") [] (Element (codes "c") (attr
+      (codes "n") (codes "b") ∷ []) (Text (codes "aba") ∷ Element (codes "c") (attr (codes "id") (codes "a" ++ (9 ∷ []) ++ codes "b") ∷ attr (codes "n")
+      (codes "4") ∷ attr (codes "k") (codes "1 2") ∷ []) (Text (codes "8") ∷ []) ∷ []) ∷ []) ∷ []) ∷ []) ∷ []),
+) ∷ [])
 
 abbrev element_into_first_update : UpdateCall
 element_into_first_update = update.Into (e.Element (codes "x") (Some (e.Fun (codes "count") ((e.Seq []) ∷ [])))) (e.Filter (e.Path (st.Value (e.Doc
     (codes "d"))) (deep_step ax.Child (te.Name (Some (codes "a"))) [] ∷ step ax.Child (te.Name (Some (codes "x"))) [] ∷ step ax.Child (te.Name None)
     [] ∷ [])) ((e.Int (pos 1)) ∷ []))
 
-element_into_first : after element_into_first_documents element_into_first_update ≡ Ok ((codes "d", doc (Element (codes "a") [] (Element (codes "x")
-    (attr (codes "k") ((240 ∷ 159 ∷ 152 ∷ 128 ∷ [])) ∷ []) (Element (codes "b") [] (Element (codes "x") [] (Text (codes "0") ∷ []) ∷ []) ∷ Element
-    (codes "b") (attr (codes "k") (codes "2") ∷ []) (Text (codes "three") ∷ Element (codes "i") (attr (codes "n") (codes "0") ∷ attr (codes "k")
-    (codes "9223372036854775808") ∷ []) [] ∷ Text (codes "abc") ∷ Element (codes "x") (attr (codes "k") (codes "8") ∷ attr (codes "n") (codes "w") ∷
-    []) (Text (codes "v") ∷ []) ∷ []) ∷ []) ∷ Element (codes "i") [] (Element (codes "a") [] (Element (codes "c") (attr (codes "n") (codes "b") ∷ [])
-    (Text (codes "aba") ∷ Element (codes "c") (attr (codes "id") (codes "a" ++ (9 ∷ []) ++ codes "b") ∷ attr (codes "n") (codes "4") ∷ attr (codes
-    "k") (codes "1 2") ∷ []) (Text (codes "8") ∷ []) ∷ []) ∷ []) ∷ []) ∷ []) ∷ [])) ∷ [])
+element_into_first : after element_into_first_documents element_into_first_update ≡ Ok ((
+  codes "d",
+  doc (Element (codes "a") [] (Element (codes "x")
+      (attr (codes "k") ((240 ∷ 159 ∷ 152 ∷ 128 ∷ [])) ∷ []) (Element (codes "b") [] (Element (codes "x") [] (Text (codes "0") ∷ []) ∷ []) ∷ Element
+      (codes "b") (attr (codes "k") (codes "2") ∷ []) (Text (codes "three") ∷ Element (codes "i") (attr (codes "n") (codes "0") ∷ attr (codes "k")
+      (codes "9223372036854775808") ∷ []) [] ∷ Text (codes "abc") ∷ Element (codes "x") (attr (codes "k") (codes "8") ∷ attr (codes "n") (codes "w") ∷
+      []) (Text (codes "v") ∷ []) ∷ []) ∷ []) ∷ Element (codes "i") [] (Element (codes "a") [] (Element (codes "c") (attr (codes "n") (codes "b") ∷ [])
+      (Text (codes "aba") ∷ Element (codes "c") (attr (codes "id") (codes "a" ++ (9 ∷ []) ++ codes "b") ∷ attr (codes "n") (codes "4") ∷ attr (codes
+      "k") (codes "1 2") ∷ []) (Text (codes "8") ∷ []) ∷ []) ∷ []) ∷ []) ∷ []) ∷ []),
+) ∷ [])
 unfolding seen
 element_into_first = updates element_into_first_documents tt 9 element_into_first_update refl ∙ refl
 
@@ -72,16 +84,22 @@ element_into_first = updates element_into_first_documents tt 9 element_into_firs
 --     UPDATE insert element note { 'rush' } into doc('orders')/order
 --     orders: <order id="7"><?print draft?><item sku="A1"/></order>
 abbrev note_into_order_documents : Entries
-note_into_order_documents = ((codes "orders", doc (Element (codes "order") (attr (codes "id") (codes "7") ∷ []) (Pi (codes "print") (codes "draft") ∷
-    Element (codes "item") (attr (codes "sku") (codes "A1") ∷ []) [] ∷ []) ∷ [])) ∷ [])
+note_into_order_documents = ((
+  codes "orders",
+  doc (Element (codes "order") (attr (codes "id") (codes "7") ∷ []) (Pi (codes "print") (codes "draft") ∷
+      Element (codes "item") (attr (codes "sku") (codes "A1") ∷ []) [] ∷ []) ∷ []),
+) ∷ [])
 
 abbrev note_into_order_update : UpdateCall
 note_into_order_update = update.Into (e.Element (codes "note") (Some (e.Text (codes "rush")))) (e.Path (st.Value (e.Doc (codes "orders"))) (step
     ax.Child (te.Name (Some (codes "order"))) [] ∷ []))
 
-note_into_order : after note_into_order_documents note_into_order_update ≡ Ok ((codes "orders", doc (Element (codes "order") (attr (codes "id") (codes
-    "7") ∷ []) (Pi (codes "print") (codes "draft") ∷ Element (codes "item") (attr (codes "sku") (codes "A1") ∷ []) [] ∷ Element (codes "note") []
-    (Text (codes "rush") ∷ []) ∷ []) ∷ [])) ∷ [])
+note_into_order : after note_into_order_documents note_into_order_update ≡ Ok ((
+  codes "orders",
+  doc (Element (codes "order") (attr (codes "id") (codes
+      "7") ∷ []) (Pi (codes "print") (codes "draft") ∷ Element (codes "item") (attr (codes "sku") (codes "A1") ∷ []) [] ∷ Element (codes "note") []
+      (Text (codes "rush") ∷ []) ∷ []) ∷ []),
+) ∷ [])
 unfolding seen
 note_into_order = updates note_into_order_documents tt 9 note_into_order_update refl ∙ refl
 
@@ -94,8 +112,11 @@ into_document_documents = ((codes "d", doc (Element (codes "a") [] [] ∷ Text (
 abbrev into_document_update : UpdateCall
 into_document_update = update.Into (e.Seq ((e.Text (codes "p")) ∷ (e.Element (codes "b") None) ∷ [])) (e.Doc (codes "d"))
 
-into_document : after into_document_documents into_document_update ≡ Ok ((codes "d", doc (Element (codes "a") [] [] ∷ Text (codes "qp") ∷ Element
-    (codes "b") [] [] ∷ [])) ∷ [])
+into_document : after into_document_documents into_document_update ≡ Ok ((
+  codes "d",
+  doc (Element (codes "a") [] [] ∷ Text (codes "qp") ∷ Element
+      (codes "b") [] [] ∷ []),
+) ∷ [])
 unfolding seen
 into_document = updates into_document_documents tt 9 into_document_update refl ∙ refl
 
@@ -184,15 +205,21 @@ source_before_target = updates [] tt 9 source_before_target_update refl ∙ refl
 --     UPDATE insert 3 preceding doc('e')/r
 --     e: <r><b id="9" n="b" k="6">1 2</b>6</r>
 abbrev text_preceding_documents : Entries
-text_preceding_documents = ((codes "e", doc (Element (codes "r") [] (Element (codes "b") (attr (codes "id") (codes "9") ∷ attr (codes "n") (codes "b")
-    ∷ attr (codes "k") (codes "6") ∷ []) (Text (codes "1 2") ∷ []) ∷ Text (codes "6") ∷ []) ∷ [])) ∷ [])
+text_preceding_documents = ((
+  codes "e",
+  doc (Element (codes "r") [] (Element (codes "b") (attr (codes "id") (codes "9") ∷ attr (codes "n") (codes "b")
+      ∷ attr (codes "k") (codes "6") ∷ []) (Text (codes "1 2") ∷ []) ∷ Text (codes "6") ∷ []) ∷ []),
+) ∷ [])
 
 abbrev text_preceding_update : UpdateCall
 text_preceding_update = update.Preceding (e.Int (pos 3)) (e.Path (st.Value (e.Doc (codes "e"))) (step ax.Child (te.Name (Some (codes "r"))) [] ∷ []))
 
-text_preceding : after text_preceding_documents text_preceding_update ≡ Ok ((codes "e", doc (Text (codes "3") ∷ Element (codes "r") [] (Element (codes
-    "b") (attr (codes "id") (codes "9") ∷ attr (codes "n") (codes "b") ∷ attr (codes "k") (codes "6") ∷ []) (Text (codes "1 2") ∷ []) ∷ Text (codes
-    "6") ∷ []) ∷ [])) ∷ [])
+text_preceding : after text_preceding_documents text_preceding_update ≡ Ok ((
+  codes "e",
+  doc (Text (codes "3") ∷ Element (codes "r") [] (Element (codes
+      "b") (attr (codes "id") (codes "9") ∷ attr (codes "n") (codes "b") ∷ attr (codes "k") (codes "6") ∷ []) (Text (codes "1 2") ∷ []) ∷ Text (codes
+      "6") ∷ []) ∷ []),
+) ∷ [])
 unfolding seen
 text_preceding = updates text_preceding_documents tt 9 text_preceding_update refl ∙ refl
 
@@ -200,20 +227,26 @@ text_preceding = updates text_preceding_documents tt 9 text_preceding_update ref
 --     UPDATE insert element i{}preceding doc('d')//node()
 --     d: <r>ab<b id="abc" n="-9223372036854775808" x="false">01</b><a id="1" x="8" n="1 2"/>abc<?q abc?></r>
 abbrev element_preceding_each_documents : Entries
-element_preceding_each_documents = ((codes "d", doc (Element (codes "r") [] (Text (codes "ab") ∷ Element (codes "b") (attr (codes "id") (codes "abc")
-    ∷ attr (codes "n") (codes "-9223372036854775808") ∷ attr (codes "x") (codes "false") ∷ []) (Text (codes "01") ∷ []) ∷ Element (codes "a") (attr
-    (codes "id") (codes "1") ∷ attr (codes "x") (codes "8") ∷ attr (codes "n") (codes "1 2") ∷ []) [] ∷ Text (codes "abc") ∷ Pi (codes "q") (codes
-    "abc") ∷ []) ∷ [])) ∷ [])
+element_preceding_each_documents = ((
+  codes "d",
+  doc (Element (codes "r") [] (Text (codes "ab") ∷ Element (codes "b") (attr (codes "id") (codes "abc")
+      ∷ attr (codes "n") (codes "-9223372036854775808") ∷ attr (codes "x") (codes "false") ∷ []) (Text (codes "01") ∷ []) ∷ Element (codes "a") (attr
+      (codes "id") (codes "1") ∷ attr (codes "x") (codes "8") ∷ attr (codes "n") (codes "1 2") ∷ []) [] ∷ Text (codes "abc") ∷ Pi (codes "q") (codes
+      "abc") ∷ []) ∷ []),
+) ∷ [])
 
 abbrev element_preceding_each_update : UpdateCall
 element_preceding_each_update = update.Preceding (e.Element (codes "i") None) (e.Path (st.Value (e.Doc (codes "d"))) (deep_step ax.Child te.AnyNode []
     ∷ []))
 
-element_preceding_each : after element_preceding_each_documents element_preceding_each_update ≡ Ok ((codes "d", doc (Element (codes "i") [] [] ∷
-    Element (codes "r") [] (Element (codes "i") [] [] ∷ Text (codes "ab") ∷ Element (codes "i") [] [] ∷ Element (codes "b") (attr (codes "id") (codes
-    "abc") ∷ attr (codes "n") (codes "-9223372036854775808") ∷ attr (codes "x") (codes "false") ∷ []) (Element (codes "i") [] [] ∷ Text (codes "01") ∷
-    []) ∷ Element (codes "i") [] [] ∷ Element (codes "a") (attr (codes "id") (codes "1") ∷ attr (codes "x") (codes "8") ∷ attr (codes "n") (codes
-    "1 2") ∷ []) [] ∷ Element (codes "i") [] [] ∷ Text (codes "abc") ∷ Element (codes "i") [] [] ∷ Pi (codes "q") (codes "abc") ∷ []) ∷ [])) ∷ [])
+element_preceding_each : after element_preceding_each_documents element_preceding_each_update ≡ Ok ((
+  codes "d",
+  doc (Element (codes "i") [] [] ∷
+      Element (codes "r") [] (Element (codes "i") [] [] ∷ Text (codes "ab") ∷ Element (codes "i") [] [] ∷ Element (codes "b") (attr (codes "id") (codes
+      "abc") ∷ attr (codes "n") (codes "-9223372036854775808") ∷ attr (codes "x") (codes "false") ∷ []) (Element (codes "i") [] [] ∷ Text (codes "01") ∷
+      []) ∷ Element (codes "i") [] [] ∷ Element (codes "a") (attr (codes "id") (codes "1") ∷ attr (codes "x") (codes "8") ∷ attr (codes "n") (codes
+      "1 2") ∷ []) [] ∷ Element (codes "i") [] [] ∷ Text (codes "abc") ∷ Element (codes "i") [] [] ∷ Pi (codes "q") (codes "abc") ∷ []) ∷ []),
+) ∷ [])
 unfolding seen
 element_preceding_each = updates element_preceding_each_documents tt 9 element_preceding_each_update refl ∙ refl
 
@@ -227,8 +260,11 @@ abbrev text_following_update : UpdateCall
 text_following_update = update.Following (e.Seq ((e.Text (codes "u")) ∷ (e.Int (pos 2)) ∷ [])) (e.Path (st.Value (e.Doc (codes "e"))) (deep_step
     ax.Child te.AnyNode ((e.Compare (e.Fun (codes "position") []) Ne (e.Int (pos 3))) ∷ []) ∷ []))
 
-text_following : after text_following_documents text_following_update ≡ Ok ((codes "e", doc (Text (codes "uu 2") ∷ Element (codes "i") [] [] ∷ Text
-    (codes "u 2") ∷ [])) ∷ [])
+text_following : after text_following_documents text_following_update ≡ Ok ((
+  codes "e",
+  doc (Text (codes "uu 2") ∷ Element (codes "i") [] [] ∷ Text
+      (codes "u 2") ∷ []),
+) ∷ [])
 unfolding seen
 text_following = updates text_following_documents tt 9 text_following_update refl ∙ refl
 
@@ -236,23 +272,29 @@ text_following = updates text_following_documents tt 9 text_following_update ref
 --     UPDATE insert element i{attribute id{concat(8, 3, '10')}, ()}following doc('e')/i//a
 --     e: <i k="7" n="3" id="abc">1<i id="3" k="6"><a k="11" n="three"/>9223372036854775807<?p 6?><b k="01"/><b k="&#160;7" id="3"/></i></i>10
 abbrev element_following_documents : Entries
-element_following_documents = ((codes "e", doc (Element (codes "i") (attr (codes "k") (codes "7") ∷ attr (codes "n") (codes "3") ∷ attr (codes "id")
-    (codes "abc") ∷ []) (Text (codes "1") ∷ Element (codes "i") (attr (codes "id") (codes "3") ∷ attr (codes "k") (codes "6") ∷ []) (Element (codes
-    "a") (attr (codes "k") (codes "11") ∷ attr (codes "n") (codes "three") ∷ []) [] ∷ Text (codes "9223372036854775807") ∷ Pi (codes "p") (codes "6")
-    ∷ Element (codes "b") (attr (codes "k") (codes "01") ∷ []) [] ∷ Element (codes "b") (attr (codes "k") ((194 ∷ 160 ∷ []) ++ codes "7") ∷ attr
-    (codes "id") (codes "3") ∷ []) [] ∷ []) ∷ []) ∷ Text (codes "10") ∷ [])) ∷ [])
+element_following_documents = ((
+  codes "e",
+  doc (Element (codes "i") (attr (codes "k") (codes "7") ∷ attr (codes "n") (codes "3") ∷ attr (codes "id")
+      (codes "abc") ∷ []) (Text (codes "1") ∷ Element (codes "i") (attr (codes "id") (codes "3") ∷ attr (codes "k") (codes "6") ∷ []) (Element (codes
+      "a") (attr (codes "k") (codes "11") ∷ attr (codes "n") (codes "three") ∷ []) [] ∷ Text (codes "9223372036854775807") ∷ Pi (codes "p") (codes "6")
+      ∷ Element (codes "b") (attr (codes "k") (codes "01") ∷ []) [] ∷ Element (codes "b") (attr (codes "k") ((194 ∷ 160 ∷ []) ++ codes "7") ∷ attr
+      (codes "id") (codes "3") ∷ []) [] ∷ []) ∷ []) ∷ Text (codes "10") ∷ []),
+) ∷ [])
 
 abbrev element_following_update : UpdateCall
 element_following_update = update.Following (e.Element (codes "i") (Some (e.Seq ((e.Attribute (codes "id") (Some (e.Fun (codes "concat") ((e.Int (pos
     8)) ∷ (e.Int (pos 3)) ∷ (e.Text (codes "10")) ∷ [])))) ∷ (e.Seq []) ∷ [])))) (e.Path (st.Value (e.Doc (codes "e"))) (step ax.Child (te.Name (Some
     (codes "i"))) [] ∷ deep_step ax.Child (te.Name (Some (codes "a"))) [] ∷ []))
 
-element_following : after element_following_documents element_following_update ≡ Ok ((codes "e", doc (Element (codes "i") (attr (codes "k") (codes
-    "7") ∷ attr (codes "n") (codes "3") ∷ attr (codes "id") (codes "abc") ∷ []) (Text (codes "1") ∷ Element (codes "i") (attr (codes "id") (codes "3")
-    ∷ attr (codes "k") (codes "6") ∷ []) (Element (codes "a") (attr (codes "k") (codes "11") ∷ attr (codes "n") (codes "three") ∷ []) [] ∷ Element
-    (codes "i") (attr (codes "id") (codes "8310") ∷ []) [] ∷ Text (codes "9223372036854775807") ∷ Pi (codes "p") (codes "6") ∷ Element (codes "b")
-    (attr (codes "k") (codes "01") ∷ []) [] ∷ Element (codes "b") (attr (codes "k") ((194 ∷ 160 ∷ []) ++ codes "7") ∷ attr (codes "id") (codes "3") ∷
-    []) [] ∷ []) ∷ []) ∷ Text (codes "10") ∷ [])) ∷ [])
+element_following : after element_following_documents element_following_update ≡ Ok ((
+  codes "e",
+  doc (Element (codes "i") (attr (codes "k") (codes
+      "7") ∷ attr (codes "n") (codes "3") ∷ attr (codes "id") (codes "abc") ∷ []) (Text (codes "1") ∷ Element (codes "i") (attr (codes "id") (codes "3")
+      ∷ attr (codes "k") (codes "6") ∷ []) (Element (codes "a") (attr (codes "k") (codes "11") ∷ attr (codes "n") (codes "three") ∷ []) [] ∷ Element
+      (codes "i") (attr (codes "id") (codes "8310") ∷ []) [] ∷ Text (codes "9223372036854775807") ∷ Pi (codes "p") (codes "6") ∷ Element (codes "b")
+      (attr (codes "k") (codes "01") ∷ []) [] ∷ Element (codes "b") (attr (codes "k") ((194 ∷ 160 ∷ []) ++ codes "7") ∷ attr (codes "id") (codes "3") ∷
+      []) [] ∷ []) ∷ []) ∷ Text (codes "10") ∷ []),
+) ∷ [])
 unfolding seen
 element_following = updates element_following_documents tt 9 element_following_update refl ∙ refl
 
@@ -266,8 +308,11 @@ abbrev several_in_order_update : UpdateCall
 several_in_order_update = update.Preceding (e.Seq ((e.Element (codes "x") None) ∷ (e.Element (codes "y") None) ∷ [])) (e.Path (st.Value (e.Doc (codes
     "d"))) (step ax.Child (te.Name (Some (codes "a"))) [] ∷ []))
 
-several_in_order : after several_in_order_documents several_in_order_update ≡ Ok ((codes "d", doc (Element (codes "x") [] [] ∷ Element (codes "y") []
-    [] ∷ Element (codes "a") [] [] ∷ [])) ∷ [])
+several_in_order : after several_in_order_documents several_in_order_update ≡ Ok ((
+  codes "d",
+  doc (Element (codes "x") [] [] ∷ Element (codes "y") []
+      [] ∷ Element (codes "a") [] [] ∷ []),
+) ∷ [])
 unfolding seen
 several_in_order = updates several_in_order_documents tt 9 several_in_order_update refl ∙ refl
 
@@ -318,14 +363,20 @@ beside_attribute = updates beside_attribute_documents tt 9 beside_attribute_upda
 --     UPDATE delete doc('e')//text()
 --     e: 3<r><b id="9" n="b" k="6">1 2</b>6</r>
 abbrev texts_deleted_documents : Entries
-texts_deleted_documents = ((codes "e", doc (Text (codes "3") ∷ Element (codes "r") [] (Element (codes "b") (attr (codes "id") (codes "9") ∷ attr
-    (codes "n") (codes "b") ∷ attr (codes "k") (codes "6") ∷ []) (Text (codes "1 2") ∷ []) ∷ Text (codes "6") ∷ []) ∷ [])) ∷ [])
+texts_deleted_documents = ((
+  codes "e",
+  doc (Text (codes "3") ∷ Element (codes "r") [] (Element (codes "b") (attr (codes "id") (codes "9") ∷ attr
+      (codes "n") (codes "b") ∷ attr (codes "k") (codes "6") ∷ []) (Text (codes "1 2") ∷ []) ∷ Text (codes "6") ∷ []) ∷ []),
+) ∷ [])
 
 abbrev texts_deleted_update : UpdateCall
 texts_deleted_update = update.Delete (e.Path (st.Value (e.Doc (codes "e"))) (deep_step ax.Child te.Text [] ∷ []))
 
-texts_deleted : after texts_deleted_documents texts_deleted_update ≡ Ok ((codes "e", doc (Element (codes "r") [] (Element (codes "b") (attr (codes
-    "id") (codes "9") ∷ attr (codes "n") (codes "b") ∷ attr (codes "k") (codes "6") ∷ []) [] ∷ []) ∷ [])) ∷ [])
+texts_deleted : after texts_deleted_documents texts_deleted_update ≡ Ok ((
+  codes "e",
+  doc (Element (codes "r") [] (Element (codes "b") (attr (codes
+      "id") (codes "9") ∷ attr (codes "n") (codes "b") ∷ attr (codes "k") (codes "6") ∷ []) [] ∷ []) ∷ []),
+) ∷ [])
 unfolding seen
 texts_deleted = updates texts_deleted_documents tt 9 texts_deleted_update refl ∙ refl
 
@@ -333,18 +384,24 @@ texts_deleted = updates texts_deleted_documents tt 9 texts_deleted_update refl �
 --     UPDATE delete doc('d')//@id
 --     d: <r><a n="3" id="4" k="e\f"/><c n="ab" k="9"/>ab<i id="v" k="1" n="w">2<b>true5</b></i></r>
 abbrev attributes_deleted_documents : Entries
-attributes_deleted_documents = ((codes "d", doc (Element (codes "r") [] (Element (codes "a") (attr (codes "n") (codes "3") ∷ attr (codes "id") (codes
-    "4") ∷ attr (codes "k") (codes "e" ++ (92 ∷ []) ++ codes "f") ∷ []) [] ∷ Element (codes "c") (attr (codes "n") (codes "ab") ∷ attr (codes "k")
-    (codes "9") ∷ []) [] ∷ Text (codes "ab") ∷ Element (codes "i") (attr (codes "id") (codes "v") ∷ attr (codes "k") (codes "1") ∷ attr (codes "n")
-    (codes "w") ∷ []) (Text (codes "2") ∷ Element (codes "b") [] (Text (codes "true5") ∷ []) ∷ []) ∷ []) ∷ [])) ∷ [])
+attributes_deleted_documents = ((
+  codes "d",
+  doc (Element (codes "r") [] (Element (codes "a") (attr (codes "n") (codes "3") ∷ attr (codes "id") (codes
+      "4") ∷ attr (codes "k") (codes "e" ++ (92 ∷ []) ++ codes "f") ∷ []) [] ∷ Element (codes "c") (attr (codes "n") (codes "ab") ∷ attr (codes "k")
+      (codes "9") ∷ []) [] ∷ Text (codes "ab") ∷ Element (codes "i") (attr (codes "id") (codes "v") ∷ attr (codes "k") (codes "1") ∷ attr (codes "n")
+      (codes "w") ∷ []) (Text (codes "2") ∷ Element (codes "b") [] (Text (codes "true5") ∷ []) ∷ []) ∷ []) ∷ []),
+) ∷ [])
 
 abbrev attributes_deleted_update : UpdateCall
 attributes_deleted_update = update.Delete (e.Path (st.Value (e.Doc (codes "d"))) (deep_step ax.Attribute (te.Name (Some (codes "id"))) [] ∷ []))
 
-attributes_deleted : after attributes_deleted_documents attributes_deleted_update ≡ Ok ((codes "d", doc (Element (codes "r") [] (Element (codes "a")
-    (attr (codes "n") (codes "3") ∷ attr (codes "k") (codes "e" ++ (92 ∷ []) ++ codes "f") ∷ []) [] ∷ Element (codes "c") (attr (codes "n") (codes
-    "ab") ∷ attr (codes "k") (codes "9") ∷ []) [] ∷ Text (codes "ab") ∷ Element (codes "i") (attr (codes "k") (codes "1") ∷ attr (codes "n") (codes
-    "w") ∷ []) (Text (codes "2") ∷ Element (codes "b") [] (Text (codes "true5") ∷ []) ∷ []) ∷ []) ∷ [])) ∷ [])
+attributes_deleted : after attributes_deleted_documents attributes_deleted_update ≡ Ok ((
+  codes "d",
+  doc (Element (codes "r") [] (Element (codes "a")
+      (attr (codes "n") (codes "3") ∷ attr (codes "k") (codes "e" ++ (92 ∷ []) ++ codes "f") ∷ []) [] ∷ Element (codes "c") (attr (codes "n") (codes
+      "ab") ∷ attr (codes "k") (codes "9") ∷ []) [] ∷ Text (codes "ab") ∷ Element (codes "i") (attr (codes "k") (codes "1") ∷ attr (codes "n") (codes
+      "w") ∷ []) (Text (codes "2") ∷ Element (codes "b") [] (Text (codes "true5") ∷ []) ∷ []) ∷ []) ∷ []),
+) ∷ [])
 unfolding seen
 attributes_deleted = updates attributes_deleted_documents tt 9 attributes_deleted_update refl ∙ refl
 
@@ -352,8 +409,11 @@ attributes_deleted = updates attributes_deleted_documents tt 9 attributes_delete
 --     UPDATE delete doc('d')//b
 --     d: <a><b><b>x</b></b></a>
 abbrev nested_targets_documents : Entries
-nested_targets_documents = ((codes "d", doc (Element (codes "a") [] (Element (codes "b") [] (Element (codes "b") [] (Text (codes "x") ∷ []) ∷ []) ∷
-    []) ∷ [])) ∷ [])
+nested_targets_documents = ((
+  codes "d",
+  doc (Element (codes "a") [] (Element (codes "b") [] (Element (codes "b") [] (Text (codes "x") ∷ []) ∷ []) ∷
+      []) ∷ []),
+) ∷ [])
 
 abbrev nested_targets_update : UpdateCall
 nested_targets_update = update.Delete (e.Path (st.Value (e.Doc (codes "d"))) (deep_step ax.Child (te.Name (Some (codes "b"))) [] ∷ []))
@@ -373,8 +433,11 @@ abbrev neighbours_joined_update : UpdateCall
 neighbours_joined_update = update.Delete (e.Path (st.Value (e.Doc (codes "d"))) (step ax.Child (te.Name (Some (codes "a"))) [] ∷ step ax.Child
     (te.Name (Some (codes "b"))) [] ∷ []))
 
-neighbours_joined : after neighbours_joined_documents neighbours_joined_update ≡ Ok ((codes "d", doc (Element (codes "a") [] (Text (codes "xy") ∷ [])
-    ∷ [])) ∷ [])
+neighbours_joined : after neighbours_joined_documents neighbours_joined_update ≡ Ok ((
+  codes "d",
+  doc (Element (codes "a") [] (Text (codes "xy") ∷ [])
+      ∷ []),
+) ∷ [])
 unfolding seen
 neighbours_joined = updates neighbours_joined_documents tt 9 neighbours_joined_update refl ∙ refl
 
@@ -414,21 +477,27 @@ undeep_two_roots = updates undeep_two_roots_documents tt 9 undeep_two_roots_upda
 --     e: <i k="7" n="3" id="abc">1<i id="3" k="6"><a k="11" n="three"/><i id="8310"/>9223372036854775807<?p 6?><b k="01"/><b k="&#160;7"
 --        id="3"/></i></i>10
 abbrev undeep_below_documents : Entries
-undeep_below_documents = ((codes "e", doc (Element (codes "i") (attr (codes "k") (codes "7") ∷ attr (codes "n") (codes "3") ∷ attr (codes "id") (codes
-    "abc") ∷ []) (Text (codes "1") ∷ Element (codes "i") (attr (codes "id") (codes "3") ∷ attr (codes "k") (codes "6") ∷ []) (Element (codes "a")
-    (attr (codes "k") (codes "11") ∷ attr (codes "n") (codes "three") ∷ []) [] ∷ Element (codes "i") (attr (codes "id") (codes "8310") ∷ []) [] ∷ Text
-    (codes "9223372036854775807") ∷ Pi (codes "p") (codes "6") ∷ Element (codes "b") (attr (codes "k") (codes "01") ∷ []) [] ∷ Element (codes "b")
-    (attr (codes "k") ((194 ∷ 160 ∷ []) ++ codes "7") ∷ attr (codes "id") (codes "3") ∷ []) [] ∷ []) ∷ []) ∷ Text (codes "10") ∷ [])) ∷ [])
+undeep_below_documents = ((
+  codes "e",
+  doc (Element (codes "i") (attr (codes "k") (codes "7") ∷ attr (codes "n") (codes "3") ∷ attr (codes "id") (codes
+      "abc") ∷ []) (Text (codes "1") ∷ Element (codes "i") (attr (codes "id") (codes "3") ∷ attr (codes "k") (codes "6") ∷ []) (Element (codes "a")
+      (attr (codes "k") (codes "11") ∷ attr (codes "n") (codes "three") ∷ []) [] ∷ Element (codes "i") (attr (codes "id") (codes "8310") ∷ []) [] ∷ Text
+      (codes "9223372036854775807") ∷ Pi (codes "p") (codes "6") ∷ Element (codes "b") (attr (codes "k") (codes "01") ∷ []) [] ∷ Element (codes "b")
+      (attr (codes "k") ((194 ∷ 160 ∷ []) ++ codes "7") ∷ attr (codes "id") (codes "3") ∷ []) [] ∷ []) ∷ []) ∷ Text (codes "10") ∷ []),
+) ∷ [])
 
 abbrev undeep_below_update : UpdateCall
 undeep_below_update = update.DeleteUndeep (e.Path (st.Value (e.Doc (codes "e"))) (deep_step ax.Child (te.Name (Some (codes "i"))) [] ∷ step ax.Child
     (te.Name (Some (codes "a"))) [] ∷ []))
 
-undeep_below : after undeep_below_documents undeep_below_update ≡ Ok ((codes "e", doc (Element (codes "i") (attr (codes "k") (codes "7") ∷ attr (codes
-    "n") (codes "3") ∷ attr (codes "id") (codes "abc") ∷ []) (Text (codes "1") ∷ Element (codes "i") (attr (codes "id") (codes "3") ∷ attr (codes "k")
-    (codes "6") ∷ []) (Element (codes "i") (attr (codes "id") (codes "8310") ∷ []) [] ∷ Text (codes "9223372036854775807") ∷ Pi (codes "p") (codes
-    "6") ∷ Element (codes "b") (attr (codes "k") (codes "01") ∷ []) [] ∷ Element (codes "b") (attr (codes "k") ((194 ∷ 160 ∷ []) ++ codes "7") ∷ attr
-    (codes "id") (codes "3") ∷ []) [] ∷ []) ∷ []) ∷ Text (codes "10") ∷ [])) ∷ [])
+undeep_below : after undeep_below_documents undeep_below_update ≡ Ok ((
+  codes "e",
+  doc (Element (codes "i") (attr (codes "k") (codes "7") ∷ attr (codes
+      "n") (codes "3") ∷ attr (codes "id") (codes "abc") ∷ []) (Text (codes "1") ∷ Element (codes "i") (attr (codes "id") (codes "3") ∷ attr (codes "k")
+      (codes "6") ∷ []) (Element (codes "i") (attr (codes "id") (codes "8310") ∷ []) [] ∷ Text (codes "9223372036854775807") ∷ Pi (codes "p") (codes
+      "6") ∷ Element (codes "b") (attr (codes "k") (codes "01") ∷ []) [] ∷ Element (codes "b") (attr (codes "k") ((194 ∷ 160 ∷ []) ++ codes "7") ∷ attr
+      (codes "id") (codes "3") ∷ []) [] ∷ []) ∷ []) ∷ Text (codes "10") ∷ []),
+) ∷ [])
 unfolding seen
 undeep_below = updates undeep_below_documents tt 9 undeep_below_update refl ∙ refl
 
@@ -436,14 +505,20 @@ undeep_below = updates undeep_below_documents tt 9 undeep_below_update refl ∙ 
 --     UPDATE delete_undeep doc('d')//b
 --     d: <a>x<b>y</b>z</a>
 abbrev undeep_joins_texts_documents : Entries
-undeep_joins_texts_documents = ((codes "d", doc (Element (codes "a") [] (Text (codes "x") ∷ Element (codes "b") [] (Text (codes "y") ∷ []) ∷ Text
-    (codes "z") ∷ []) ∷ [])) ∷ [])
+undeep_joins_texts_documents = ((
+  codes "d",
+  doc (Element (codes "a") [] (Text (codes "x") ∷ Element (codes "b") [] (Text (codes "y") ∷ []) ∷ Text
+      (codes "z") ∷ []) ∷ []),
+) ∷ [])
 
 abbrev undeep_joins_texts_update : UpdateCall
 undeep_joins_texts_update = update.DeleteUndeep (e.Path (st.Value (e.Doc (codes "d"))) (deep_step ax.Child (te.Name (Some (codes "b"))) [] ∷ []))
 
-undeep_joins_texts : after undeep_joins_texts_documents undeep_joins_texts_update ≡ Ok ((codes "d", doc (Element (codes "a") [] (Text (codes "xyz") ∷
-    []) ∷ [])) ∷ [])
+undeep_joins_texts : after undeep_joins_texts_documents undeep_joins_texts_update ≡ Ok ((
+  codes "d",
+  doc (Element (codes "a") [] (Text (codes "xyz") ∷
+      []) ∷ []),
+) ∷ [])
 unfolding seen
 undeep_joins_texts = updates undeep_joins_texts_documents tt 9 undeep_joins_texts_update refl ∙ refl
 
@@ -451,15 +526,21 @@ undeep_joins_texts = updates undeep_joins_texts_documents tt 9 undeep_joins_text
 --     UPDATE delete_undeep doc('d')/a/node()[position() > 1]
 --     d: <a>x<b>y</b>z</a>
 abbrev joined_only_then_documents : Entries
-joined_only_then_documents = ((codes "d", doc (Element (codes "a") [] (Text (codes "x") ∷ Element (codes "b") [] (Text (codes "y") ∷ []) ∷ Text (codes
-    "z") ∷ []) ∷ [])) ∷ [])
+joined_only_then_documents = ((
+  codes "d",
+  doc (Element (codes "a") [] (Text (codes "x") ∷ Element (codes "b") [] (Text (codes "y") ∷ []) ∷ Text (codes
+      "z") ∷ []) ∷ []),
+) ∷ [])
 
 abbrev joined_only_then_update : UpdateCall
 joined_only_then_update = update.DeleteUndeep (e.Path (st.Value (e.Doc (codes "d"))) (step ax.Child (te.Name (Some (codes "a"))) [] ∷ step ax.Child
     te.AnyNode ((e.Compare (e.Fun (codes "position") []) Gt (e.Int (pos 1))) ∷ []) ∷ []))
 
-joined_only_then : after joined_only_then_documents joined_only_then_update ≡ Ok ((codes "d", doc (Element (codes "a") [] (Text (codes "xy") ∷ []) ∷
-    [])) ∷ [])
+joined_only_then : after joined_only_then_documents joined_only_then_update ≡ Ok ((
+  codes "d",
+  doc (Element (codes "a") [] (Text (codes "xy") ∷ []) ∷
+      []),
+) ∷ [])
 unfolding seen
 joined_only_then = updates joined_only_then_documents tt 9 joined_only_then_update refl ∙ refl
 
@@ -467,14 +548,20 @@ joined_only_then = updates joined_only_then_documents tt 9 joined_only_then_upda
 --     UPDATE delete_undeep doc('d')//b
 --     d: <a><b k="1"><c/><b>x</b></b></a>
 abbrev undeep_nested_documents : Entries
-undeep_nested_documents = ((codes "d", doc (Element (codes "a") [] (Element (codes "b") (attr (codes "k") (codes "1") ∷ []) (Element (codes "c") [] []
-    ∷ Element (codes "b") [] (Text (codes "x") ∷ []) ∷ []) ∷ []) ∷ [])) ∷ [])
+undeep_nested_documents = ((
+  codes "d",
+  doc (Element (codes "a") [] (Element (codes "b") (attr (codes "k") (codes "1") ∷ []) (Element (codes "c") [] []
+      ∷ Element (codes "b") [] (Text (codes "x") ∷ []) ∷ []) ∷ []) ∷ []),
+) ∷ [])
 
 abbrev undeep_nested_update : UpdateCall
 undeep_nested_update = update.DeleteUndeep (e.Path (st.Value (e.Doc (codes "d"))) (deep_step ax.Child (te.Name (Some (codes "b"))) [] ∷ []))
 
-undeep_nested : after undeep_nested_documents undeep_nested_update ≡ Ok ((codes "d", doc (Element (codes "a") [] (Element (codes "c") [] [] ∷ Text
-    (codes "x") ∷ []) ∷ [])) ∷ [])
+undeep_nested : after undeep_nested_documents undeep_nested_update ≡ Ok ((
+  codes "d",
+  doc (Element (codes "a") [] (Element (codes "c") [] [] ∷ Text
+      (codes "x") ∷ []) ∷ []),
+) ∷ [])
 unfolding seen
 undeep_nested = updates undeep_nested_documents tt 9 undeep_nested_update refl ∙ refl
 
@@ -497,20 +584,26 @@ document_not_undeep = updates document_not_undeep_documents tt 9 document_not_un
 --     UPDATE replace$y1 in (doc('d')/r//@k)[3]with attribute id{"a&amp;b"}
 --     d: <r><a n="3" k="e\f"/><c n="ab" k="9"/>ab<i k="1" n="w">2<b>true5</b></i></r>
 abbrev attribute_replaced_documents : Entries
-attribute_replaced_documents = ((codes "d", doc (Element (codes "r") [] (Element (codes "a") (attr (codes "n") (codes "3") ∷ attr (codes "k") (codes
-    "e" ++ (92 ∷ []) ++ codes "f") ∷ []) [] ∷ Element (codes "c") (attr (codes "n") (codes "ab") ∷ attr (codes "k") (codes "9") ∷ []) [] ∷ Text (codes
-    "ab") ∷ Element (codes "i") (attr (codes "k") (codes "1") ∷ attr (codes "n") (codes "w") ∷ []) (Text (codes "2") ∷ Element (codes "b") [] (Text
-    (codes "true5") ∷ []) ∷ []) ∷ []) ∷ [])) ∷ [])
+attribute_replaced_documents = ((
+  codes "d",
+  doc (Element (codes "r") [] (Element (codes "a") (attr (codes "n") (codes "3") ∷ attr (codes "k") (codes
+      "e" ++ (92 ∷ []) ++ codes "f") ∷ []) [] ∷ Element (codes "c") (attr (codes "n") (codes "ab") ∷ attr (codes "k") (codes "9") ∷ []) [] ∷ Text (codes
+      "ab") ∷ Element (codes "i") (attr (codes "k") (codes "1") ∷ attr (codes "n") (codes "w") ∷ []) (Text (codes "2") ∷ Element (codes "b") [] (Text
+      (codes "true5") ∷ []) ∷ []) ∷ []) ∷ []),
+) ∷ [])
 
 abbrev attribute_replaced_update : UpdateCall
 attribute_replaced_update = update.Replace (codes "y1") (e.Filter (e.Path (st.Value (e.Doc (codes "d"))) (step ax.Child (te.Name (Some (codes "r")))
     [] ∷ deep_step ax.Attribute (te.Name (Some (codes "k"))) [] ∷ [])) ((e.Int (pos 3)) ∷ [])) (e.Attribute (codes "id") (Some (e.Text (codes
     "a&b"))))
 
-attribute_replaced : after attribute_replaced_documents attribute_replaced_update ≡ Ok ((codes "d", doc (Element (codes "r") [] (Element (codes "a")
-    (attr (codes "n") (codes "3") ∷ attr (codes "k") (codes "e" ++ (92 ∷ []) ++ codes "f") ∷ []) [] ∷ Element (codes "c") (attr (codes "n") (codes
-    "ab") ∷ attr (codes "k") (codes "9") ∷ []) [] ∷ Text (codes "ab") ∷ Element (codes "i") (attr (codes "id") (codes "a&b") ∷ attr (codes "n") (codes
-    "w") ∷ []) (Text (codes "2") ∷ Element (codes "b") [] (Text (codes "true5") ∷ []) ∷ []) ∷ []) ∷ [])) ∷ [])
+attribute_replaced : after attribute_replaced_documents attribute_replaced_update ≡ Ok ((
+  codes "d",
+  doc (Element (codes "r") [] (Element (codes "a")
+      (attr (codes "n") (codes "3") ∷ attr (codes "k") (codes "e" ++ (92 ∷ []) ++ codes "f") ∷ []) [] ∷ Element (codes "c") (attr (codes "n") (codes
+      "ab") ∷ attr (codes "k") (codes "9") ∷ []) [] ∷ Text (codes "ab") ∷ Element (codes "i") (attr (codes "id") (codes "a&b") ∷ attr (codes "n") (codes
+      "w") ∷ []) (Text (codes "2") ∷ Element (codes "b") [] (Text (codes "true5") ∷ []) ∷ []) ∷ []) ∷ []),
+) ∷ [])
 unfolding seen
 attribute_replaced = updates attribute_replaced_documents tt 9 attribute_replaced_update refl ∙ refl
 
@@ -518,9 +611,12 @@ attribute_replaced = updates attribute_replaced_documents tt 9 attribute_replace
 --     UPDATE replace$w1 in doc('d')/r/x with element c{attribute n{count((5, 8, true()))}, if('x')then"e\f"else'x'}
 --     d: <r><x i="0"><b>three<x id="4" n="01"><i k="😀" id="b"/></x></b></x></r>
 abbrev element_replaced_documents : Entries
-element_replaced_documents = ((codes "d", doc (Element (codes "r") [] (Element (codes "x") (attr (codes "i") (codes "0") ∷ []) (Element (codes "b") []
-    (Text (codes "three") ∷ Element (codes "x") (attr (codes "id") (codes "4") ∷ attr (codes "n") (codes "01") ∷ []) (Element (codes "i") (attr (codes
-    "k") ((240 ∷ 159 ∷ 152 ∷ 128 ∷ [])) ∷ attr (codes "id") (codes "b") ∷ []) [] ∷ []) ∷ []) ∷ []) ∷ []) ∷ [])) ∷ [])
+element_replaced_documents = ((
+  codes "d",
+  doc (Element (codes "r") [] (Element (codes "x") (attr (codes "i") (codes "0") ∷ []) (Element (codes "b") []
+      (Text (codes "three") ∷ Element (codes "x") (attr (codes "id") (codes "4") ∷ attr (codes "n") (codes "01") ∷ []) (Element (codes "i") (attr (codes
+      "k") ((240 ∷ 159 ∷ 152 ∷ 128 ∷ [])) ∷ attr (codes "id") (codes "b") ∷ []) [] ∷ []) ∷ []) ∷ []) ∷ []) ∷ []),
+) ∷ [])
 
 abbrev element_replaced_update : UpdateCall
 element_replaced_update = update.Replace (codes "w1") (e.Path (st.Value (e.Doc (codes "d"))) (step ax.Child (te.Name (Some (codes "r"))) [] ∷ step
@@ -528,8 +624,11 @@ element_replaced_update = update.Replace (codes "w1") (e.Path (st.Value (e.Doc (
     ((e.Int (pos 5)) ∷ (e.Int (pos 8)) ∷ (e.Fun (codes "true") []) ∷ [])) ∷ [])))) ∷ (e.If (e.Text (codes "x")) (e.Text (codes "e" ++ (92 ∷ []) ++
     codes "f")) (e.Text (codes "x"))) ∷ []))))
 
-element_replaced : after element_replaced_documents element_replaced_update ≡ Ok ((codes "d", doc (Element (codes "r") [] (Element (codes "c") (attr
-    (codes "n") (codes "3") ∷ []) (Text (codes "e" ++ (92 ∷ []) ++ codes "f") ∷ []) ∷ []) ∷ [])) ∷ [])
+element_replaced : after element_replaced_documents element_replaced_update ≡ Ok ((
+  codes "d",
+  doc (Element (codes "r") [] (Element (codes "c") (attr
+      (codes "n") (codes "3") ∷ []) (Text (codes "e" ++ (92 ∷ []) ++ codes "f") ∷ []) ∷ []) ∷ []),
+) ∷ [])
 unfolding seen
 element_replaced = updates element_replaced_documents tt 9 element_replaced_update refl ∙ refl
 
@@ -537,16 +636,22 @@ element_replaced = updates element_replaced_documents tt 9 element_replaced_upda
 --     UPDATE replace $v in doc('d')/a/@k with (attribute x {$v}, attribute y {})
 --     d: <a j="1" k="2" l="3"/>
 abbrev replaced_in_place_documents : Entries
-replaced_in_place_documents = ((codes "d", doc (Element (codes "a") (attr (codes "j") (codes "1") ∷ attr (codes "k") (codes "2") ∷ attr (codes "l")
-    (codes "3") ∷ []) [] ∷ [])) ∷ [])
+replaced_in_place_documents = ((
+  codes "d",
+  doc (Element (codes "a") (attr (codes "j") (codes "1") ∷ attr (codes "k") (codes "2") ∷ attr (codes "l")
+      (codes "3") ∷ []) [] ∷ []),
+) ∷ [])
 
 abbrev replaced_in_place_update : UpdateCall
 replaced_in_place_update = update.Replace (codes "v") (e.Path (st.Value (e.Doc (codes "d"))) (step ax.Child (te.Name (Some (codes "a"))) [] ∷ step
     ax.Attribute (te.Name (Some (codes "k"))) [] ∷ [])) (e.Seq ((e.Attribute (codes "x") (Some (e.Var (codes "v")))) ∷ (e.Attribute (codes "y") None)
     ∷ []))
 
-replaced_in_place : after replaced_in_place_documents replaced_in_place_update ≡ Ok ((codes "d", doc (Element (codes "a") (attr (codes "j") (codes
-    "1") ∷ attr (codes "x") (codes "2") ∷ attr (codes "y") [] ∷ attr (codes "l") (codes "3") ∷ []) [] ∷ [])) ∷ [])
+replaced_in_place : after replaced_in_place_documents replaced_in_place_update ≡ Ok ((
+  codes "d",
+  doc (Element (codes "a") (attr (codes "j") (codes
+      "1") ∷ attr (codes "x") (codes "2") ∷ attr (codes "y") [] ∷ attr (codes "l") (codes "3") ∷ []) [] ∷ []),
+) ∷ [])
 unfolding seen
 replaced_in_place = updates replaced_in_place_documents tt 9 replaced_in_place_update refl ∙ refl
 
@@ -561,8 +666,11 @@ names_exchanged_update = update.Replace (codes "v") (e.Path (st.Value (e.Doc (co
     ax.Attribute (te.Name None) [] ∷ [])) (e.If (e.Compare (e.Fun (codes "name") ((e.Var (codes "v")) ∷ [])) Eq (e.Text (codes "j"))) (e.Attribute
     (codes "k") (Some (e.Text (codes "1")))) (e.Attribute (codes "j") (Some (e.Text (codes "2")))))
 
-names_exchanged : after names_exchanged_documents names_exchanged_update ≡ Ok ((codes "d", doc (Element (codes "a") (attr (codes "k") (codes "1") ∷
-    attr (codes "j") (codes "2") ∷ []) [] ∷ [])) ∷ [])
+names_exchanged : after names_exchanged_documents names_exchanged_update ≡ Ok ((
+  codes "d",
+  doc (Element (codes "a") (attr (codes "k") (codes "1") ∷
+      attr (codes "j") (codes "2") ∷ []) [] ∷ []),
+) ∷ [])
 unfolding seen
 names_exchanged = updates names_exchanged_documents tt 9 names_exchanged_update refl ∙ refl
 
@@ -585,8 +693,11 @@ name_twice_replaced = updates name_twice_replaced_documents tt 9 name_twice_repl
 --     UPDATE replace $v in doc('d')//b with element c {}
 --     d: <a><b><b>x</b></b></a>
 abbrev nested_target_refused_documents : Entries
-nested_target_refused_documents = ((codes "d", doc (Element (codes "a") [] (Element (codes "b") [] (Element (codes "b") [] (Text (codes "x") ∷ []) ∷
-    []) ∷ []) ∷ [])) ∷ [])
+nested_target_refused_documents = ((
+  codes "d",
+  doc (Element (codes "a") [] (Element (codes "b") [] (Element (codes "b") [] (Text (codes "x") ∷ []) ∷
+      []) ∷ []) ∷ []),
+) ∷ [])
 
 abbrev nested_target_refused_update : UpdateCall
 nested_target_refused_update = update.Replace (codes "v") (e.Path (st.Value (e.Doc (codes "d"))) (deep_step ax.Child (te.Name (Some (codes "b"))) [] ∷
@@ -600,8 +711,11 @@ nested_target_refused = updates nested_target_refused_documents tt 9 nested_targ
 --     UPDATE replace $v in doc('d')//b with (1 idiv count($v/c))
 --     d: <a><b><b>x</b></b></a>
 abbrev refused_in_its_turn_documents : Entries
-refused_in_its_turn_documents = ((codes "d", doc (Element (codes "a") [] (Element (codes "b") [] (Element (codes "b") [] (Text (codes "x") ∷ []) ∷ [])
-    ∷ []) ∷ [])) ∷ [])
+refused_in_its_turn_documents = ((
+  codes "d",
+  doc (Element (codes "a") [] (Element (codes "b") [] (Element (codes "b") [] (Text (codes "x") ∷ []) ∷ [])
+      ∷ []) ∷ []),
+) ∷ [])
 
 abbrev refused_in_its_turn_update : UpdateCall
 refused_in_its_turn_update = update.Replace (codes "v") (e.Path (st.Value (e.Doc (codes "d"))) (deep_step ax.Child (te.Name (Some (codes "b"))) [] ∷
@@ -659,11 +773,14 @@ replaced_by_nothing = updates replaced_by_nothing_documents tt 9 replaced_by_not
 --     d: <r><a>11<a/><a n="1 2"/><a a="9"><x n="4"><b k="3" id="😀" n="0"><x k="9223372036854775808" id="8" n="9"/>9<b/></b></x></a></a></r>
 --     e: no nodes
 abbrev replace_refused_documents : Entries
-replace_refused_documents = ((codes "d", doc (Element (codes "r") [] (Element (codes "a") [] (Text (codes "11") ∷ Element (codes "a") [] [] ∷ Element
-    (codes "a") (attr (codes "n") (codes "1 2") ∷ []) [] ∷ Element (codes "a") (attr (codes "a") (codes "9") ∷ []) (Element (codes "x") (attr (codes
-    "n") (codes "4") ∷ []) (Element (codes "b") (attr (codes "k") (codes "3") ∷ attr (codes "id") ((240 ∷ 159 ∷ 152 ∷ 128 ∷ [])) ∷ attr (codes "n")
-    (codes "0") ∷ []) (Element (codes "x") (attr (codes "k") (codes "9223372036854775808") ∷ attr (codes "id") (codes "8") ∷ attr (codes "n") (codes
-    "9") ∷ []) [] ∷ Text (codes "9") ∷ Element (codes "b") [] [] ∷ []) ∷ []) ∷ []) ∷ []) ∷ []) ∷ [])) ∷ (codes "e", doc []) ∷ [])
+replace_refused_documents = ((
+  codes "d",
+  doc (Element (codes "r") [] (Element (codes "a") [] (Text (codes "11") ∷ Element (codes "a") [] [] ∷ Element
+      (codes "a") (attr (codes "n") (codes "1 2") ∷ []) [] ∷ Element (codes "a") (attr (codes "a") (codes "9") ∷ []) (Element (codes "x") (attr (codes
+      "n") (codes "4") ∷ []) (Element (codes "b") (attr (codes "k") (codes "3") ∷ attr (codes "id") ((240 ∷ 159 ∷ 152 ∷ 128 ∷ [])) ∷ attr (codes "n")
+      (codes "0") ∷ []) (Element (codes "x") (attr (codes "k") (codes "9223372036854775808") ∷ attr (codes "id") (codes "8") ∷ attr (codes "n") (codes
+      "9") ∷ []) [] ∷ Text (codes "9") ∷ Element (codes "b") [] [] ∷ []) ∷ []) ∷ []) ∷ []) ∷ []) ∷ []),
+) ∷ (codes "e", doc []) ∷ [])
 
 abbrev replace_refused_update : UpdateCall
 replace_refused_update = update.Replace (codes "y1") (e.Union ((e.Path (st.Value (e.Doc (codes "d"))) (step ax.Child (te.Name None) [] ∷ deep_step
@@ -680,20 +797,26 @@ replace_refused = updates replace_refused_documents tt 9 replace_refused_update 
 --     UPDATE rename doc ('e')//x on i
 --     e: <i k="7" n="3" id="abc">1<x id="3" k="6"><a k="11" n="three"/>9223372036854775807<?p 6?><b k="01"/><b k="&#160;7" id="3"/></x></i>10
 abbrev elements_renamed_documents : Entries
-elements_renamed_documents = ((codes "e", doc (Element (codes "i") (attr (codes "k") (codes "7") ∷ attr (codes "n") (codes "3") ∷ attr (codes "id")
-    (codes "abc") ∷ []) (Text (codes "1") ∷ Element (codes "x") (attr (codes "id") (codes "3") ∷ attr (codes "k") (codes "6") ∷ []) (Element (codes
-    "a") (attr (codes "k") (codes "11") ∷ attr (codes "n") (codes "three") ∷ []) [] ∷ Text (codes "9223372036854775807") ∷ Pi (codes "p") (codes "6")
-    ∷ Element (codes "b") (attr (codes "k") (codes "01") ∷ []) [] ∷ Element (codes "b") (attr (codes "k") ((194 ∷ 160 ∷ []) ++ codes "7") ∷ attr
-    (codes "id") (codes "3") ∷ []) [] ∷ []) ∷ []) ∷ Text (codes "10") ∷ [])) ∷ [])
+elements_renamed_documents = ((
+  codes "e",
+  doc (Element (codes "i") (attr (codes "k") (codes "7") ∷ attr (codes "n") (codes "3") ∷ attr (codes "id")
+      (codes "abc") ∷ []) (Text (codes "1") ∷ Element (codes "x") (attr (codes "id") (codes "3") ∷ attr (codes "k") (codes "6") ∷ []) (Element (codes
+      "a") (attr (codes "k") (codes "11") ∷ attr (codes "n") (codes "three") ∷ []) [] ∷ Text (codes "9223372036854775807") ∷ Pi (codes "p") (codes "6")
+      ∷ Element (codes "b") (attr (codes "k") (codes "01") ∷ []) [] ∷ Element (codes "b") (attr (codes "k") ((194 ∷ 160 ∷ []) ++ codes "7") ∷ attr
+      (codes "id") (codes "3") ∷ []) [] ∷ []) ∷ []) ∷ Text (codes "10") ∷ []),
+) ∷ [])
 
 abbrev elements_renamed_update : UpdateCall
 elements_renamed_update = update.Rename (e.Path (st.Value (e.Doc (codes "e"))) (deep_step ax.Child (te.Name (Some (codes "x"))) [] ∷ [])) (codes "i")
 
-elements_renamed : after elements_renamed_documents elements_renamed_update ≡ Ok ((codes "e", doc (Element (codes "i") (attr (codes "k") (codes "7") ∷
-    attr (codes "n") (codes "3") ∷ attr (codes "id") (codes "abc") ∷ []) (Text (codes "1") ∷ Element (codes "i") (attr (codes "id") (codes "3") ∷ attr
-    (codes "k") (codes "6") ∷ []) (Element (codes "a") (attr (codes "k") (codes "11") ∷ attr (codes "n") (codes "three") ∷ []) [] ∷ Text (codes
-    "9223372036854775807") ∷ Pi (codes "p") (codes "6") ∷ Element (codes "b") (attr (codes "k") (codes "01") ∷ []) [] ∷ Element (codes "b") (attr
-    (codes "k") ((194 ∷ 160 ∷ []) ++ codes "7") ∷ attr (codes "id") (codes "3") ∷ []) [] ∷ []) ∷ []) ∷ Text (codes "10") ∷ [])) ∷ [])
+elements_renamed : after elements_renamed_documents elements_renamed_update ≡ Ok ((
+  codes "e",
+  doc (Element (codes "i") (attr (codes "k") (codes "7") ∷
+      attr (codes "n") (codes "3") ∷ attr (codes "id") (codes "abc") ∷ []) (Text (codes "1") ∷ Element (codes "i") (attr (codes "id") (codes "3") ∷ attr
+      (codes "k") (codes "6") ∷ []) (Element (codes "a") (attr (codes "k") (codes "11") ∷ attr (codes "n") (codes "three") ∷ []) [] ∷ Text (codes
+      "9223372036854775807") ∷ Pi (codes "p") (codes "6") ∷ Element (codes "b") (attr (codes "k") (codes "01") ∷ []) [] ∷ Element (codes "b") (attr
+      (codes "k") ((194 ∷ 160 ∷ []) ++ codes "7") ∷ attr (codes "id") (codes "3") ∷ []) [] ∷ []) ∷ []) ∷ Text (codes "10") ∷ []),
+) ∷ [])
 unfolding seen
 elements_renamed = updates elements_renamed_documents tt 9 elements_renamed_update refl ∙ refl
 
@@ -701,19 +824,25 @@ elements_renamed = updates elements_renamed_documents tt 9 elements_renamed_upda
 --     UPDATE rename (doc('d' )/ r/i |fn:doc ('d')/node( ))on k
 --     d: <r><a n="3" k="e\f"/><c n="ab" k="9"/>ab<i k="1" n="w">2<b>true5</b></i></r>
 abbrev renamed_in_union_documents : Entries
-renamed_in_union_documents = ((codes "d", doc (Element (codes "r") [] (Element (codes "a") (attr (codes "n") (codes "3") ∷ attr (codes "k") (codes "e"
-    ++ (92 ∷ []) ++ codes "f") ∷ []) [] ∷ Element (codes "c") (attr (codes "n") (codes "ab") ∷ attr (codes "k") (codes "9") ∷ []) [] ∷ Text (codes
-    "ab") ∷ Element (codes "i") (attr (codes "k") (codes "1") ∷ attr (codes "n") (codes "w") ∷ []) (Text (codes "2") ∷ Element (codes "b") [] (Text
-    (codes "true5") ∷ []) ∷ []) ∷ []) ∷ [])) ∷ [])
+renamed_in_union_documents = ((
+  codes "d",
+  doc (Element (codes "r") [] (Element (codes "a") (attr (codes "n") (codes "3") ∷ attr (codes "k") (codes "e"
+      ++ (92 ∷ []) ++ codes "f") ∷ []) [] ∷ Element (codes "c") (attr (codes "n") (codes "ab") ∷ attr (codes "k") (codes "9") ∷ []) [] ∷ Text (codes
+      "ab") ∷ Element (codes "i") (attr (codes "k") (codes "1") ∷ attr (codes "n") (codes "w") ∷ []) (Text (codes "2") ∷ Element (codes "b") [] (Text
+      (codes "true5") ∷ []) ∷ []) ∷ []) ∷ []),
+) ∷ [])
 
 abbrev renamed_in_union_update : UpdateCall
 renamed_in_union_update = update.Rename (e.Union ((e.Path (st.Value (e.Doc (codes "d"))) (step ax.Child (te.Name (Some (codes "r"))) [] ∷ step
     ax.Child (te.Name (Some (codes "i"))) [] ∷ [])) ∷ (e.Path (st.Value (e.Doc (codes "d"))) (step ax.Child te.AnyNode [] ∷ [])) ∷ [])) (codes "k")
 
-renamed_in_union : after renamed_in_union_documents renamed_in_union_update ≡ Ok ((codes "d", doc (Element (codes "k") [] (Element (codes "a") (attr
-    (codes "n") (codes "3") ∷ attr (codes "k") (codes "e" ++ (92 ∷ []) ++ codes "f") ∷ []) [] ∷ Element (codes "c") (attr (codes "n") (codes "ab") ∷
-    attr (codes "k") (codes "9") ∷ []) [] ∷ Text (codes "ab") ∷ Element (codes "k") (attr (codes "k") (codes "1") ∷ attr (codes "n") (codes "w") ∷ [])
-    (Text (codes "2") ∷ Element (codes "b") [] (Text (codes "true5") ∷ []) ∷ []) ∷ []) ∷ [])) ∷ [])
+renamed_in_union : after renamed_in_union_documents renamed_in_union_update ≡ Ok ((
+  codes "d",
+  doc (Element (codes "k") [] (Element (codes "a") (attr
+      (codes "n") (codes "3") ∷ attr (codes "k") (codes "e" ++ (92 ∷ []) ++ codes "f") ∷ []) [] ∷ Element (codes "c") (attr (codes "n") (codes "ab") ∷
+      attr (codes "k") (codes "9") ∷ []) [] ∷ Text (codes "ab") ∷ Element (codes "k") (attr (codes "k") (codes "1") ∷ attr (codes "n") (codes "w") ∷ [])
+      (Text (codes "2") ∷ Element (codes "b") [] (Text (codes "true5") ∷ []) ∷ []) ∷ []) ∷ []),
+) ∷ [])
 unfolding seen
 renamed_in_union = updates renamed_in_union_documents tt 9 renamed_in_union_update refl ∙ refl
 
@@ -721,15 +850,21 @@ renamed_in_union = updates renamed_in_union_documents tt 9 renamed_in_union_upda
 --     UPDATE rename doc('d')/a/@k on x
 --     d: <a j="1" k="2" l="3"/>
 abbrev attribute_renamed_documents : Entries
-attribute_renamed_documents = ((codes "d", doc (Element (codes "a") (attr (codes "j") (codes "1") ∷ attr (codes "k") (codes "2") ∷ attr (codes "l")
-    (codes "3") ∷ []) [] ∷ [])) ∷ [])
+attribute_renamed_documents = ((
+  codes "d",
+  doc (Element (codes "a") (attr (codes "j") (codes "1") ∷ attr (codes "k") (codes "2") ∷ attr (codes "l")
+      (codes "3") ∷ []) [] ∷ []),
+) ∷ [])
 
 abbrev attribute_renamed_update : UpdateCall
 attribute_renamed_update = update.Rename (e.Path (st.Value (e.Doc (codes "d"))) (step ax.Child (te.Name (Some (codes "a"))) [] ∷ step ax.Attribute
     (te.Name (Some (codes "k"))) [] ∷ [])) (codes "x")
 
-attribute_renamed : after attribute_renamed_documents attribute_renamed_update ≡ Ok ((codes "d", doc (Element (codes "a") (attr (codes "j") (codes
-    "1") ∷ attr (codes "x") (codes "2") ∷ attr (codes "l") (codes "3") ∷ []) [] ∷ [])) ∷ [])
+attribute_renamed : after attribute_renamed_documents attribute_renamed_update ≡ Ok ((
+  codes "d",
+  doc (Element (codes "a") (attr (codes "j") (codes
+      "1") ∷ attr (codes "x") (codes "2") ∷ attr (codes "l") (codes "3") ∷ []) [] ∷ []),
+) ∷ [])
 unfolding seen
 attribute_renamed = updates attribute_renamed_documents tt 9 attribute_renamed_update refl ∙ refl
 
@@ -750,14 +885,20 @@ instruction_renamed = updates instruction_renamed_documents tt 9 instruction_ren
 --     UPDATE rename doc('d')/a on a
 --     d: <a k="1">x<b/></a>
 abbrev renamed_alike_documents : Entries
-renamed_alike_documents = ((codes "d", doc (Element (codes "a") (attr (codes "k") (codes "1") ∷ []) (Text (codes "x") ∷ Element (codes "b") [] [] ∷
-    []) ∷ [])) ∷ [])
+renamed_alike_documents = ((
+  codes "d",
+  doc (Element (codes "a") (attr (codes "k") (codes "1") ∷ []) (Text (codes "x") ∷ Element (codes "b") [] [] ∷
+      []) ∷ []),
+) ∷ [])
 
 abbrev renamed_alike_update : UpdateCall
 renamed_alike_update = update.Rename (e.Path (st.Value (e.Doc (codes "d"))) (step ax.Child (te.Name (Some (codes "a"))) [] ∷ [])) (codes "a")
 
-renamed_alike : after renamed_alike_documents renamed_alike_update ≡ Ok ((codes "d", doc (Element (codes "a") (attr (codes "k") (codes "1") ∷ [])
-    (Text (codes "x") ∷ Element (codes "b") [] [] ∷ []) ∷ [])) ∷ [])
+renamed_alike : after renamed_alike_documents renamed_alike_update ≡ Ok ((
+  codes "d",
+  doc (Element (codes "a") (attr (codes "k") (codes "1") ∷ [])
+      (Text (codes "x") ∷ Element (codes "b") [] [] ∷ []) ∷ []),
+) ∷ [])
 unfolding seen
 renamed_alike = updates renamed_alike_documents tt 9 renamed_alike_update refl ∙ refl
 
@@ -780,8 +921,11 @@ name_twice_renamed = updates name_twice_renamed_documents tt 9 name_twice_rename
 --     UPDATE rename (doc('d')/a/@k, doc('d')/a/text()) on x
 --     d: <a k="1" x="2">t</a>
 abbrev name_before_next_element_documents : Entries
-name_before_next_element_documents = ((codes "d", doc (Element (codes "a") (attr (codes "k") (codes "1") ∷ attr (codes "x") (codes "2") ∷ []) (Text
-    (codes "t") ∷ []) ∷ [])) ∷ [])
+name_before_next_element_documents = ((
+  codes "d",
+  doc (Element (codes "a") (attr (codes "k") (codes "1") ∷ attr (codes "x") (codes "2") ∷ []) (Text
+      (codes "t") ∷ []) ∷ []),
+) ∷ [])
 
 abbrev name_before_next_element_update : UpdateCall
 name_before_next_element_update = update.Rename (e.Seq ((e.Path (st.Value (e.Doc (codes "d"))) (step ax.Child (te.Name (Some (codes "a"))) [] ∷ step
@@ -796,11 +940,14 @@ name_before_next_element = updates name_before_next_element_documents tt 9 name_
 --     UPDATE rename doc('d')/*/text()on a
 --     d: <i/><r><i/>ab<i/><b id="abc" n="-9223372036854775808" x="false"><i/>01</b><i/><a id="1" x="8" n="1 2"/><i/>abc<i/><?q abc?></r>
 abbrev text_not_renamed_documents : Entries
-text_not_renamed_documents = ((codes "d", doc (Element (codes "i") [] [] ∷ Element (codes "r") [] (Element (codes "i") [] [] ∷ Text (codes "ab") ∷
-    Element (codes "i") [] [] ∷ Element (codes "b") (attr (codes "id") (codes "abc") ∷ attr (codes "n") (codes "-9223372036854775808") ∷ attr (codes
-    "x") (codes "false") ∷ []) (Element (codes "i") [] [] ∷ Text (codes "01") ∷ []) ∷ Element (codes "i") [] [] ∷ Element (codes "a") (attr (codes
-    "id") (codes "1") ∷ attr (codes "x") (codes "8") ∷ attr (codes "n") (codes "1 2") ∷ []) [] ∷ Element (codes "i") [] [] ∷ Text (codes "abc") ∷
-    Element (codes "i") [] [] ∷ Pi (codes "q") (codes "abc") ∷ []) ∷ [])) ∷ [])
+text_not_renamed_documents = ((
+  codes "d",
+  doc (Element (codes "i") [] [] ∷ Element (codes "r") [] (Element (codes "i") [] [] ∷ Text (codes "ab") ∷
+      Element (codes "i") [] [] ∷ Element (codes "b") (attr (codes "id") (codes "abc") ∷ attr (codes "n") (codes "-9223372036854775808") ∷ attr (codes
+      "x") (codes "false") ∷ []) (Element (codes "i") [] [] ∷ Text (codes "01") ∷ []) ∷ Element (codes "i") [] [] ∷ Element (codes "a") (attr (codes
+      "id") (codes "1") ∷ attr (codes "x") (codes "8") ∷ attr (codes "n") (codes "1 2") ∷ []) [] ∷ Element (codes "i") [] [] ∷ Text (codes "abc") ∷
+      Element (codes "i") [] [] ∷ Pi (codes "q") (codes "abc") ∷ []) ∷ []),
+) ∷ [])
 
 abbrev text_not_renamed_update : UpdateCall
 text_not_renamed_update = update.Rename (e.Path (st.Value (e.Doc (codes "d"))) (step ax.Child (te.Name None) [] ∷ step ax.Child te.Text [] ∷ []))
@@ -817,15 +964,20 @@ text_not_renamed = updates text_not_renamed_documents tt 9 text_not_renamed_upda
 --     d: <a/>
 --     e: <a/>x
 abbrev documents_by_name_documents : Entries
-documents_by_name_documents = ((codes "d", doc (Element (codes "a") [] [] ∷ [])) ∷ (codes "e", doc (Element (codes "a") [] [] ∷ Text (codes "x") ∷
-    [])) ∷ [])
+documents_by_name_documents = ((codes "d", doc (Element (codes "a") [] [] ∷ [])) ∷ (
+  codes "e",
+  doc (Element (codes "a") [] [] ∷ Text (codes "x") ∷
+      []),
+) ∷ [])
 
 abbrev documents_by_name_update : UpdateCall
 documents_by_name_update = update.Rename (e.Seq ((e.Path (st.Value (e.Doc (codes "e"))) (step ax.Child (te.Name (Some (codes "a"))) [] ∷ [])) ∷
     (e.Path (st.Value (e.Doc (codes "d"))) (step ax.Child (te.Name (Some (codes "a"))) [] ∷ [])) ∷ [])) (codes "b")
 
-documents_by_name : after documents_by_name_documents documents_by_name_update ≡ Ok ((codes "d", doc (Element (codes "b") [] [] ∷ [])) ∷ (codes "e",
-    doc (Element (codes "b") [] [] ∷ Text (codes "x") ∷ [])) ∷ [])
+documents_by_name : after documents_by_name_documents documents_by_name_update ≡ Ok ((codes "d", doc (Element (codes "b") [] [] ∷ [])) ∷ (
+  codes "e",
+  doc (Element (codes "b") [] [] ∷ Text (codes "x") ∷ []),
+) ∷ [])
 unfolding seen
 documents_by_name = updates documents_by_name_documents tt 9 documents_by_name_update refl ∙ refl
 

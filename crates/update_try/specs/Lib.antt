@@ -1,2 +1,3 @@
 pub mod Rebuild
+pub mod GoodEdits
 pub mod Edits
