@@ -1,5 +1,5 @@
 -- A document that is rebuilt is valid, where the edits bring what is well-formed and leave no name twice.
-use Rattle.std.proofs.Common.{◌≡◌, ℕ, suc, ◌+◌, ◌<◌, ◌≤◌, Bool, true, false, IsTrue, IfSome, true≢false, List, [], ◌∷◌, ◌++◌, map, length, Option, Some, None, Result, Ok, Err, refl, sym, ap, subst, ◌∙◌, arith}
+use Rattle.std.proofs.Common.{◌≡◌, ℕ, suc, ◌+◌, ◌<◌, Bool, true, false, IsTrue, IfSome, true≢false, List, [], ◌∷◌, ◌++◌, map, length, Option, Some, None, Ok, Err, refl, sym, ap, subst, ◌∙◌, arith}
 use Rattle.std.specs.Prelude.{◌||◌, if◌then◌else◌, nat_lt}
 use Rattle.std.specs.FinMap as fin_map
 use Rattle.std.specs.List.{slice_get}
@@ -7,7 +7,6 @@ use Rattle.std.specs.Option.{option_map}
 use Rattle.std.proofs.lemmas.Bool.{and_parts, ltb-false}
 use Rattle.std.proofs.lemmas.Option.{none-some}
 use Rattle.xq_ast.specs.Names.{is_name}
-use Rattle.xq_ast.specs.declared.code.Code.{Code}
 use Rattle.xq_ast.specs.declared.code.Code.TheVariants.{TooDeep, TooManyNodes, TooMuchText}
 use Rattle.xml_model.specs.declared.limits.TheConstants.{DEPTH_MAX, NODES_MAX, TEXT_BYTES_MAX}
 use Rattle.xml_model.specs.declared.node.Attr.{Attr}
@@ -20,10 +19,10 @@ use Rattle.xml_model.specs.declared.place.PlaceStep.{PlaceStep}
 use Rattle.xml_model.specs.declared.place.PlaceStep.TheVariants as steps
 use Rattle.xml_model.specs.Constructors.{text_in, has_name_twice}
 use Rattle.xml_model.specs.Document.{IsValid, sibling}
-use Rattle.xml_model.specs.Place.{Placed, the_document, a_node, an_attribute, attrs_in, kids_in, attrs_of, kids_of, placed_from}
-use Rattle.xml_model.specs.Trees.{count_of, bytes_of, depth_of, has_attribute}
+use Rattle.xml_model.specs.Place.{Placed, the_document, a_node, attrs_in, kids_in, attrs_of, kids_of, placed_from}
+use Rattle.xml_model.specs.Trees.{count_of, bytes_of, depth_of}
 use Rattle.xml_model.proofs.Alike.{Each, each_append}
-use Rattle.xml_model.proofs.Formed.{IsFormed, AreFormed, AllFormed, IsApart, AreAttributes, HasForm, is_text, form_is_valid, valid_has_form}
+use Rattle.xml_model.proofs.Formed.{IsFormed, AreFormed, AllFormed, IsApart, AreAttributes, is_text, form_is_valid, valid_has_form}
 use Rattle.xml_model.proofs.NodeCases.{Each as EachNode, node_has}
 use Rattle.xml_model.proofs.Nodes.{fold-Element, fold-Text, fold-Pi, formed-Element}
 use Rattle.xml_model.proofs.WellFormed.{IsNamed}

@@ -1,6 +1,6 @@
 -- What updates leave, where it computes. What rests on folds over nodes stands here once more over any fold, as for
 -- queries: at the fold of nodes it is the definition, and at `refold` it computes. The documents are entries of a list.
-use Rattle.std.proofs.Common.{◌≡◌, ℕ, List, [], ◌∷◌, map, Bool, true, false, T, Option, Some, None, Result, Ok, Err, refl, sym, ap, subst, ◌∙◌, true≢false}
+use Rattle.std.proofs.Common.{◌≡◌, ℕ, List, [], ◌∷◌, map, Bool, true, false, T, Option, Some, None, Result, Ok, Err, refl, sym, ap, ◌∙◌, true≢false}
 use Rattle.std.specs.Prelude.{◌&&◌, if◌then◌else◌, nat_lt}
 use Rattle.std.specs.Cmp.Lexicographic.{slice_cmp}
 use Rattle.std.proofs.lemmas.Cmp.{nat_list_cmp_total}
@@ -30,7 +30,7 @@ use Rattle.xml_model.proofs.Computing.{Entries, looked, forest_of, refold, refol
 use Rattle.xml_model.proofs.Nodes.{fold-Element', fold-Pi, fold-Text}
 use Rattle.update_try.specs.declared.edit.EditKind.{EditKind}
 use Rattle.update_try.specs.declared.edit.EditKind.TheVariants as edit
-use Rattle.update_try.specs.Rebuild.{Edits, EditsIn, tidied, edited_step, edited_kids, edited_document, rebuild}
+use Rattle.update_try.specs.Rebuild.{EditsIn, tidied, edited_step, edited_kids, edited_document, rebuild}
 use Rattle.update_try.specs.Edits.{Change, DocumentEdits, insert_into, insert_beside, delete, replace, rename, changes, by_document, rebuilt_there, rebuilt_all, updated_by, updated}
 use Rattle.update_try.proofs.PlaceTotal.{place_total}
 

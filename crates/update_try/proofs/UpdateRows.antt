@@ -5,15 +5,14 @@ use Rattle.std.proofs.Common.{◌∙◌}
 use Rattle.xq_ast.specs.declared.code.Code.TheVariants as code
 use Rattle.xq_ast.specs.declared.step.Axis.TheVariants as ax
 use Rattle.xq_ast.specs.declared.step.Test.TheVariants as te
-use Rattle.xq_ast.specs.declared.tree.Bind.TheVariants as b
-use Rattle.xq_ast.specs.declared.tree.CompareOp.TheVariants.{Eq, Ne, Lt, Le, Gt, Ge}
+use Rattle.xq_ast.specs.declared.tree.CompareOp.TheVariants.{Eq, Ne, Gt}
 use Rattle.xq_ast.specs.declared.tree.Expr.TheVariants as e
 use Rattle.xq_ast.specs.declared.tree.Start.TheVariants as st
 use Rattle.xq_ast.specs.declared.update.Update.{Update as UpdateCall}
 use Rattle.xq_ast.specs.declared.update.Update.TheVariants as update
 use Rattle.xml_model.specs.declared.node.Node.TheVariants.{Element, Text, Pi}
 use Rattle.xml_model.proofs.Computing.{Entries, seen}
-use Rattle.xml_model.proofs.QueryForms.{plus, minus, times, divided, modulo, step, deep_step, attr, doc}
+use Rattle.xml_model.proofs.QueryForms.{divided, step, deep_step, attr, doc}
 use Rattle.update_try.proofs.UpdateComputing.{after, updates}
 
 -- ---- insert into

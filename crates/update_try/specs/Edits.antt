@@ -27,7 +27,7 @@ use Rattle.xml_model.specs.Place.{Placed, the_document, a_node, an_attribute, at
 use Rattle.xml_model.specs.Tuples.{Bindings, Means}
 use Rattle.update_try.specs.declared.edit.EditKind.{EditKind}
 use Rattle.update_try.specs.declared.edit.EditKind.TheVariants as edit
-use Rattle.update_try.specs.Rebuild.{Edits, EditsIn, edited_attributes, rebuild}
+use Rattle.update_try.specs.Rebuild.{EditsIn, edited_attributes, rebuild}
 
 -- what is done to a node of a document
 pub record Change : Type 0 where
