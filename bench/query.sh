@@ -75,8 +75,9 @@ def beside(query, path):
     """The seconds that BaseX takes for the query alone, as it says itself, or nothing where it is not installed."""
     if not shutil.which("basex"):
         return ""
-    words = ["basex", "-V", "-i", path, query.replace("doc('d')", "/")]
-    told = subprocess.run(words, capture_output=True, text=True).stderr + ""
+    words = ["basex", "-V", "-i", path, query.replace("doc('d')", ".")]
+    ran = subprocess.run(words, capture_output=True, text=True)
+    told = ran.stdout + ran.stderr
     spent = [line for line in told.split("\n") if line.startswith(("Evaluating:", "Compiling:", "Printing:"))]
     return "| basex " + " ".join(spent)
 
