@@ -78,7 +78,7 @@ def beside(query, path):
     words = ["basex", "-V", "-i", path, query.replace("doc('d')", ".")]
     ran = subprocess.run(words, capture_output=True, text=True)
     told = ran.stdout + ran.stderr
-    spent = [line for line in told.split("\n") if line.startswith(("Evaluating:", "Compiling:", "Printing:"))]
+    spent = [line for line in told.split("\n") if line.startswith(("Evaluating:", "Compiling:", "Printing:")) and line.endswith("ms")]
     return "| basex " + " ".join(spent)
 
 
