@@ -49,3 +49,8 @@ pub mod Contents
 pub mod QueryCodes
 pub mod Keeping
 pub mod QueryTrees
+pub mod PlaceTotal
+pub mod RebuildValid
+pub mod UpdateComputing
+mod UpdateRows
+mod LimitRows

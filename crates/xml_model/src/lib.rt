@@ -8,7 +8,8 @@
 //! `statements_keep_forests`), the locks that a call needs (`Needs`, with
 //! `calls_keep_to_their_needs` and `queries_keep_to_their_needs`), and what a query means
 //! (`Evaluation`, with `what_a_query_constructs_is_well_formed`, `lines_of_answers_are_plain` and
-//! `queries_end_with_their_codes`). A `DocMap` is a forest, and
+//! `queries_end_with_their_codes`), which edits an update asks for and the forest after it (`Edits`),
+//! and what edits make of a document (`Rebuild`, with `edited_documents_are_valid`). A `DocMap` is a forest, and
 //! `DocChanges` are changes that leave one: both keep that each document in them is valid and each
 //! name a document's name.
 //! Nothing is refused here: a call ends with its answer or, where it takes memory, `NoMemory`.
@@ -17,6 +18,8 @@
 mod call_needs;
 mod changes;
 mod copy;
+mod edit;
+mod edit_laws;
 mod forest;
 mod laws;
 mod layers;
@@ -33,6 +36,8 @@ mod value;
 
 pub use call_needs::needs;
 pub use changes::DocChanges;
+pub use edit::{DocEdits, DocEditsList, Edit, EditKind, EditList};
+pub use edit_laws::edited_documents_are_valid;
 pub use forest::DocMap;
 pub use laws::{
     calls_keep_to_their_needs, canonical_text_is_read_again, lines_of_answers_are_plain,
