@@ -1,8 +1,7 @@
 -- What stands in the place of nodes by their numbers is what stands there by their places, where the edits at the places
 -- are those at the numbers.
-use Rattle.std.proofs.Common.{◌≡◌, ℕ, zero, suc, ◌+◌, ◌<◌, List, [], ◌∷◌, ◌++◌, map, length, take, drop, Bool, true, false, Option, None, Some, Result, refl, sym, ap, subst, ◌∙◌, arith}
+use Rattle.std.proofs.Common.{◌≡◌, ℕ, suc, ◌+◌, ◌<◌, List, [], ◌∷◌, ◌++◌, map, length, take, drop, Option, Some, Result, refl, sym, ap, subst, ◌∙◌, arith}
 use Rattle.std.specs.Prelude.{if◌then◌else◌, ◌==◌}
-use Rattle.std.specs.Cmp.{nat_cmp_is}
 use Rattle.std.specs.FinMap as fin_map
 use Rattle.std.specs.List.{slice_get}
 use Rattle.std.specs.Option.{option_map}
@@ -23,7 +22,7 @@ use Rattle.xml_model.specs.Nav.{standing}
 use Rattle.xml_model.specs.Numbering.{place_of_number}
 use Rattle.xml_model.specs.Place.{Placed, the_document, a_node, an_attribute, attrs_in, kids_in, attrs_of, kids_of, placed_from, place_cmp}
 use Rattle.xml_model.specs.Trees.{total, count_node, count_of}
-use Rattle.xml_model.proofs.NodeCases.{Each, node_has, nodes_have}
+use Rattle.xml_model.proofs.NodeCases.{Each, node_has}
 use Rattle.xml_model.proofs.Nodes.{fold-Element, fold-Text, fold-Pi}
 use Rattle.xml_model.proofs.Numbered.{number}
 use Rattle.xml_model.proofs.Numbers.{count-Element, count-Text, count-Pi}
@@ -32,7 +31,7 @@ use Rattle.xml_model.specs.declared.edit.Edit.{Edit}
 use Rattle.xml_model.specs.declared.edit.EditKind.{EditKind}
 use Rattle.xml_model.specs.Rebuild.{EditsIn, behind, edits_at, edited_attribute, edited_attributes, edited_element, edited_kids, edited_step, edited_node, edited_document, edited, rebuild, limited_document, tidied}
 use Rattle.xml_model.proofs.PlaceTotal.{place_total}
-use Rattle.tree_edit.specs.Numbered.{look, Numbered, numbered_kids, numbered_attributes, numbered_step, numbered, numbered_node, numbered_nodes}
+use Rattle.tree_edit.specs.Numbered.{look, Numbered, numbered_attributes, numbered_step, numbered, numbered_node, numbered_nodes}
 use Rattle.tree_edit.specs.declared.kids.Kids.{Kids}
 use Rattle.tree_edit.specs.declared.end.EditEnd.{EditEnd}
 use Rattle.tree_edit.specs.Ends.{Gives}

@@ -1,6 +1,6 @@
 -- Worked rows of what updates leave. Each row says what it shows and has the text of the update and the documents before
 -- it; what is left is the documents, or the code.
-use Rattle.std.specs.Prelude.{◌≡◌, pos, false, [], ◌∷◌, ◌++◌, None, Some, Ok, Err, refl, codes}
+use Rattle.std.specs.Prelude.{◌≡◌, pos, [], ◌∷◌, ◌++◌, None, Some, Ok, Err, refl, codes}
 use Rattle.std.proofs.Common.{◌∙◌}
 use Rattle.xq_ast.specs.declared.code.Code.TheVariants as code
 use Rattle.xq_ast.specs.declared.step.Axis.TheVariants as ax

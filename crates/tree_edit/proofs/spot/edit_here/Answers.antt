@@ -1,4 +1,4 @@
-use Rattle.std.proofs.Common.{◌≡◌, sym, arith}
+use Rattle.std.proofs.Common.{sym, arith}
 use Rattle.std.proofs.lemmas.Bool.{ltb-true}
 use Rattle.tree_edit.proofs.Spots.{got, found_later}
 use Rattle.tree_edit.proofs.spot.edit_here.Goals as goal
