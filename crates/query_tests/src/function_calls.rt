@@ -217,24 +217,33 @@ fn operators_answer_integers(rt: HostRuntime) -> Result<(), Fail> {
     Ok(())
 }
 
+/// Two lists of nodes, of which the second has one that is before those of the first.
+fn node_lists(alloc: Global) -> Result<[SharedItems; 2], Fail> {
+    let later = SharedItems::of(alloc, two(alloc, constructed(alloc, 1), stored(5))?)?;
+    let earlier = SharedItems::of(alloc, two(alloc, stored(5), stored(2))?)?;
+    Ok([later, earlier])
+}
+
 #[test]
 fn lists_of_nodes_are_united(rt: HostRuntime) -> Result<(), Fail> {
     let alloc = rt.alloc();
     let docs = documents(alloc)?;
     let nav = TreeNav::of(&docs)?;
-    let made = trees(alloc)?;
-    let later = SharedItems::of(alloc, two(alloc, constructed(alloc, 1), stored(5))?)?;
-    let earlier = SharedItems::of(alloc, two(alloc, stored(5), stored(2))?)?;
-    let nodes: NodeIds = united_all(alloc, &nav, [later, earlier].as_slice())
-        .ok()
-        .ok_or("nodes")?;
-    let items = node_items(alloc, nodes)?;
-    assert_eq!(rt; nodes_or(alloc, Code::XPTY0019, items.as_slice())?.len(), 3);
-    let lines = said(alloc, &docs, &made, Ok(items))?;
+    let lists = node_lists(alloc)?;
+    let nodes: Result<NodeIds, EvalEnd<NoFault>> = united_all(alloc, &nav, lists.as_slice());
+    let items = node_items(alloc, nodes.ok().ok_or("nodes")?)?;
+    let lines = said(alloc, &docs, &trees(alloc)?, Ok(items))?;
     assert_eq!(rt; lines.as_str(), "An 5\n-7\nAk 2\n");
+    Ok(())
+}
+
+#[test]
+fn items_must_be_nodes(rt: HostRuntime) -> Result<(), Fail> {
+    let alloc = rt.alloc();
+    let nodes = two(alloc, stored(2), constructed(alloc, 0))?;
+    assert_eq!(rt; nodes_or(alloc, Code::XPTY0019, nodes.as_slice())?.len(), 2);
     let atoms = one(alloc, int(1))?;
-    let refused = nodes_or(alloc, Code::XPTY0019, atoms.as_slice());
-    assert!(rt; refused.is_err());
+    assert!(rt; nodes_or(alloc, Code::XPTY0019, atoms.as_slice()).is_err());
     Ok(())
 }
 
@@ -329,6 +338,15 @@ fn functions_answer_of_two_texts(rt: HostRuntime) -> Result<(), Fail> {
     Ok(())
 }
 
+/// An attribute, two values, a text and an element.
+fn some_items(alloc: Global) -> Result<ItemList, Fail> {
+    let mut items = two(alloc, stored(2), int(1))?;
+    items.push(text(alloc, "x")?)?;
+    items.push(stored(3))?;
+    items.push(constructed(alloc, 0))?;
+    Ok(items)
+}
+
 #[test]
 fn elements_are_made_of_items(rt: HostRuntime) -> Result<(), Fail> {
     let alloc = rt.alloc();
@@ -336,19 +354,24 @@ fn elements_are_made_of_items(rt: HostRuntime) -> Result<(), Fail> {
     let nav = TreeNav::of(&docs)?;
     let mut made = trees(alloc)?;
     let name = Str::of(alloc, "e")?;
-    let mut items = two(alloc, stored(2), int(1))?;
-    items.push(text(alloc, "x")?)?;
-    items.push(stored(3))?;
-    items.push(constructed(alloc, 0))?;
+    let items = some_items(alloc)?;
     let node = new_element(alloc, &nav, made.as_slice(), &name, items.as_slice());
     made.push(MadeRoot::Node {
         node: node.ok().ok_or("an element")?,
     })?;
     let lines = said(alloc, &docs, &made, Ok(one(alloc, constructed(alloc, 2))?))?;
     assert_eq!(rt; lines.as_str(), "(e\nAn 5\n-1 xx\n(m\nAa 1\n)m\n)e\n");
-    let value = new_text(alloc, &nav, made.as_slice(), items.as_slice());
-    let value = value.ok().ok_or("a text")?;
-    assert_eq!(rt; value.as_str(), "5 1 x x ");
+    Ok(())
+}
+
+#[test]
+fn texts_are_made_of_items(rt: HostRuntime) -> Result<(), Fail> {
+    let alloc = rt.alloc();
+    let docs = documents(alloc)?;
+    let nav = TreeNav::of(&docs)?;
+    let made = trees(alloc)?;
+    let value = new_text(alloc, &nav, made.as_slice(), some_items(alloc)?.as_slice());
+    assert_eq!(rt; value.ok().ok_or("a text")?.as_str(), "5 1 x x ");
     Ok(())
 }
 

@@ -1,4 +1,4 @@
-//! Tests of navigation and of queries: nodes of documents and of constructed trees, operators, functions, and whole
+//! Tests of navigation, queries and updates: nodes of documents and of constructed trees, operators, functions, and whole
 //! queries over plain trees and over a `Nav` that fails.
 //!
 //! They call the crates below as any caller does, so those crates are proved once, without tests of their own. What a
@@ -13,3 +13,5 @@ mod navigation;
 mod node_calls;
 #[cfg(test)]
 mod query_calls;
+#[cfg(test)]
+mod update_calls;

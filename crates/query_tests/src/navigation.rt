@@ -171,10 +171,11 @@ impl<'a> Failing<'a> {
 }
 
 impl<'a> Nav for Failing<'a> {
-    ghost use Rattle.std.proofs.Common.{arith};
+    ghost use Rattle.std.proofs.Common.{ap, arith};
+    ghost use Rattle.xml_model.specs.OneNumber.{same_number};
     ghost use Rattle.std.specs.Prelude.{◌-◌, ◌^◌};
     ghost use Rattle.xml_model.specs.Forest.{IsForest};
-    ghost use Rattle.xml_model.specs.TreeNodes.{node_of_id};
+    ghost use Rattle.xml_model.specs.TreeNodes.{name_at, node_of_id};
 
     type Fault = Broken;
 
@@ -254,6 +255,10 @@ impl<'a> Nav for Failing<'a> {
 
     ghost few = { λ f n. Prim.omega arith };
 
+    ghost named = { λ f a b honest same. ap (name_at f.nav) same };
+
+    ghost same = { λ f. same_number f.nav };
+
     ghost valid = { λ f honest. honest };
 }
 
@@ -287,11 +292,14 @@ fn a_fault_is_handed_on(rt: HostRuntime) -> Result<(), Fail> {
 }
 
 fn check_nodes(rt: &(impl Abort + Print), found: Result<IdList, NavEnd<NoFault>>, want: &[u32]) {
-    if let Ok(all) = found {
-        assert_eq!(rt; all.len(), want.len());
-        for (n, node) in all.as_slice().iter().zip(want) {
-            assert_eq!(rt; *n, id(1, *node));
+    match found {
+        Ok(all) => {
+            assert_eq!(rt; all.len(), want.len());
+            for (n, node) in all.as_slice().iter().zip(want) {
+                assert_eq!(rt; *n, id(1, *node));
+            }
         }
+        Err(_) => assert!(rt; false),
     }
 }
 
@@ -326,8 +334,9 @@ fn string_values(rt: HostRuntime) -> Result<(), Fail> {
     let docs = two_documents(alloc)?;
     let nav = TreeNav::of(&docs)?;
     for (n, want) in [(0, "87"), (1, "87"), (3, ""), (4, "7"), (5, "w"), (7, "7")] {
-        if let Ok(text) = string_value(alloc, &nav, id(1, n)) {
-            assert_eq!(rt; text.as_str(), want);
+        match string_value(alloc, &nav, id(1, n)) {
+            Ok(text) => assert_eq!(rt; text.as_str(), want),
+            Err(_) => assert!(rt; false),
         }
     }
     Ok(())

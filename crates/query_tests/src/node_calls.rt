@@ -163,30 +163,33 @@ fn answered(answer: Result<Content, EvalEnd<NoFault>>) -> Result<Content, NoMemo
 
 // ---- order
 
+fn check_order(rt: &(impl Abort + Print), nav: &TreeNav, a: &NodeId, b: &NodeId, want: Ordering) {
+    assert_eq!(rt; node_order(nav, a, b).ok(), Some(want));
+}
+
 #[test]
 fn stored_nodes_are_before_constructed_ones(rt: HostRuntime) -> Result<(), Fail> {
     let alloc = rt.alloc();
     let docs = one_document(alloc)?;
     let nav = TreeNav::of(&docs)?;
     let root = constructed(alloc, 0, &[])?;
+    check_order(&rt, &nav, &stored(2), &stored(5), Ordering::Less);
+    check_order(&rt, &nav, &stored(6), &root, Ordering::Less);
+    check_order(&rt, &nav, &root, &stored(6), Ordering::Greater);
+    Ok(())
+}
+
+#[test]
+fn constructed_nodes_are_in_order(rt: HostRuntime) -> Result<(), Fail> {
+    let alloc = rt.alloc();
+    let docs = one_document(alloc)?;
+    let nav = TreeNav::of(&docs)?;
     let kid = constructed(alloc, 0, &[PlaceStep::Kid(0)])?;
     let attr = constructed(alloc, 0, &[PlaceStep::Attr(0)])?;
     let later = constructed(alloc, 1, &[])?;
-    assert_eq!(rt;
-        node_order(&nav, &stored(2), &stored(5)).ok(),
-        Some(Ordering::Less)
-    );
-    assert_eq!(rt;
-        node_order(&nav, &stored(6), &root).ok(),
-        Some(Ordering::Less)
-    );
-    assert_eq!(rt;
-        node_order(&nav, &later, &stored(6)).ok(),
-        Some(Ordering::Greater)
-    );
-    assert_eq!(rt; node_order(&nav, &attr, &kid).ok(), Some(Ordering::Less));
-    assert_eq!(rt; node_order(&nav, &kid, &later).ok(), Some(Ordering::Less));
-    assert_eq!(rt; node_order(&nav, &kid, &kid).ok(), Some(Ordering::Equal));
+    check_order(&rt, &nav, &attr, &kid, Ordering::Less);
+    check_order(&rt, &nav, &kid, &later, Ordering::Less);
+    check_order(&rt, &nav, &kid, &kid, Ordering::Equal);
     Ok(())
 }
 

@@ -21,10 +21,12 @@ use Rattle.redo_log.specs.Reading.{◌>>=◌, last_in, check, is_name, is_next_n
 use Rattle.redo_log.specs.Taken.{IsEntryTaken, AreNamesTaken, IsPageTaken, ArePagesTaken, IsTaken, AreTaken}
 use Rattle.redo_log.proofs.Takes.{entry_2, entry_3, entry_4, entry_5, name_1, name_2, name_3, name_4, name_5, name_7, id_1, id_2, id_3, id_4, id_5, page_1, page_2, page_3, page_5, body_1, body_2, body_3, body_4, body_5, body_6, record_1, record_2, record_3, record_4}
 
-bind_is : {A B : Type 0} (r : Result A ℕ) (f : A → Result B ℕ) (x : A) → r ≡ Ok x → (r >>= f) ≡ f x
+-- a step goes on with the value of the first part, where that is known
+pub bind_is : {A B : Type 0} (r : Result A ℕ) (f : A → Result B ℕ) (x : A) → r ≡ Ok x → (r >>= f) ≡ f x
 bind_is {A = A} {B = B} r f x e = ap (λ (z : Result A ℕ). z >>= f) e
 
-check_is : (b : Bool) (n : ℕ) → b ≡ true → check b n ≡ Ok tt
+-- a test that holds lets what follows go on
+pub check_is : (b : Bool) (n : ℕ) → b ≡ true → check b n ≡ Ok tt
 check_is b n e = ap (λ (z : Bool). check z n) e
 
 both_true : (a b : Bool) → a ≡ true → b ≡ true → (a && b) ≡ true
@@ -40,22 +42,26 @@ text_number text n rest long is =
     let enough : ltb (length (text ++ rest)) 8 ≡ false = le-ltb _ _ (omega (arith, long, length-append text rest)) in
     rw (enough, take_at text rest 8 long, drop_at text rest 8 long, is) refl
 
-number_again : (n : ℕ) (rest : List ℕ) → n < 2 ^ 64 → number_at (number n ++ rest) ≡ Ok (n, rest)
+-- a number of 64 bits, spelled before any bytes, is read again
+pub number_again : (n : ℕ) (rest : List ℕ) → n < 2 ^ 64 → number_at (number n ++ rest) ≡ Ok (n, rest)
 unfolding number number_in
 number_again n rest lt = text_number (to_be_bytes w64 n) n rest refl (from_be_bytes-to_be_bytes_8 n lt)
 
-bytes_again : (n : ℕ) (text rest : List ℕ) → length text ≡ n → bytes_at n (text ++ rest) ≡ Ok (text, rest)
+-- so many bytes, before any others, are read again
+pub bytes_again : (n : ℕ) (text rest : List ℕ) → length text ≡ n → bytes_at n (text ++ rest) ≡ Ok (text, rest)
 bytes_again n text rest long =
     let enough : ltb (length (text ++ rest)) n ≡ false = le-ltb _ _ (omega (arith, long, length-append text rest)) in
     rw (enough, take_at text rest n long, drop_at text rest n long) refl
 
 -- ---- names
 
-form_small : (b : Bool) → nat_lt (form_byte b) 2 ≡ true
+-- a form is spelled as 0 or 1
+pub form_small : (b : Bool) → nat_lt (form_byte b) 2 ≡ true
 form_small true = refl
 form_small false = refl
 
-form_back : (b : Bool) → (form_byte b == 1) ≡ b
+-- a form that is spelled is known again
+pub form_back : (b : Bool) → (form_byte b == 1) ≡ b
 form_back true = refl
 form_back false = refl
 
@@ -121,7 +127,8 @@ names_again (n ∷ ns) commit done s rest h =
 -- ---- pages
 
 module _ (before : List PageChange) (s : Store) where
-  id_again : (id : PageId) (rest : List ℕ) → id.space.commit < 2 ^ 64 → id.space.ordinal < 2 ^ 64 → id.number < 2 ^ 64
+  -- a page's place that may come next, in a document's space, is read again as it is spelled
+  pub id_again : (id : PageId) (rest : List ℕ) → id.space.commit < 2 ^ 64 → id.space.ordinal < 2 ^ 64 → id.number < 2 ^ 64
       → (is_next_commit (last_in before) id.space.commit && has_commit s.spaces id.space.commit) ≡ true
       → (is_next_space (last_in before) id.space && has_space s.spaces id.space) ≡ true → is_next_page (last_in before) id ≡ true
       → id_at (last_in before) s.spaces (number id.space.commit ++ (number id.space.ordinal ++ (number id.number ++ rest))) ≡ Ok (id, rest)

@@ -14,3 +14,10 @@ pub mod Alike
 pub mod Own
 pub mod SpaceKeys
 pub mod BySpace
+pub mod RecordsFound
+pub mod HeadAgain
+pub mod HeadTakes
+pub mod LogTakes
+pub mod Counts
+pub mod OpensBy
+pub mod OpenedRows

@@ -28,7 +28,7 @@ bytes_small : (bytes : List ℕ) → IsBytes bytes → from_be_bytes w64 bytes <
 bytes_small bytes fits = omega (arith, fits 0, fits 1, fits 2, fits 3, fits 4, fits 5, fits 6, fits 7)
 
 -- a number that was read has eight bytes
-number_small : (bytes : List ℕ) (x : ℕ × List ℕ) → IsBytes bytes → number_at bytes ≡ Ok x → x.0 < 2 ^ 64
+pub number_small : (bytes : List ℕ) (x : ℕ × List ℕ) → IsBytes bytes → number_at bytes ≡ Ok x → x.0 < 2 ^ 64
 unfolding number_in
 number_small bytes x fits e =
     let g = guard_ok (ltb (length bytes) 8) (length bytes) (from_be_bytes w64 (take 8 bytes), drop 8 bytes) x e in
@@ -40,7 +40,8 @@ number_small bytes x fits e =
     IsBytes-front (suc n) (b ∷ bytes) fits zero = fits 0
     IsBytes-front (suc n) (b ∷ bytes) fits (suc i) = IsBytes-front n bytes (λ k. fits (suc k)) i
 
-byte_small : (bytes : List ℕ) (x : ℕ × List ℕ) → IsBytes bytes → byte_at bytes ≡ Ok x → x.0 < 256
+-- a byte that was read is one
+pub byte_small : (bytes : List ℕ) (x : ℕ × List ℕ) → IsBytes bytes → byte_at bytes ≡ Ok x → x.0 < 256
 byte_small bytes x fits e = subst (λ (l : List ℕ). get_or l 0 0 < 256) (byte_is bytes x.0 x.1 e) (fits 0)
 
 -- ---- names
@@ -123,16 +124,18 @@ names_taken commit (suc n) done s bytes x fits e =
 
 -- ---- pages
 
-record IsIdTaken (last : Option PageChange) (spaces : Spaces) (id : PageId) : Type 0 where
-  commit : id.space.commit < 2 ^ 64
-  ordinal : id.space.ordinal < 2 ^ 64
-  number : id.number < 2 ^ 64
-  from : IsTrue (is_next_commit last id.space.commit && has_commit spaces id.space.commit)
-  own : IsTrue (is_next_space last id.space && has_space spaces id.space)
-  next : IsTrue (is_next_page last id)
+-- a page's place after the last page: its numbers fit, its space is a document's, and it comes next
+pub record IsIdTaken (last : Option PageChange) (spaces : Spaces) (id : PageId) : Type 0 where
+  pub commit : id.space.commit < 2 ^ 64
+  pub ordinal : id.space.ordinal < 2 ^ 64
+  pub number : id.number < 2 ^ 64
+  pub from : IsTrue (is_next_commit last id.space.commit && has_commit spaces id.space.commit)
+  pub own : IsTrue (is_next_space last id.space && has_space spaces id.space)
+  pub next : IsTrue (is_next_page last id)
 
 module _ (last : Option PageChange) (spaces : Spaces) (bytes : List ℕ) where
-  id_taken : (x : PageId × List ℕ) → IsBytes bytes → id_at last spaces bytes ≡ Ok x → IsIdTaken last spaces x.0
+  -- a page's place that is read is one that the store takes
+  pub id_taken : (x : PageId × List ℕ) → IsBytes bytes → id_at last spaces bytes ≡ Ok x → IsIdTaken last spaces x.0
   unfolding id_at
   id_taken x fits e =
       let c = bind_ok (number_at bytes) (id_5 last spaces bytes) x e in
@@ -231,7 +234,8 @@ module _ (s : Store) (bytes : List ℕ) where
         pages = subst (ArePagesTaken [] (after_names names.0.0 s)) (sym p.1) p.3;
       }
 
-both_true : (a b : Bool) → a ≡ true → b ≡ true → (a && b) ≡ true
+-- both hold, and so does one and the other
+pub both_true : (a b : Bool) → a ≡ true → b ≡ true → (a && b) ≡ true
 both_true true b e h = h
 both_true false b e h = e
 

@@ -101,7 +101,8 @@ bytes_take n bytes text rest fits e =
 
 -- ---- names
 
-form_is : (b : ℕ) → nat_lt b 2 ≡ true → form_byte (b == 1) ≡ b
+-- a byte below 2 is the form that it stands for
+pub form_is : (b : ℕ) → nat_lt b 2 ≡ true → form_byte (b == 1) ≡ b
 form_is zero lt = refl
 form_is (suc zero) lt = refl
 form_is (suc (suc b)) lt = absurd (omega (arith, ltb-true _ _ lt))

@@ -16,7 +16,7 @@ use Rattle.xq_ast.specs.declared.refusal.PyxRefusal.TheVariants as refusals
 use Rattle.xq_ast.specs.declared.code.SpentKind.{SpentKind}
 use Rattle.xq_ast.specs.declared.code.SpentKind.TheVariants as kinds
 use Rattle.xq_ast.specs.declared.code.Code.{Code}
-use Rattle.xq_ast.specs.declared.code.Code.TheVariants.{XPST0003, XPST0008, XPST0017, XPDY0002, XPTY0004, XPTY0019, XPTY0020, XQTY0024, XQDY0025, FOAR0001, FOAR0002, FODC0002, FORG0001, FORG0006, TooLong, NestedTooDeep, BadName, NoTransaction, InTransaction, ReadOnly, Updating, Exists, TooDeep, TooManyNodes, TooMuchText, TooManyItems, ReplyTooLong, NoMemory, NotBuilt, Failed, InDoubt, Pyx, Spent, Damaged}
+use Rattle.xq_ast.specs.declared.code.Code.TheVariants.{XPST0003, XPST0008, XPST0017, XPDY0002, XPTY0004, XPTY0019, XPTY0020, XQTY0024, XQDY0025, FOAR0001, FOAR0002, FODC0002, FORG0001, FORG0006, TooLong, NestedTooDeep, BadName, NoTransaction, InTransaction, ReadOnly, Updating, Exists, TooDeep, TooManyNodes, TooMuchText, TooManyItems, ReplyTooLong, NoMemory, Failed, InDoubt, Pyx, Spent, Damaged}
 use Rattle.xq_ast.specs.declared.need.LockMode.{LockMode}
 use Rattle.xq_ast.specs.declared.need.LockMode.TheVariants.{S, X}
 use Rattle.xq_ast.specs.declared.need.Need.{Need}
@@ -256,7 +256,6 @@ one_line_code TooMuchText small = one_line_simple _ refl
 one_line_code TooManyItems small = one_line_simple _ refl
 one_line_code ReplyTooLong small = one_line_simple _ refl
 one_line_code NoMemory small = one_line_simple _ refl
-one_line_code NotBuilt small = one_line_simple _ refl
 one_line_code (Failed mark) small = one_line_simple _ refl
 one_line_code (InDoubt mark) small = one_line_simple _ refl
 

@@ -18,11 +18,13 @@ use Rattle.xml_model.specs.Forest.{Forest}
 use Rattle.xml_model.specs.Needs.{needs, has_exclusive}
 use Rattle.xml_model.specs.Pyx.{Line, read, pyx, text_of}
 use Rattle.xml_model.specs.Items.{Documents, Items, Made}
+use Rattle.xml_model.specs.Edits.{updated}
 use Rattle.xml_model.specs.Evaluation.{eval}
 use Rattle.xml_model.specs.ItemLines.{lines_of}
 use Rattle.xml_model.specs.QueryCodes.{is_query_code}
 use Rattle.xml_model.proofs.QueryTrees.{ends_coded}
-use Rattle.xml_model.specs.Statement.{name_lines, said_by, is_statement, stmt, error, lines, answer_of, added_where_free, dropped, exported}
+use Rattle.xml_model.proofs.UpdateCodes.{update_ends_coded}
+use Rattle.xml_model.specs.Statement.{name_lines, said_by, is_statement, stmt, error, lines, answer_of, added_where_free, dropped, exported, changed}
 use Rattle.session_core.specs.declared.history.event.BeginKind.{BeginKind}
 use Rattle.session_core.specs.declared.history.event.BeginKind.TheVariants as kinds
 use Rattle.session_core.specs.declared.history.event.State.{State}
@@ -109,7 +111,6 @@ plain_marks x call code past is = (tt, tt)
 abbrev tells_code : Code → Bool
 tells_code codes.Exists = true
 tells_code codes.ReplyTooLong = true
-tells_code codes.NotBuilt = true
 tells_code (codes.Pyx why line) = true
 tells_code code = is_query_code code
 
@@ -140,7 +141,6 @@ exported_tells None = refl
 query_code_tells : (code : Code) → IsTrue (is_query_code code) → tells_code code ≡ true
 query_code_tells codes.Exists is = refl
 query_code_tells codes.ReplyTooLong is = refl
-query_code_tells codes.NotBuilt is = refl
 query_code_tells (codes.Pyx why line) is = refl
 query_code_tells code is = is
 
@@ -148,6 +148,11 @@ said_tells : (docs : Documents) (r : Result (Items × Made) Code) → ((code : C
     → tells (says_of (said_by docs r)) ≡ true
 said_tells docs (Ok found) coded = lines_tell (lines_of docs found.1 found.0)
 said_tells docs (Err code) coded = query_code_tells code (coded code refl)
+
+-- an update is done, or ends with such a code
+changed_tells : (r : Result Forest Code) (F : Forest) → ((code : Code) → r ≡ Err code → IsTrue (is_query_code code)) → tells (says_of (changed r F).says) ≡ true
+changed_tells (Ok G) F coded = refl
+changed_tells (Err code) F coded = query_code_tells code (coded code refl)
 
 -- a statement's answer is done, lines or one of the codes that the documents decide
 pub stmt_tells : (F : Forest) (call : Call) → tells (says_of (stmt F call).says) ≡ true
@@ -161,7 +166,7 @@ stmt_tells F (Create name) = added_tells (forests.get F name) name (Ok (record {
 stmt_tells F (Drop name) = dropped_tells (forests.get F name) name F
 stmt_tells F (Load name pyx_lines) = added_tells (forests.get F name) name (read pyx_lines) F
 stmt_tells F (Export name) = exported_tells (forests.get F name)
-stmt_tells F (Update what) = refl
+stmt_tells F (Update what) = changed_tells (updated F what) F (update_ends_coded F what)
 stmt_tells F (Query expr) = said_tells (forests.get F) (eval F expr) (ends_coded F expr)
 
 -- a code with which a query ends may be told by the documents
@@ -192,7 +197,6 @@ tells_told (says.Error code) is = by_code code is
     by_code : (code : Code) → tells_code code ≡ true → is_told (says.Error code) ≡ true
     by_code codes.Exists is = refl
     by_code codes.ReplyTooLong is = refl
-    by_code codes.NotBuilt is = refl
     by_code (codes.Pyx why line) is = refl
     by_code code is = query_code_told code is
 tells_told answer is = absurd (true≢false (sym is))

@@ -220,7 +220,6 @@ apart_code codes.TooMuchText e = absurd (true≢false (sym e))
 apart_code codes.TooManyItems e = absurd (true≢false (sym e))
 apart_code codes.ReplyTooLong e = absurd (true≢false (sym e))
 apart_code codes.NoMemory e = refl
-apart_code codes.NotBuilt e = absurd (true≢false (sym e))
 apart_code (codes.Failed mark) e = refl
 apart_code (codes.InDoubt mark) e = absurd (true≢false (sym e))
 apart_code (codes.Pyx why line) e = absurd (true≢false (sym e))

@@ -9,7 +9,7 @@ use Rattle.xml_model.specs.Forest.{Forest}
 use Rattle.xml_model.specs.Needs.{needs, has_exclusive, AgreeAt}
 use Rattle.xq_ast.specs.Modes.{is_exclusive}
 use Rattle.xml_model.specs.Statement.{stmt}
-use Rattle.xml_model.proofs.Framing.{keeps}
+use Rattle.xml_model.proofs.CallFrame.{keeps}
 use Rattle.session_core.specs.declared.history.event.BeginKind.{BeginKind}
 use Rattle.session_core.specs.declared.history.event.BeginKind.TheVariants as kinds
 use Rattle.session_core.specs.History.Transactions.{Transaction, Ran, run_calls, ran_all, serial, updating, where_updating, says_of, AnsweredInTurn}

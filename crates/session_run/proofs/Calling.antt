@@ -38,7 +38,7 @@ use Rattle.session_run.proofs.Memory.{ran_right}
 use Rattle.session_run.specs.Called.{behind_grant}
 use Rattle.session_run.proofs.Closing.{follows_grant}
 use Rattle.xml_model.specs.Changes.{ChangeMap, no_changes, laid_over}
-use Rattle.session_run.specs.Effects.{with_change, IsEffect}
+use Rattle.session_run.specs.Effects.{with_changes, IsEffect}
 use Rattle.session_run.specs.Tied.{AreChangesOf, IsTied, IsReady}
 use Rattle.xml_model.proofs.Laying.{laid-none}
 use Rattle.session_run.proofs.Tying.{MakesOf, agree_itself, tied_granted, tied_answered}
@@ -192,11 +192,11 @@ module _ (B : Base) (s : ℕ) (before : List Event) (changes : ChangeMap) (tied 
         (agree_of t.locks (newest B before) G agree)
 
     -- and its changes are tied after the answer
-    pub tied_effect : IsTied B s (with_change effect.change changes) (answered s (Some call) effect.says ∷ before)
+    pub tied_effect : IsTied B s (with_changes effect.changes changes) (answered s (Some call) effect.says ∷ before)
     tied_effect = let o = opened (open_of s before) is in
         let are : updating (open_of s before) ≡ o.transaction ∷ [] = updating_is (open_of s before) o.transaction o.is o.kind_is in
-        tied_answered B s before (record { call = Some call; says = effect.says }) changes (with_change effect.change changes)
-        (subst (MakesOf B s before (record { call = Some call; says = effect.says }) changes (with_change effect.change changes)) (sym are)
+        tied_answered B s before (record { call = Some call; says = effect.says }) changes (with_changes effect.changes changes)
+        (subst (MakesOf B s before (record { call = Some call; says = effect.says }) changes (with_changes effect.changes changes)) (sym are)
         (λ G agree. ap (run_calls (laid_over changes G)) ran_alone ∙ sym (so.leaves G (agree_call o.transaction o.is o.kind_is G agree)))) tied
 
 -- a session whose locks were granted

@@ -9,3 +9,7 @@ pub mod Untouched
 pub mod Outcomes
 pub mod Plain
 pub mod QueryLines
+pub mod Laid
+pub mod Updates
+pub mod Remaking
+pub mod Asked

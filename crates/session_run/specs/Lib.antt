@@ -5,3 +5,4 @@ pub mod Called
 pub mod Answers
 pub mod Sessions
 pub mod Outcomes
+pub mod Updates

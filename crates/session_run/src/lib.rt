@@ -22,6 +22,7 @@ mod session;
 mod statement;
 mod table;
 mod transaction;
+mod update;
 
 pub use outcome::Outcome;
 pub use session::Session;

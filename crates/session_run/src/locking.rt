@@ -12,12 +12,12 @@ ghost use Rattle.session_core.specs.History.Transactions.{newest};
 ghost use Rattle.session_run.specs.Called.{AddsClosing, ClosesRead, LeavesRead};
 ghost use Rattle.session_run.specs.Outcomes.{EndsWith};
 ghost use Rattle.session_run.specs.Calls.{HasPlainLines};
-ghost use Rattle.session_run.specs.Effects.{IsEffect, IsValidChange};
+ghost use Rattle.session_run.specs.Effects.{AreValidChanges, IsEffect};
 ghost use Rattle.xq_ast.specs.GoodNames.{has_good_names};
 ghost use Rattle.session_run.specs.Tied.{IsTied, IsReady};
 
 use crate::answering::{answer, answer_unchanged};
-use crate::changes::Change;
+use crate::changes::put_all;
 use crate::outcome::Outcome;
 use crate::statement::{Effect, effect_of};
 use doc_locks::AskEnd;
@@ -49,7 +49,7 @@ fn read(
     }
 }
 
-// Answers a statement, and keeps its change.
+// Answers a statement, and keeps its changes.
 fn keep(
     core: &mut Core,
     session: u32,
@@ -59,7 +59,7 @@ fn keep(
 ) -> Result<Outcome, NoMemory>
     requires effect { IsEffect call changes.old.changes (newest core.old.base (past core.old)) effect }
     requires plain { HasPlainLines effect.says }
-    requires valid { IsValidChange effect.change }
+    requires valid { AreValidChanges effect.changes }
     requires tied { IsTied core.old.base session changes.old.changes (past core.old) }
     requires settled { in_doubt (past core.old) ≡ None }
     requires updating { state_of session (past core.old) ≡ State.Updating }
@@ -73,19 +73,16 @@ fn keep(
     ensures err { OnErr result (core.new ≡ core.old) }
     ensures same { OnErr result (changes.new.changes ≡ changes.old.changes) }
 {
-    if changes.reserve().is_err() {
+    let Effect {
+        says,
+        changes: more,
+    } = effect;
+    if changes.reserve(more.len()).is_err() {
         return answer_unchanged(core, session, call, Says::Error(Code::NoMemory));
     }
-    let Effect { says, change } = effect;
     let outcome = answer(core, session, Some(call), says)?;
-    match change {
-        Some(change) => {
-            let Change { name, after } = change;
-            changes.put(name, after);
-            Ok(outcome)
-        }
-        None => Ok(outcome),
-    }
+    put_all(changes, more);
+    Ok(outcome)
 }
 
 // Closes a statement whose locks were granted, or that needs none, by the documents that it sees.

@@ -2,11 +2,11 @@
 ghost use Rattle.std.specs.Prelude.{◌≡◌, IfOk, IsTrue};
 ghost use Rattle.session_core.specs.History.Transactions.{says_of};
 ghost use Rattle.session_run.specs.Calls.{HasPlainLines};
-ghost use Rattle.session_run.specs.Effects.{IsEffect, IsValidChange};
+ghost use Rattle.session_run.specs.Effects.{AreValidChanges, IsEffect};
 ghost use Rattle.xml_model.specs.Statement.{query_answer};
 ghost use Rattle.xq_ast.specs.GoodNames.{are_good_in};
 
-use crate::statement::Effect;
+use crate::statement::{Effect, unchanged};
 use session_core::Says;
 use std::alloc::Global;
 use xml_model::{DocChanges, DocMap, TreeNav, needs};
@@ -40,13 +40,10 @@ pub(crate) fn query(
     requires call { call.now ≡ Call.Query expr.now }
     requires named { IsTrue (are_good_in expr.now) }
     ensures effect { IfOk result (IsEffect call.now changes.now.changes base.now) }
-    ensures valid { IfOk result (λ effect. IsValidChange effect.change) }
+    ensures valid { IfOk result (λ effect. AreValidChanges effect.changes) }
     ensures plain { IfOk result (λ effect. HasPlainLines effect.says) }
 {
     let needed = needs(alloc, call)?;
     let docs = base.needed(changes, &needed)?;
-    Ok(Effect {
-        says: answer_of(alloc, &docs, expr)?,
-        change: None,
-    })
+    Ok(unchanged(alloc, answer_of(alloc, &docs, expr)?))
 }

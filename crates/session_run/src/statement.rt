@@ -1,5 +1,5 @@
 //! One statement over the documents that a session sees.
-ghost use Rattle.std.specs.Prelude.{◌≡◌, IfOk, map as list_map, ◌∷◌, length, nat_lt, None, IsTrue};
+ghost use Rattle.std.specs.Prelude.{◌≡◌, IfOk, IfSome, map as list_map, [], ◌∷◌, length, nat_lt, IsTrue};
 ghost use Rattle.xml_model.specs.Statement.{answer_of};
 ghost use Rattle.xml_model.specs.Pyx.{ArePlain, read, text_of};
 ghost use Rattle.session_core.specs.History.Transactions.{says_of};
@@ -7,10 +7,12 @@ ghost use Rattle.xq_ast.specs.Names.{is_document_name};
 ghost use Rattle.xq_ast.specs.GoodNames.{has_good_names};
 ghost use Rattle.xml_model.specs.Document.{IsValid};
 ghost use Rattle.session_run.specs.Calls.{HasPlainLines};
-ghost use Rattle.session_run.specs.Effects.{IsEffect, IsPut, IsValidChange, Spells};
+ghost use Rattle.xml_model.specs.Changes.{unshared};
+ghost use Rattle.session_run.specs.Effects.{AreValidChanges, IsChanged, IsEffect, IsPut, Spells};
 
-use crate::changes::Change;
+use crate::changes::{Change, ChangeList};
 use crate::query::query;
+use crate::update::update;
 use pyx_text::{PyxFault, PyxReader, lines_of};
 use session_core::Says;
 use std::alloc::Global;
@@ -18,21 +20,47 @@ use std::sync::Arc;
 use xml_model::{Doc, DocChanges, DocMap, REPLY_BYTES_MAX};
 use xq_ast::{Call, Code, Items, NoMemory, Sequence, Str, StrList};
 
-/// What a statement says, and the change that it makes, if any.
+/// What a statement says, and the changes that it makes.
 #[derive(Drop)]
 pub(crate) struct Effect {
     pub says: Says,
-    pub change: Option<Change>,
+    pub changes: ChangeList,
 }
 
-fn refused(code: Code) -> Effect
-    ensures says { result.says ≡ Says.Error code }
-    ensures change { result.change ≡ None }
+/// An answer that changes nothing.
+pub(crate) fn unchanged(alloc: Global, says: Says) -> Effect
+    ensures says { result.says ≡ says }
+    ensures changes { result.changes ≡ [] }
 {
     Effect {
-        says: Says::Error(code),
-        change: None,
+        says,
+        changes: Sequence::new(alloc),
     }
+}
+
+fn refused(alloc: Global, code: Code) -> Effect
+    ensures says { result.says ≡ Says.Error code }
+    ensures changes { result.changes ≡ [] }
+{
+    unchanged(alloc, Says::Error(code))
+}
+
+// The name gets this document, or loses the one that it has.
+fn changed(alloc: Global, name: &Str, after: Option<Arc<Doc>>) -> Result<Effect, NoMemory>
+    requires named { IsTrue (is_document_name name.now) }
+    requires valid { IfSome (unshared after) IsValid }
+    ensures changed { IfOk result (IsChanged name.now (unshared after)) }
+    ensures valid { IfOk result (λ effect. AreValidChanges effect.changes) }
+{
+    let mut changes = Sequence::new(alloc);
+    changes.push(Change {
+        name: name.copy()?,
+        after,
+    })?;
+    Ok(Effect {
+        says: Says::Done,
+        changes,
+    })
 }
 
 // Whether the lines with their newlines have more bytes than an answer may have.
@@ -79,17 +107,11 @@ fn put(alloc: Global, name: &Str, doc: Doc) -> Result<Effect, NoMemory>
     requires named { IsTrue (is_document_name name.now) }
     requires valid { IsValid doc }
     ensures put { IfOk result (IsPut name.now doc) }
-    ensures valid { IfOk result (λ effect. IsValidChange effect.change) }
+    ensures valid { IfOk result (λ effect. AreValidChanges effect.changes) }
     ensures plain { IfOk result (λ effect. HasPlainLines effect.says) }
 {
     let after = Arc::new(alloc, doc)?;
-    Ok(Effect {
-        says: Says::Done,
-        change: Some(Change {
-            name: name.copy()?,
-            after: Some(after),
-        }),
-    })
+    changed(alloc, name, Some(after))
 }
 
 fn create(
@@ -100,11 +122,11 @@ fn create(
 ) -> Result<Effect, NoMemory>
     requires named { IsTrue (is_document_name name.now) }
     ensures effect { IfOk result (IsEffect (Call.Create name.now) changes.now.changes base.now) }
-    ensures valid { IfOk result (λ effect. IsValidChange effect.change) }
+    ensures valid { IfOk result (λ effect. AreValidChanges effect.changes) }
     ensures plain { IfOk result (λ effect. HasPlainLines effect.says) }
 {
     match changes.seen(base, name) {
-        Some(_) => Ok(refused(Code::Exists)),
+        Some(_) => Ok(refused(alloc, Code::Exists)),
         None => put(
             alloc,
             name,
@@ -124,37 +146,39 @@ fn load(
 ) -> Result<Effect, NoMemory>
     requires named { IsTrue (is_document_name name.now) }
     ensures effect { IfOk result (IsEffect (Call.Load name.now lines.now) changes.now.changes base.now) }
-    ensures valid { IfOk result (λ effect. IsValidChange effect.change) }
+    ensures valid { IfOk result (λ effect. AreValidChanges effect.changes) }
     ensures plain { IfOk result (λ effect. HasPlainLines effect.says) }
 {
     match changes.seen(base, name) {
-        Some(_) => Ok(refused(Code::Exists)),
+        Some(_) => Ok(refused(alloc, Code::Exists)),
         None => match read_lines(alloc, lines) {
             Ok(doc) => put(alloc, name, doc),
-            Err(PyxFault::Refused(line)) => Ok(refused(Code::Pyx {
-                why: line.why,
-                line: line.line,
-            })),
+            Err(PyxFault::Refused(line)) => Ok(refused(
+                alloc,
+                Code::Pyx {
+                    why: line.why,
+                    line: line.line,
+                },
+            )),
             Err(PyxFault::NoMemory) => Err(NoMemory),
         },
     }
 }
 
-fn take_away(base: &DocMap, changes: &DocChanges, name: &Str) -> Result<Effect, NoMemory>
+fn take_away(
+    alloc: Global,
+    base: &DocMap,
+    changes: &DocChanges,
+    name: &Str,
+) -> Result<Effect, NoMemory>
     requires named { IsTrue (is_document_name name.now) }
     ensures effect { IfOk result (IsEffect (Call.Drop name.now) changes.now.changes base.now) }
-    ensures valid { IfOk result (λ effect. IsValidChange effect.change) }
+    ensures valid { IfOk result (λ effect. AreValidChanges effect.changes) }
     ensures plain { IfOk result (λ effect. HasPlainLines effect.says) }
 {
     match changes.seen(base, name) {
-        Some(_) => Ok(Effect {
-            says: Says::Done,
-            change: Some(Change {
-                name: name.copy()?,
-                after: None,
-            }),
-        }),
-        None => Ok(refused(Code::FODC0002)),
+        Some(_) => changed(alloc, name, None),
+        None => Ok(refused(alloc, Code::FODC0002)),
     }
 }
 
@@ -166,15 +190,12 @@ fn export(
     name: &Str,
 ) -> Result<Effect, NoMemory>
     ensures effect { IfOk result (IsEffect (Call.Export name.now) changes.now.changes base.now) }
-    ensures valid { IfOk result (λ effect. IsValidChange effect.change) }
+    ensures valid { IfOk result (λ effect. AreValidChanges effect.changes) }
     ensures plain { IfOk result (λ effect. HasPlainLines effect.says) }
 {
     match changes.seen(base, name) {
-        Some(doc) => Ok(Effect {
-            says: answer_with(lines_of(alloc, doc)?),
-            change: None,
-        }),
-        None => Ok(refused(Code::FODC0002)),
+        Some(doc) => Ok(unchanged(alloc, answer_with(lines_of(alloc, doc)?))),
+        None => Ok(refused(alloc, Code::FODC0002)),
     }
 }
 
@@ -194,21 +215,18 @@ fn name_lines(alloc: Global, names: &StrList) -> Result<StrList, NoMemory>
 #[tactic(auto, using(crate::proofs::Plain::plain_names))]
 fn show(alloc: Global, base: &DocMap, changes: &DocChanges) -> Result<Effect, NoMemory>
     ensures effect { IfOk result (IsEffect Call.ShowDocuments changes.now.changes base.now) }
-    ensures valid { IfOk result (λ effect. IsValidChange effect.change) }
+    ensures valid { IfOk result (λ effect. AreValidChanges effect.changes) }
     ensures plain { IfOk result (λ effect. HasPlainLines effect.says) }
 {
     let docs = base.with_changes(changes)?;
     // Hands out that each name is a document's name, which has no newline.
     docs.is_forest();
     let names = docs.names()?;
-    Ok(Effect {
-        says: answer_with(name_lines(alloc, &names)?),
-        change: None,
-    })
+    Ok(unchanged(alloc, answer_with(name_lines(alloc, &names)?)))
 }
 
 /// What the call says over these documents with the changes laid over them, and what it changes.
-/// A call that is no statement is done and changes nothing. Updates are answered with `NotBuilt`.
+/// A call that is no statement is done and changes nothing.
 pub(crate) fn effect_of(
     alloc: Global,
     base: &DocMap,
@@ -217,22 +235,19 @@ pub(crate) fn effect_of(
 ) -> Result<Effect, NoMemory>
     requires named { IsTrue (has_good_names call.now) }
     ensures effect { IfOk result (IsEffect call.now changes.now.changes base.now) }
-    ensures valid { IfOk result (λ effect. IsValidChange effect.change) }
+    ensures valid { IfOk result (λ effect. AreValidChanges effect.changes) }
     ensures plain { IfOk result (λ effect. HasPlainLines effect.says) }
 {
     match call {
         Call::Create { name } => create(alloc, base, changes, name),
         Call::Load { name, pyx } => load(alloc, base, changes, name, pyx),
-        Call::Drop { name } => take_away(base, changes, name),
+        Call::Drop { name } => take_away(alloc, base, changes, name),
         Call::Export { name } => export(alloc, base, changes, name),
         Call::ShowDocuments => show(alloc, base, changes),
         Call::Query { expr } => query(alloc, base, changes, call, expr),
-        Call::Update { .. } => Ok(refused(Code::NotBuilt)),
+        Call::Update { what } => update(alloc, base, changes, call, what),
         Call::Begin | Call::BeginRead | Call::Commit | Call::Rollback | Call::Checkpoint => {
-            Ok(Effect {
-                says: Says::Done,
-                change: None,
-            })
+            Ok(unchanged(alloc, Says::Done))
         }
     }
 }

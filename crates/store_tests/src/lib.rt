@@ -10,3 +10,5 @@ mod hist_lock_calls;
 mod page_device_calls;
 #[cfg(test)]
 mod redo_log_calls;
+#[cfg(test)]
+mod slot_store_calls;

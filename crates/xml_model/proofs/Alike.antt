@@ -125,7 +125,8 @@ module _ {A : Type 0} (G : A → Type 0) where
   pub fail_alike : (code : Code) → Alike G (fail code) (fail code)
   fail_alike code made = (refl, tt)
 
-  plain_good : (r : Result A Code) (made : Made) → Fine G r → Good G (plain r made)
+  -- a result whose value has the property
+  pub plain_good : (r : Result A Code) (made : Made) → Fine G r → Good G (plain r made)
   plain_good (Ok x) made g = g
   plain_good (Err code) made g = tt
 
@@ -138,6 +139,11 @@ module _ {A : Type 0} (G : A → Type 0) where
   look_alike f f' h made = (ap (λ r. plain r made) (h made).0, plain_good (f made) made (h made).1)
 
 module _ {A B : Type 0} (G : A → Type 0) (H : B → Type 0) where
+  -- a value that has the property gives one that has the next
+  pub good_then : (f : A → Making B) → ((x : A) → G x → (made : Made) → Good H (f x made)) → (r : Result (A × Made) Code) → Good G r → Good H (then_with r f)
+  good_then f h (Ok both) g = h both.0 g both.1
+  good_then f h (Err code) g = tt
+
   then_alike : (f f' : A → Making B) → ((x : A) → G x → Alike H (f x) (f' x)) → (r : Result (A × Made) Code) → Good G r
       → (then_with r f ≡ then_with r f') × Good H (then_with r f)
   then_alike f f' h (Ok both) g = h both.0 g both.1

@@ -33,7 +33,7 @@ use Rattle.xml_model.specs.declared.place.PlaceStep.{PlaceStep}
 use Rattle.xml_model.specs.declared.value.Atom.{Atom}
 use Rattle.xml_model.specs.declared.value.KeyType.{KeyType}
 use Rattle.xq_ast.specs.declared.code.Code.{Code}
-use Rattle.xq_ast.specs.declared.code.Code.TheVariants.{NotBuilt, TooDeep, TooManyNodes, TooMuchText, XPTY0004, XPTY0019, XPTY0020, XQDY0025, XQTY0024}
+use Rattle.xq_ast.specs.declared.code.Code.TheVariants.{XPST0003, TooDeep, TooManyNodes, TooMuchText, XPTY0004, XPTY0019, XPTY0020, XQDY0025, XQTY0024}
 use Rattle.xq_ast.specs.declared.step.Axis.{Axis}
 use Rattle.xq_ast.specs.declared.step.Axis.TheVariants.{DescendantOrSelf}
 use Rattle.xq_ast.specs.declared.step.Test.{Test}
@@ -373,7 +373,7 @@ answer es e = with_lines (spec_lines (forests.get (forest_of es))) (spec.eval (f
 module _ (docs : Documents) (fold : (A : Type 0) → (Node-F A → A) → Node → A) where
   -- the meaning of an expression that is no deeper than the number
   abbrev pub meaning_to : ℕ → Expr → Means
-  meaning_to = run (λ env cx. fail NotBuilt) (spec.bind_step docs) (expr_step docs fold) (start_step docs fold)
+  meaning_to = run (λ env cx. fail XPST0003) (spec.bind_step docs) (expr_step docs fold) (start_step docs fold)
       (spec.product_step docs) (spec.key_step docs) (step_step docs fold) (spec.sum_step docs)
 
   -- and what it answers
@@ -382,7 +382,7 @@ module _ (docs : Documents) (fold : (A : Type 0) → (Node-F A → A) → Node �
 
 -- the meaning is the one that computes, over the same documents and the fold
 same_meaning : (docs : Documents) (n : ℕ) (e : Expr) → fits n e ≡ true → meaning_to docs the_fold n e ≡ spec.meaning docs e
-same_meaning docs = bounded (λ env cx. fail NotBuilt) (spec.bind_step docs) (spec.expr_step docs) (spec.start_step docs)
+same_meaning docs = bounded (λ env cx. fail XPST0003) (spec.bind_step docs) (spec.expr_step docs) (spec.start_step docs)
     (spec.product_step docs) (spec.key_step docs) (spec.step_step docs) (spec.sum_step docs)
 
 -- an answer is what computes, where the number is no less than the depth

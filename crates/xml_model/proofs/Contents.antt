@@ -200,6 +200,14 @@ limited_fine G n g =
     if_fine G (nat_lt DEPTH_MAX (depth_node n)) TooDeep _ (λ _. if_fine G (nat_lt NODES_MAX (count_node n)) TooManyNodes _ (λ _.
     if_fine G (nat_lt TEXT_BYTES_MAX (bytes_node n)) TooMuchText (Ok n) (λ _. g)))
 
+-- the attributes of content have names, and its nodes are well-formed, each by itself
+pub content_formed : (docs : Documents) (made : Made) → AreDocuments docs → Each IsWellFormed made → (items : Items)
+    → Each IsNamed (attributes_of (content_of docs made items)) × AllFormed (children_of (content_of docs made items))
+content_formed docs made d w items =
+    let content = content_of docs made items in
+    let whole = stay_whole (joined_texts (pieces docs made [] items)) (joined_formed _ (pieces_formed docs made d w [] items)) in
+    (attributes_named content whole, children_whole content whole)
+
 -- a new element whose name is a name is well-formed, where documents and trees are
 pub element_formed : (docs : Documents) (made : Made) → AreDocuments docs → Each IsWellFormed made → (name : List ℕ) → IsTrue (is_name name) → (items : Items)
     → Fine (λ n. IsWellFormed (a_node n)) (element name (content_of docs made items))

@@ -7,11 +7,14 @@ use Rattle.xq_ast.specs.Names.{is_document_name}
 use Rattle.xq_ast.specs.GoodNames.{has_good_names}
 use Rattle.xq_ast.specs.declared.call.Call.{Call}
 use Rattle.xq_ast.specs.declared.call.Call.TheVariants.{Begin, BeginRead, Commit, Rollback, Checkpoint, ShowDocuments, Create, Drop, Load, Export, Update, Query}
+use Rattle.xq_ast.specs.declared.code.Code.{Code}
+use Rattle.xq_ast.specs.declared.update.Update.{Update as UpdateCall}
 use Rattle.xml_model.specs.declared.node.Doc.{Doc}
 use Rattle.xml_model.specs.declared.node.RefusedLine.{RefusedLine}
 use Rattle.xml_model.specs.Document.{IsValid}
+use Rattle.xml_model.specs.Edits.{updated}
 use Rattle.xml_model.specs.Forest.{Forest, IsForest}
-use Rattle.xml_model.specs.Statement.{stmt, added_where_free, dropped}
+use Rattle.xml_model.specs.Statement.{stmt, added_where_free, changed, dropped}
 use Rattle.xml_model.specs.Pyx.{read}
 use Rattle.xml_model.proofs.Framing.{get-put, get-beside, get-gone, get-beside-gone}
 use Rattle.xml_model.proofs.ReadIsValid.{read_is_valid}
@@ -45,17 +48,22 @@ dropped_leaves : (name : List ℕ) (o : Option Doc) (F : Forest) → IsForest F 
 dropped_leaves name (Some there) F forest = removed F name forest
 dropped_leaves name None F forest = forest
 
--- a call leaves a forest where it found one, if the names in the call are names of documents
-pub leaves : (F : Forest) (call : Call) → IsForest F → IsTrue (has_good_names call) → IsForest (stmt F call).forest
-leaves F Begin forest named = forest
-leaves F BeginRead forest named = forest
-leaves F Commit forest named = forest
-leaves F Rollback forest named = forest
-leaves F Checkpoint forest named = forest
-leaves F ShowDocuments forest named = forest
-leaves F (Create name) forest named = added_leaves name (forests.get F name) (Ok (record { kids = [] })) F (read_is_valid []) named forest
-leaves F (Drop name) forest named = dropped_leaves name (forests.get F name) F forest
-leaves F (Load name lines) forest named = added_leaves name (forests.get F name) (read lines) F (read_is_valid lines) named forest
-leaves F (Export name) forest named = forest
-leaves F (Update what) forest named = forest
-leaves F (Query expr) forest named = forest
+changed_leaves : (F : Forest) (r : Result Forest Code) → IsForest F → ((G : Forest) → r ≡ Ok G → IsForest G) → IsForest (changed r F).forest
+changed_leaves F (Ok G) forest after = after G refl
+changed_leaves F (Err code) forest after = forest
+
+-- a call leaves a forest where it found one, if the names in the call are names of documents, and an update does
+pub leaves : (F : Forest) (call : Call) → IsForest F → IsTrue (has_good_names call)
+    → ((what : UpdateCall) (G : Forest) → call ≡ Update what → updated F what ≡ Ok G → IsForest G) → IsForest (stmt F call).forest
+leaves F Begin forest named updates = forest
+leaves F BeginRead forest named updates = forest
+leaves F Commit forest named updates = forest
+leaves F Rollback forest named updates = forest
+leaves F Checkpoint forest named updates = forest
+leaves F ShowDocuments forest named updates = forest
+leaves F (Create name) forest named updates = added_leaves name (forests.get F name) (Ok (record { kids = [] })) F (read_is_valid []) named forest
+leaves F (Drop name) forest named updates = dropped_leaves name (forests.get F name) F forest
+leaves F (Load name lines) forest named updates = added_leaves name (forests.get F name) (read lines) F (read_is_valid lines) named forest
+leaves F (Export name) forest named updates = forest
+leaves F (Update what) forest named updates = changed_leaves F (updated F what) forest (λ G. updates what G refl)
+leaves F (Query expr) forest named updates = forest

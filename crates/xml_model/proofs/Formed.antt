@@ -151,7 +151,8 @@ mutual
       list_holds after n (items-the_row-Node _ row) apart.0 (node_holds n h.0) (row_holds _ (is_text n) row apart.1 h.1)
 
 mutual
-  node_of : (n : Node) → IsTrue (sibling n).is_formed → IsFormed n
+  -- a node that passes the test is well-formed
+  pub node_of : (n : Node) → IsTrue (sibling n).is_formed → IsFormed n
   node_of (Element' name attrs s row) h =
       let all = subst (λ x. IsTrue x.is_formed) (element_is name attrs s row) h in
       let rest = second (is_name name) _ all in

@@ -1,6 +1,6 @@
--- Two look-ups of documents, and the trees that both have: constructed ones, and documents on whose names they agree.
+-- Two look-ups of documents, and the trees that both have: constructed ones, and documents that both find, the same.
 -- What a node of such a tree holds, and what its axes find, is the same by both, and is again in such a tree.
-use Rattle.std.specs.Prelude.{◌≡◌, ℕ, pos, Bool, true, false, if◌then◌else◌, List, [], ◌∷◌, ◌++◌, map, filter, not, bytes_eq, codes, Option, None, Some, option_map, unwrap_or, Result, Ok, refl}
+use Rattle.std.specs.Prelude.{◌≡◌, ℕ, pos, Bool, true, false, IsTrue, is_some, if◌then◌else◌, List, [], ◌∷◌, ◌++◌, map, filter, not, bytes_eq, codes, Option, None, Some, option_map, unwrap_or, Result, Ok, refl}
 use Rattle.std.specs.List.{concat}
 use Rattle.std.specs.Fmt.{char_count}
 use Rattle.std.proofs.Common.{ap, ◌∙◌}
@@ -23,7 +23,7 @@ use Rattle.xml_model.proofs.Alike.{Each, each_gives, each_filter, each_map, each
 module _ (docs docs' : Documents) where
   -- a tree that both have
   abbrev pub Known : Tree → Type 0
-  Known (stored name) = docs name ≡ docs' name
+  Known (stored name) = (docs name ≡ docs' name) × IsTrue (is_some (docs name))
   Known (constructed number) = Unit {0}
 
   -- a node in such a tree
@@ -53,7 +53,7 @@ module _ (docs docs' : Documents) where
   -- ---- what a node holds
 
   root_same : (made : Made) (t : Tree) → Known t → tree_root docs made t ≡ tree_root docs' made t
-  root_same made (stored name) k = ap (option_map the_document) k
+  root_same made (stored name) k = ap (option_map the_document) k.0
   root_same made (constructed number) k = refl
 
   -- the same stands at the node

@@ -10,6 +10,7 @@ pub mod Escapes
 pub mod Formed
 pub mod Forests
 pub mod Framing
+pub mod CallFrame
 mod FunctionRows
 pub mod Known
 pub mod Laying
@@ -38,6 +39,11 @@ pub mod QueryForms
 pub mod QueryFrame
 pub mod QueryNeeds
 pub mod Sorting
+pub mod TargetNames
+pub mod UpdateFrame
+pub mod UpdateNeeds
+pub mod UpdateCodes
+pub mod Rebuilding
 pub mod TreeNumbers
 pub mod TreeCalls
 pub mod TreesMade
@@ -49,3 +55,8 @@ pub mod Contents
 pub mod QueryCodes
 pub mod Keeping
 pub mod QueryTrees
+pub mod PlaceTotal
+pub mod RebuildValid
+pub mod UpdateComputing
+mod UpdateRows
+mod LimitRows

@@ -95,7 +95,8 @@ either : (b : Bool) (c : Bool) → c ≡ true → (b || c) ≡ true
 either true c e = refl
 either false c e = e
 
-agree_where : (needs : List Need) (F G : Forest) → ((name : List ℕ) → has_need name needs ≡ true → map.get G name ≡ map.get F name) → AgreeAt needs G F
+-- forests that have the same documents at each name of a list agree at it
+pub agree_where : (needs : List Need) (F G : Forest) → ((name : List ℕ) → has_need name needs ≡ true → map.get G name ≡ map.get F name) → AgreeAt needs G F
 agree_where [] F G same = tt
 agree_where (n ∷ needs) F G same = (
   same n.name (ap (λ b. b || has_need n.name needs) ((bytes_eq-Decides n.name n.name).1 refl)),

@@ -39,11 +39,13 @@ Ends G (Err code) = IsTrue (is_query_code code)
 abbrev pub Coded : {A : Type 0} → Result A Code → Type 0
 Coded = Ends Any
 
-coded_then : {A B : Type 0} (f : A → Result B Code) → ((x : A) → Coded (f x)) → (r : Result A Code) → Coded r → Coded (r >>? f)
+-- one after the other
+pub coded_then : {A B : Type 0} (f : A → Result B Code) → ((x : A) → Coded (f x)) → (r : Result A Code) → Coded r → Coded (r >>? f)
 coded_then f h (Ok x) g = h x
 coded_then f h (Err code) g = g
 
-coded_if : {A : Type 0} (b : Bool) (r s : Result A Code) → Coded r → Coded s → Coded (if b then r else s)
+-- two choices by a truth value
+pub coded_if : {A : Type 0} (b : Bool) (r s : Result A Code) → Coded r → Coded s → Coded (if b then r else s)
 coded_if true r s g h = g
 coded_if false r s g h = h
 

@@ -1,13 +1,13 @@
 -- What an expression means rests on the documents that it names alone: two look-ups that agree on their names give it
 -- one meaning.
-use Rattle.std.specs.Prelude.{◌≡◌, ℕ, zero, suc, ◌+◌, ℤ, pos, ◌+ℤ◌, ◌-ℤ◌, ◌*ℤ◌, int_div, int_rem, int_lt, int_le, unsigned_abs, Bool, true, false, if◌then◌else◌, List, [], ◌∷◌, ◌++◌, map, Option, None, Some, Result, Ok, Err, refl}
+use Rattle.std.specs.Prelude.{◌≡◌, ℕ, zero, suc, ◌+◌, ℤ, pos, ◌+ℤ◌, ◌-ℤ◌, ◌*ℤ◌, int_div, int_rem, int_lt, int_le, unsigned_abs, Bool, true, false, if◌then◌else◌, List, [], ◌∷◌, ◌++◌, map, Option, None, Some, is_some, Result, Ok, Err, refl}
 use Rattle.std.specs.List.{range_with_len}
 use Rattle.std.specs.Ordering.{int_eq}
 use Rattle.xml_model.specs.declared.limits.TheConstants.{ITEMS_MAX}
 use Rattle.std.proofs.Common.{sym, ap, subst, ◌∙◌}
 use Rattle.xq_ast.specs.Documents as names
 use Rattle.xq_ast.specs.declared.code.Code.{Code}
-use Rattle.xq_ast.specs.declared.code.Code.TheVariants.{NotBuilt, FOAR0001, FOAR0002, TooManyItems}
+use Rattle.xq_ast.specs.declared.code.Code.TheVariants.{FOAR0001, FOAR0002, TooManyItems, XPST0003}
 use Rattle.xq_ast.specs.declared.tree.Bind.{Bind, out-Bind}
 use Rattle.xq_ast.specs.declared.tree.Expr.{Expr, out-Expr}
 use Rattle.xq_ast.specs.declared.tree.Start.{Start, out-Start}
@@ -135,15 +135,15 @@ module _ (docs docs' : Documents) where
   text_alike [] g = give_alike K [] tt
   text_alike (item ∷ items) g = bind_alike Any K _ _ _ _ (spaced_alike (item ∷ items) g) (λ value _. construct_alike (a_node (Text value)))
 
-  document_fine : (name : List ℕ) (o : Option Doc) → docs name ≡ docs' name → Fine K (document_node docs o name)
-  document_fine name None k = tt
-  document_fine name (Some doc) k = (k, tt)
+  document_fine : (name : List ℕ) (o : Option Doc) → docs name ≡ o → docs name ≡ docs' name → Fine K (document_node docs o name)
+  document_fine name None is k = tt
+  document_fine name (Some doc) is k = ((k, ap is_some is), tt)
 
 -- ---- layers
 
 -- the layer of an expression, by what its parts mean, and the names in it
 abbrev layer_of : (docs : Documents) → (Expr → Means) → Expr-F Bind Expr Start ProductPart SortKey Step SumPart → Expr-F BindMeans Means Means (ProductMeans docs) KeyMeans StepMeans (SumMeans docs)
-layer_of docs go = layer (λ env cx. fail NotBuilt) (bind_step docs) (expr_step docs) (start_step docs) (product_step docs) (key_step docs) (step_step docs) (sum_step docs) go
+layer_of docs go = layer (λ env cx. fail XPST0003) (bind_step docs) (expr_step docs) (start_step docs) (product_step docs) (key_step docs) (step_step docs) (sum_step docs) go
 
 abbrev names_of_bind : (Expr → names.Names) → Bind → names.Names
 names_of_bind gn b = names.bind_step (bind_layer [] names.bind_step names.expr_step names.start_step names.product_step names.key_step names.step_step names.sum_step gn (out-Bind b))
@@ -170,8 +170,8 @@ module _ (docs docs' : Documents) (go go' : Expr → Means) (gn : Expr → names
     bind_layer_alike : (l : Bind-F Bind Expr Start ProductPart SortKey Step SumPart)
         → Each KnownName (names.bind_step (bind_layer [] names.bind_step names.expr_step names.start_step names.product_step names.key_step names.step_step names.sum_step gn l))
         → AlikeWhere docs docs' (Each (KnownBindings docs docs'))
-        (bind_step docs (bind_layer (λ env cx. fail NotBuilt) (bind_step docs) (expr_step docs) (start_step docs) (product_step docs) (key_step docs) (step_step docs) (sum_step docs) go l))
-        (bind_step docs' (bind_layer (λ env cx. fail NotBuilt) (bind_step docs') (expr_step docs') (start_step docs') (product_step docs') (key_step docs') (step_step docs') (sum_step docs') go' l))
+        (bind_step docs (bind_layer (λ env cx. fail XPST0003) (bind_step docs) (expr_step docs) (start_step docs) (product_step docs) (key_step docs) (step_step docs) (sum_step docs) go l))
+        (bind_step docs' (bind_layer (λ env cx. fail XPST0003) (bind_step docs') (expr_step docs') (start_step docs') (product_step docs') (key_step docs') (step_step docs') (sum_step docs') go' l))
     bind_layer_alike (Bind-F.For name at source) h env cx v c =
         bind_alike KI (Each (KnownBindings docs docs')) _ _ _ _ (same source h env cx v c) (λ items g.
         give_alike (Each (KnownBindings docs docs')) (bound_items docs name at 1 items) (bound_items_known docs docs' name at 1 items g))
@@ -193,8 +193,8 @@ module _ (docs docs' : Documents) (go go' : Expr → Means) (gn : Expr → names
     start_layer_alike : (l : Start-F Bind Expr Start ProductPart SortKey Step SumPart)
         → Each KnownName (names.start_step (start_layer [] names.bind_step names.expr_step names.start_step names.product_step names.key_step names.step_step names.sum_step gn l))
         → MeansAlike docs docs'
-        (start_step docs (start_layer (λ env cx. fail NotBuilt) (bind_step docs) (expr_step docs) (start_step docs) (product_step docs) (key_step docs) (step_step docs) (sum_step docs) go l))
-        (start_step docs' (start_layer (λ env cx. fail NotBuilt) (bind_step docs') (expr_step docs') (start_step docs') (product_step docs') (key_step docs') (step_step docs') (sum_step docs') go' l))
+        (start_step docs (start_layer (λ env cx. fail XPST0003) (bind_step docs) (expr_step docs) (start_step docs) (product_step docs) (key_step docs) (step_step docs) (sum_step docs) go l))
+        (start_step docs' (start_layer (λ env cx. fail XPST0003) (bind_step docs') (expr_step docs') (start_step docs') (product_step docs') (key_step docs') (step_step docs') (sum_step docs') go' l))
     start_layer_alike (Start-F.Value inner) h = same inner h
     start_layer_alike (Start-F.First s) h = first_step_alike docs docs' s.deep (from_node docs go s) (from_node docs' go' s) (step_alike s h)
 
@@ -221,10 +221,10 @@ module _ (docs docs' : Documents) (go go' : Expr → Means) (gn : Expr → names
         → ((env : Bindings) (cx : Context) → KnownBindings docs docs' env → KnownContext docs docs' cx → Alike Any (stays docs filter env cx) (stays docs' filter' env cx))
         → Each KnownName (names.joined (map (names_of_bind gn) binds)) → Each KnownName (names.joined (map (λ k. gn k.expr) keys)) → Each KnownName (gn result)
         → MeansAlike docs docs'
-        (λ env cx. tuples docs (map (λ b. bind_step docs (bind_layer (λ env cx. fail NotBuilt) (bind_step docs) (expr_step docs) (start_step docs) (product_step docs) (key_step docs) (step_step docs) (sum_step docs) go (out-Bind b))) binds)
+        (λ env cx. tuples docs (map (λ b. bind_step docs (bind_layer (λ env cx. fail XPST0003) (bind_step docs) (expr_step docs) (start_step docs) (product_step docs) (key_step docs) (step_step docs) (sum_step docs) go (out-Bind b))) binds)
         filter (map (λ k. record { value = go k.expr; descending = k.descending }) keys) env cx no_tuples
         >>= (λ all. returned (go result) cx (sorted (map (λ k. record { value = go k.expr; descending = k.descending }) keys) all.rows)))
-        (λ env cx. tuples docs' (map (λ b. bind_step docs' (bind_layer (λ env cx. fail NotBuilt) (bind_step docs') (expr_step docs') (start_step docs') (product_step docs') (key_step docs') (step_step docs') (sum_step docs') go' (out-Bind b))) binds)
+        (λ env cx. tuples docs' (map (λ b. bind_step docs' (bind_layer (λ env cx. fail XPST0003) (bind_step docs') (expr_step docs') (start_step docs') (product_step docs') (key_step docs') (step_step docs') (sum_step docs') go' (out-Bind b))) binds)
         filter' (map (λ k. record { value = go' k.expr; descending = k.descending }) keys) env cx no_tuples
         >>= (λ all. returned (go' result) cx (sorted (map (λ k. record { value = go' k.expr; descending = k.descending }) keys) all.rows)))
     flwor_alike binds keys result filter filter' filters hb hk hr env cx v c =
@@ -233,8 +233,8 @@ module _ (docs docs' : Documents) (go go' : Expr → Means) (gn : Expr → names
         (each_of (λ k. MeansAlike docs docs' (go k.expr) (go' k.expr)) (λ k. gn k.expr) (λ k q. same k.expr q) keys hk)
         _ _ binds
         (each_of (λ b. AlikeWhere docs docs' (Each (KnownBindings docs docs'))
-        (bind_step docs (bind_layer (λ env cx. fail NotBuilt) (bind_step docs) (expr_step docs) (start_step docs) (product_step docs) (key_step docs) (step_step docs) (sum_step docs) go (out-Bind b)))
-        (bind_step docs' (bind_layer (λ env cx. fail NotBuilt) (bind_step docs') (expr_step docs') (start_step docs') (product_step docs') (key_step docs') (step_step docs') (sum_step docs') go' (out-Bind b))))
+        (bind_step docs (bind_layer (λ env cx. fail XPST0003) (bind_step docs) (expr_step docs) (start_step docs) (product_step docs) (key_step docs) (step_step docs) (sum_step docs) go (out-Bind b)))
+        (bind_step docs' (bind_layer (λ env cx. fail XPST0003) (bind_step docs') (expr_step docs') (start_step docs') (product_step docs') (key_step docs') (step_step docs') (sum_step docs') go' (out-Bind b))))
         (names_of_bind gn) (λ b q. bind_layer_alike (out-Bind b) q) binds hb)
         env cx v c no_tuples tt)
         (λ all g made.
@@ -317,7 +317,7 @@ module _ (docs docs' : Documents) (go go' : Expr → Means) (gn : Expr → names
         bind_alike (Each KI) KI _ _ _ _ (values_alike docs docs' go go' args (all_alike args h) env cx v c)
         (λ lists g. look_alike KI (λ made. call_function docs made cx name lists) (λ made. call_function docs' made cx name lists) (λ made. call_same docs docs' made cx name lists c g))
     value_alike (Expr-F.Doc name) h env cx v c =
-        λ made. (ap (λ o. plain (document_node docs o name) made) h.0, (plain_alike KI (document_node docs (docs name) name) (document_fine docs docs' name (docs name) h.0) made).1)
+        λ made. (ap (λ o. plain (document_node docs o name) made) h.0, (plain_alike KI (document_node docs (docs name) name) (document_fine docs docs' name (docs name) refl h.0) made).1)
     value_alike (Expr-F.Element name None) h env cx v c = element_alike name (content_or None) (content_or None) nothing_alike env cx v c
     value_alike (Expr-F.Element name (Some content)) h env cx v c = element_alike name (go content) (go' content) (same content h) env cx v c
     value_alike (Expr-F.Attribute name None) h env cx v c = attribute_alike name (content_or None) (content_or None) nothing_alike env cx v c
@@ -333,22 +333,22 @@ module _ (docs docs' : Documents) (go go' : Expr → Means) (gn : Expr → names
 
 -- the meaning of an expression, and the names in it, to a depth
 abbrev meaning_to : Documents → ℕ → Expr → Means
-meaning_to docs = run (λ env cx. fail NotBuilt) (bind_step docs) (expr_step docs) (start_step docs) (product_step docs) (key_step docs) (step_step docs) (sum_step docs)
+meaning_to docs = run (λ env cx. fail XPST0003) (bind_step docs) (expr_step docs) (start_step docs) (product_step docs) (key_step docs) (step_step docs) (sum_step docs)
 
 abbrev names_to : ℕ → Expr → names.Names
 names_to = run [] names.bind_step names.expr_step names.start_step names.product_step names.key_step names.step_step names.sum_step
 
 module _ (docs docs' : Documents) where
   alike_to : (n : ℕ) (e : Expr) → Each (λ name. docs name ≡ docs' name) (names_to n e) → MeansAlike docs docs' (meaning_to docs n e) (meaning_to docs' n e)
-  alike_to zero e h env cx v c = fail_alike (KnownItems docs docs') NotBuilt
+  alike_to zero e h env cx v c = fail_alike (KnownItems docs docs') XPST0003
   alike_to (suc n) e h env cx v c = layer_alike docs docs' (meaning_to docs n) (meaning_to docs' n) (names_to n) (alike_to n) (out-Expr e) h env cx v c
 
   -- of an expression that is no deeper than the number
   pub alike_within : (n : ℕ) (e : Expr) → fits n e ≡ true → Each (λ name. docs name ≡ docs' name) (names.documents e) → MeansAlike docs docs' (meaning docs e) (meaning docs' e)
   alike_within n e f h =
       let q = bounded [] names.bind_step names.expr_step names.start_step names.product_step names.key_step names.step_step names.sum_step n e f in
-      let m = bounded (λ env cx. fail NotBuilt) (bind_step docs) (expr_step docs) (start_step docs) (product_step docs) (key_step docs) (step_step docs) (sum_step docs) n e f in
-      let m' = bounded (λ env cx. fail NotBuilt) (bind_step docs') (expr_step docs') (start_step docs') (product_step docs') (key_step docs') (step_step docs') (sum_step docs') n e f in
+      let m = bounded (λ env cx. fail XPST0003) (bind_step docs) (expr_step docs) (start_step docs) (product_step docs) (key_step docs) (step_step docs) (sum_step docs) n e f in
+      let m' = bounded (λ env cx. fail XPST0003) (bind_step docs') (expr_step docs') (start_step docs') (product_step docs') (key_step docs') (step_step docs') (sum_step docs') n e f in
       subst (λ x. MeansAlike docs docs' x (meaning docs' e)) m
       (subst (λ x. MeansAlike docs docs' (meaning_to docs n e) x) m' (alike_to n e (subst (Each (λ name. docs name ≡ docs' name)) (sym q) h)))
 

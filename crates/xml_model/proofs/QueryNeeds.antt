@@ -64,7 +64,7 @@ module _ (F G : Forest) where
       ] refl
 
   -- at each name that was asked for
-  agree_asked : (asked : List Need) (held : Names) → AgreeAt (needs_of (with_needs asked held)) F G → Each (λ (n : Need). forests.get F n.name ≡ forests.get G n.name) asked
+  pub agree_asked : (asked : List Need) (held : Names) → AgreeAt (needs_of (with_needs asked held)) F G → Each (λ (n : Need). forests.get F n.name ≡ forests.get G n.name) asked
   agree_asked [] held h = tt
   agree_asked (n ∷ asked) held h = (
     found_agrees (forests.entries (with_needs asked (with_need held n))) n.name
@@ -72,7 +72,8 @@ module _ (F G : Forest) where
     agree_asked asked (with_need held n) h,
   )
 
-  names_agree : (mode : LockMode) (ns : List (List ℕ)) → Each (λ (n : Need). forests.get F n.name ≡ forests.get G n.name) (map (λ name. record { name = name; mode = mode }) ns)
+  -- and so at the names that were asked for in one mode
+  pub names_agree : (mode : LockMode) (ns : List (List ℕ)) → Each (λ (n : Need). forests.get F n.name ≡ forests.get G n.name) (map (λ name. record { name = name; mode = mode }) ns)
       → Each (λ name. forests.get F name ≡ forests.get G name) ns
   names_agree mode [] h = tt
   names_agree mode (name ∷ ns) h = (h.0, names_agree mode ns h.1)

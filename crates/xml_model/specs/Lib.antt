@@ -27,3 +27,7 @@ pub mod TreeRows
 pub mod TreeNodes
 pub mod WellFormed
 pub mod QueryCodes
+pub mod Rebuild
+pub mod GoodEdits
+pub mod Edits
+pub mod OneNumber

@@ -2,7 +2,7 @@
 -- constructed trees.
 use Rattle.std.specs.Prelude.{Bool, true, false}
 use Rattle.xq_ast.specs.declared.code.Code.{Code}
-use Rattle.xq_ast.specs.declared.code.Code.TheVariants.{XPST0003, XPST0008, XPST0017, XPDY0002, XPTY0004, XPTY0019, XPTY0020, XQTY0024, XQDY0025, FOAR0001, FOAR0002, FODC0002, FORG0001, FORG0006, TooLong, NestedTooDeep, BadName, NoTransaction, InTransaction, ReadOnly, Updating, Exists, TooDeep, TooManyNodes, TooMuchText, TooManyItems, ReplyTooLong, NoMemory, NotBuilt, Failed, InDoubt, Pyx, Spent, Damaged}
+use Rattle.xq_ast.specs.declared.code.Code.TheVariants.{XPST0003, XPST0008, XPST0017, XPDY0002, XPTY0004, XPTY0019, XPTY0020, XQTY0024, XQDY0025, FOAR0001, FOAR0002, FODC0002, FORG0001, FORG0006, TooLong, NestedTooDeep, BadName, NoTransaction, InTransaction, ReadOnly, Updating, Exists, TooDeep, TooManyNodes, TooMuchText, TooManyItems, ReplyTooLong, NoMemory, Failed, InDoubt, Pyx, Spent, Damaged}
 
 -- evaluation may end with the code; each row says its own, so that a new code cannot pass unseen
 abbrev pub is_query_code : Code → Bool
@@ -34,7 +34,6 @@ is_query_code TooMuchText = true
 is_query_code TooManyItems = true
 is_query_code ReplyTooLong = false
 is_query_code NoMemory = false
-is_query_code NotBuilt = false
 is_query_code (Failed mark) = false
 is_query_code (InDoubt mark) = false
 is_query_code (Pyx why line) = false

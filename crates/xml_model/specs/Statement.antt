@@ -6,7 +6,7 @@ use Rattle.std.specs.FinMap as forests
 use Rattle.xq_ast.specs.declared.call.Call.{Call}
 use Rattle.xq_ast.specs.declared.call.Call.TheVariants.{Begin, BeginRead, Commit, Rollback, Checkpoint, ShowDocuments, Create, Drop, Load, Export, Update, Query}
 use Rattle.xq_ast.specs.declared.code.Code.{Code}
-use Rattle.xq_ast.specs.declared.code.Code.TheVariants.{Exists, FODC0002, ReplyTooLong, Pyx, NotBuilt}
+use Rattle.xq_ast.specs.declared.code.Code.TheVariants.{Exists, FODC0002, ReplyTooLong, Pyx}
 use Rattle.xml_model.specs.declared.limits.TheConstants.{REPLY_BYTES_MAX}
 use Rattle.xml_model.specs.declared.node.Doc.{Doc}
 use Rattle.xml_model.specs.declared.node.RefusedLine.{RefusedLine}
@@ -16,6 +16,7 @@ use Rattle.xq_ast.specs.declared.tree.Expr.{Expr}
 use Rattle.xml_model.specs.Items.{Documents, Items, Made}
 use Rattle.xml_model.specs.Evaluation.{eval}
 use Rattle.xml_model.specs.ItemLines.{lines_of}
+use Rattle.xml_model.specs.Edits.{updated}
 
 -- what a statement says: that it is done, lines, or an error with its code
 pub data Answer : Type 0 where
@@ -84,7 +85,12 @@ said_by docs (Err code) = error code
 abbrev pub query_answer : Forest → Expr → Answer
 query_answer F expr = said_by (forests.get F) (eval F expr)
 
--- what a call says of a forest, and the forest after it; updates cannot be carried out yet
+-- an update is done, or it has its code and changes nothing
+abbrev pub changed : Result Forest Code → Forest → Outcome
+changed (Ok G) F = record { says = done; forest = G }
+changed (Err code) F = unchanged (error code) F
+
+-- what a call says of a forest, and the forest after it
 abbrev pub stmt : Forest → Call → Outcome
 stmt F Begin = unchanged done F
 stmt F BeginRead = unchanged done F
@@ -96,5 +102,5 @@ stmt F (Create name) = added_where_free (forests.get F name) name (Ok (record { 
 stmt F (Drop name) = dropped (forests.get F name) name F
 stmt F (Load name pyx_lines) = added_where_free (forests.get F name) name (read pyx_lines) F
 stmt F (Export name) = unchanged (exported (forests.get F name)) F
-stmt F (Update what) = unchanged (error NotBuilt) F
+stmt F (Update what) = changed (updated F what) F
 stmt F (Query expr) = unchanged (query_answer F expr) F

@@ -1,5 +1,5 @@
 //! Changes of documents, as a transaction gathers them before it commits.
-ghost use Rattle.std.specs.Prelude.{◌≡◌, ◌<◌, IsTrue, IfSome, OnOk, OnErr};
+ghost use Rattle.std.specs.Prelude.{◌≡◌, ◌+◌, ◌<◌, ◌≤◌, IsTrue, IfSome, OnOk, OnErr};
 ghost use Rattle.std.specs.FinMap as map;
 ghost use Rattle.std.specs.Option.{option_copied};
 ghost use Rattle.xq_ast.specs.Names.{is_document_name};
@@ -65,12 +65,12 @@ impl DocChanges {
         }
     }
 
-    /// Takes the room for one change more.
-    pub fn reserve(&mut self) -> Result<(), NoMemory>
+    /// Takes the room for so many changes more.
+    pub fn reserve(&mut self, more: usize) -> Result<(), NoMemory>
         ensures same { self.new.changes ≡ self.old.changes }
-        ensures room { OnOk result (0 < self.new.room) }
+        ensures room { OnOk result (more ≤ self.new.room) }
     {
-        self.entries.reserve(1)?;
+        self.entries.reserve(more)?;
         Ok(())
     }
 
@@ -80,7 +80,8 @@ impl DocChanges {
         requires room { 0 < self.old.room }
         requires named { IsTrue (is_document_name name) }
         requires valid { IfSome (unshared after) IsValid }
-        ensures { self.new.changes ≡ map.insert self.old.changes name (unshared after) }
+        ensures changes { self.new.changes ≡ map.insert self.old.changes name (unshared after) }
+        ensures room { self.old.room ≤ self.new.room + 1 }
     {
         let _ = self.entries.insert(name.into_string(), after);
     }
@@ -92,7 +93,7 @@ impl DocChanges {
         ensures ok { OnOk result (self.new.changes ≡ map.insert self.old.changes name (unshared after)) }
         ensures err { OnErr result (self.new.changes ≡ self.old.changes) }
     {
-        self.reserve()?;
+        self.reserve(1)?;
         self.put(name, after);
         Ok(())
     }

@@ -6,11 +6,13 @@ ghost use Rattle.std.specs.FinMap as map;
 ghost use Rattle.xq_ast.specs.GoodNames.{are_good_in, has_good_names};
 ghost use Rattle.xq_ast.specs.declared.code.Code.{Code};
 ghost use Rattle.xq_ast.specs.declared.call.Call.{Call};
-ghost use Rattle.xq_ast.specs.declared.call.Call.TheVariants.{Query, ShowDocuments};
+ghost use Rattle.xq_ast.specs.declared.call.Call.TheVariants.{Query, ShowDocuments, Update};
 ghost use Rattle.xq_ast.specs.declared.tree.Expr.{Expr};
+ghost use Rattle.xq_ast.specs.declared.update.Update.{Update as UpdateCall};
 ghost use Rattle.xml_model.specs.declared.node.Doc.{Doc};
 ghost use Rattle.xml_model.specs.Forest.{Forest, IsForest};
 ghost use Rattle.xml_model.specs.Needs.{needs, AgreeAt, KeepsToNeeds};
+ghost use Rattle.xml_model.specs.Edits.{updated};
 ghost use Rattle.xml_model.specs.Evaluation.{eval};
 ghost use Rattle.xml_model.specs.Statement.{stmt};
 ghost use Rattle.xml_model.specs.Counts.{IsCounted};
@@ -47,9 +49,9 @@ pub fn canonical_text_is_read_again()
     ensures { (doc : Doc) → IsValid doc → split_lines (text_of (pyx doc)) ≡ pyx doc }
 {}
 
-/// A statement whose names are names of documents leaves a forest.
-pub fn statements_keep_forests()
-    ensures { (F : Forest) (call : Call) → IsForest F → IsTrue (has_good_names call) → IsForest (stmt F call).forest }
+/// A statement that is no update and whose names are names of documents leaves a forest.
+pub fn other_statements_keep_forests()
+    ensures { (F : Forest) (call : Call) → IsForest F → IsTrue (has_good_names call) → ((what : UpdateCall) → call ≡ Update what → ⊥) → IsForest (stmt F call).forest }
 {}
 
 /// Every call but SHOW DOCUMENTS keeps to its needs.
@@ -77,4 +79,9 @@ pub fn lines_of_answers_are_plain()
 /// or want of memory tells.
 pub fn queries_end_with_their_codes()
     ensures { (F : Forest) (expr : Expr) (code : Code) → eval F expr ≡ Err code → IsTrue (is_query_code code) }
+{}
+
+/// An update that ends with a code ends with one that a query may have.
+pub fn updates_end_with_their_codes()
+    ensures { (F : Forest) (what : UpdateCall) (code : Code) → updated F what ≡ Err code → IsTrue (is_query_code code) }
 {}

@@ -1,5 +1,6 @@
 //! Navigation: how evaluation moves among the nodes of documents, wherever these are kept.
 ghost use Rattle.std.specs.Prelude.{◌≡◌, ℕ, ◌<◌, ◌≤◌, List, IfOk, IfErr, IfSome};
+ghost use Rattle.std.specs.FinMap as forests;
 ghost use Rattle.std.specs.Option.{option_map};
 ghost use Rattle.xml_model.specs.declared.nav.TheConstants.{NUMBER_MAX};
 ghost use Rattle.xml_model.specs.declared.nav.Id.{Id};
@@ -106,6 +107,12 @@ pub trait Nav {
 
     /// No number is greater than `NUMBER_MAX`.
     ghost few: { (nav : Self) (n : Id) → number nav n ≤ NUMBER_MAX };
+
+    /// Nodes that have one number of a document are nodes of one document.
+    ghost named: { (nav : Self) (a b : Id) → honest nav → a.doc ≡ b.doc → (place nav a).name ≡ (place nav b).name };
+
+    /// The nodes of a document that is there have one number of a document.
+    ghost same: { (nav : Self) (a b : Id) → honest nav → (place nav a).name ≡ (place nav b).name → IfSome (forests.get (forest nav) (place nav a).name) (λ doc. a.doc ≡ b.doc) };
 
     /// Documents are valid, and their names are names of documents.
     ghost valid: { (nav : Self) → honest nav → IsForest (forest nav) };

@@ -166,8 +166,9 @@ impl<'a> TreeNav<'a> {
 
 impl<'a> Nav for TreeNav<'a> {
     ghost use Rattle.xml_model.specs.Forest.{IsForest};
-    ghost use Rattle.xml_model.specs.TreeNodes.{node_of_id};
-    ghost use Rattle.std.proofs.Common.{arith};
+    ghost use Rattle.xml_model.specs.TreeNodes.{name_at, node_of_id};
+    ghost use Rattle.std.proofs.Common.{ap, arith};
+    ghost use Rattle.xml_model.specs.OneNumber.{same_number};
 
     type Fault = NoFault;
 
@@ -235,6 +236,10 @@ impl<'a> Nav for TreeNav<'a> {
     }
 
     ghost few = { λ F n. Prim.omega arith };
+
+    ghost named = { λ F a b honest same. ap (name_at F) same };
+
+    ghost same = { same_number };
 
     ghost valid = { λ F honest. honest };
 }

@@ -15,7 +15,7 @@ use Rattle.xq_ast.specs.declared.refusal.PyxRefusal.TheVariants as refusals
 use Rattle.xq_ast.specs.declared.code.SpentKind.{SpentKind}
 use Rattle.xq_ast.specs.declared.code.SpentKind.TheVariants as kinds
 use Rattle.xq_ast.specs.declared.code.Code.{Code}
-use Rattle.xq_ast.specs.declared.code.Code.TheVariants.{XPST0003, XPST0008, XPST0017, XPDY0002, XPTY0004, XPTY0019, XPTY0020, XQTY0024, XQDY0025, FOAR0001, FOAR0002, FODC0002, FORG0001, FORG0006, TooLong, NestedTooDeep, BadName, NoTransaction, InTransaction, ReadOnly, Updating, Exists, TooDeep, TooManyNodes, TooMuchText, TooManyItems, ReplyTooLong, NoMemory, NotBuilt, Failed, InDoubt, Pyx, Spent, Damaged}
+use Rattle.xq_ast.specs.declared.code.Code.TheVariants.{XPST0003, XPST0008, XPST0017, XPDY0002, XPTY0004, XPTY0019, XPTY0020, XQTY0024, XQDY0025, FOAR0001, FOAR0002, FODC0002, FORG0001, FORG0006, TooLong, NestedTooDeep, BadName, NoTransaction, InTransaction, ReadOnly, Updating, Exists, TooDeep, TooManyNodes, TooMuchText, TooManyItems, ReplyTooLong, NoMemory, Failed, InDoubt, Pyx, Spent, Damaged}
 
 abbrev same_bytes : List ℕ → List ℕ → Bool
 same_bytes [] [] = true
@@ -58,7 +58,6 @@ word_named TooMuchText is = refl
 word_named TooManyItems is = refl
 word_named ReplyTooLong is = refl
 word_named NoMemory is = refl
-word_named NotBuilt is = refl
 word_named (Failed mark) is = refl
 word_named (InDoubt mark) is = refl
 word_named (Pyx why line) is = absurd is

@@ -8,7 +8,7 @@ use Rattle.xq_ast.specs.declared.refusal.PyxRefusal.TheVariants as refusals
 use Rattle.xq_ast.specs.declared.code.SpentKind.{SpentKind}
 use Rattle.xq_ast.specs.declared.code.SpentKind.TheVariants as kinds
 use Rattle.xq_ast.specs.declared.code.Code.{Code}
-use Rattle.xq_ast.specs.declared.code.Code.TheVariants.{XPST0003, XPST0008, XPST0017, XPDY0002, XPTY0004, XPTY0019, XPTY0020, XQTY0024, XQDY0025, FOAR0001, FOAR0002, FODC0002, FORG0001, FORG0006, TooLong, NestedTooDeep, BadName, NoTransaction, InTransaction, ReadOnly, Updating, Exists, TooDeep, TooManyNodes, TooMuchText, TooManyItems, ReplyTooLong, NoMemory, NotBuilt, Failed, InDoubt, Pyx, Spent, Damaged}
+use Rattle.xq_ast.specs.declared.code.Code.TheVariants.{XPST0003, XPST0008, XPST0017, XPDY0002, XPTY0004, XPTY0019, XPTY0020, XQTY0024, XQDY0025, FOAR0001, FOAR0002, FODC0002, FORG0001, FORG0006, TooLong, NestedTooDeep, BadName, NoTransaction, InTransaction, ReadOnly, Updating, Exists, TooDeep, TooManyNodes, TooMuchText, TooManyItems, ReplyTooLong, NoMemory, Failed, InDoubt, Pyx, Spent, Damaged}
 
 -- all codes of the table are words, whose marks go from 0 to 0
 pub words-AreWords : AreWords WORDS
@@ -69,7 +69,7 @@ words-AreWords = (
                                     (
                                       tt,
                                       tt,
-                                      (tt, tt, (tt, tt, (tt, tt, (tt, tt, (tt, tt, (tt, tt, (tt, tt, (tt, tt, (tt, tt, (tt, tt, (tt, refl, (tt, refl, tt)))))))))))),
+                                      (tt, tt, (tt, tt, (tt, tt, (tt, tt, (tt, tt, (tt, tt, (tt, tt, (tt, tt, (tt, tt, (tt, refl, (tt, refl, tt))))))))))),
                                     ),
                                   ),
                                 ),
@@ -120,9 +120,8 @@ word_missed text m TooMuchText is = m.1.1.1.1.1.1.1.1.1.1.1.1.1.1.1.1.1.1.1.1.1.
 word_missed text m TooManyItems is = m.1.1.1.1.1.1.1.1.1.1.1.1.1.1.1.1.1.1.1.1.1.1.1.1.1.0
 word_missed text m ReplyTooLong is = m.1.1.1.1.1.1.1.1.1.1.1.1.1.1.1.1.1.1.1.1.1.1.1.1.1.1.0
 word_missed text m NoMemory is = m.1.1.1.1.1.1.1.1.1.1.1.1.1.1.1.1.1.1.1.1.1.1.1.1.1.1.1.0
-word_missed text m NotBuilt is = m.1.1.1.1.1.1.1.1.1.1.1.1.1.1.1.1.1.1.1.1.1.1.1.1.1.1.1.1.0
-word_missed text m (Failed mark) is = m.1.1.1.1.1.1.1.1.1.1.1.1.1.1.1.1.1.1.1.1.1.1.1.1.1.1.1.1.1.0
-word_missed text m (InDoubt mark) is = m.1.1.1.1.1.1.1.1.1.1.1.1.1.1.1.1.1.1.1.1.1.1.1.1.1.1.1.1.1.1.0
+word_missed text m (Failed mark) is = m.1.1.1.1.1.1.1.1.1.1.1.1.1.1.1.1.1.1.1.1.1.1.1.1.1.1.1.1.0
+word_missed text m (InDoubt mark) is = m.1.1.1.1.1.1.1.1.1.1.1.1.1.1.1.1.1.1.1.1.1.1.1.1.1.1.1.1.1.0
 word_missed text m (Pyx why line) is = absurd is
 word_missed text m (Spent kind number) is = absurd is
 word_missed text m (Damaged commit ordinal page) is = absurd is

@@ -7,7 +7,7 @@ use Rattle.xq_ast.specs.declared.code.Mark.{Mark}
 use Rattle.xq_ast.specs.declared.code.SpentKind.{SpentKind}
 use Rattle.xq_ast.specs.declared.code.SpentKind.TheVariants.{Commit, Generation, Page, Slot, Log}
 use Rattle.xq_ast.specs.declared.code.Code.{Code}
-use Rattle.xq_ast.specs.declared.code.Code.TheVariants.{XPST0003, XPST0008, XPST0017, XPDY0002, XPTY0004, XPTY0019, XPTY0020, XQTY0024, XQDY0025, FOAR0001, FOAR0002, FODC0002, FORG0001, FORG0006, TooLong, NestedTooDeep, BadName, NoTransaction, InTransaction, ReadOnly, Updating, Exists, TooDeep, TooManyNodes, TooMuchText, TooManyItems, ReplyTooLong, NoMemory, NotBuilt, Failed, InDoubt, Pyx, Spent, Damaged}
+use Rattle.xq_ast.specs.declared.code.Code.TheVariants.{XPST0003, XPST0008, XPST0017, XPDY0002, XPTY0004, XPTY0019, XPTY0020, XQTY0024, XQDY0025, FOAR0001, FOAR0002, FODC0002, FORG0001, FORG0006, TooLong, NestedTooDeep, BadName, NoTransaction, InTransaction, ReadOnly, Updating, Exists, TooDeep, TooManyNodes, TooMuchText, TooManyItems, ReplyTooLong, NoMemory, Failed, InDoubt, Pyx, Spent, Damaged}
 
 -- the name of a refusal of a PYX line
 abbrev pub refusal_name : PyxRefusal → List ℕ
@@ -59,7 +59,6 @@ code_text TooMuchText = codes "TooMuchText"
 code_text TooManyItems = codes "TooManyItems"
 code_text ReplyTooLong = codes "ReplyTooLong"
 code_text NoMemory = codes "NoMemory"
-code_text NotBuilt = codes "NotBuilt"
 code_text (Failed mark) = codes "Failed"
 code_text (InDoubt mark) = codes "InDoubt"
 code_text (Pyx why line) = codes "Pyx " ++ (refusal_name why ++ (codes " " ++ decimal line))

@@ -78,8 +78,6 @@ pub enum Code {
     ReplyTooLong,
     /// There was no memory.
     NoMemory,
-    /// The call is a statement that cannot be carried out yet.
-    NotBuilt,
     /// The device failed between the two counts of the mark.
     Failed {
         mark: Mark,

@@ -14,7 +14,7 @@ const NO_MARK: Mark = Mark {
 };
 
 /// The codes without numbers.
-const WORDS: [Code; 31] = [
+const WORDS: [Code; 30] = [
     Code::XPST0003,
     Code::XPST0008,
     Code::XPST0017,
@@ -43,7 +43,6 @@ const WORDS: [Code; 31] = [
     Code::TooManyItems,
     Code::ReplyTooLong,
     Code::NoMemory,
-    Code::NotBuilt,
     Code::Failed { mark: NO_MARK },
     Code::InDoubt { mark: NO_MARK },
 ];

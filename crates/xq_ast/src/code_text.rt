@@ -78,7 +78,6 @@ impl Code {
             Code::TooManyItems => "TooManyItems",
             Code::ReplyTooLong => "ReplyTooLong",
             Code::NoMemory => "NoMemory",
-            Code::NotBuilt => "NotBuilt",
             Code::Failed { .. } => "Failed",
             Code::InDoubt { .. } => "InDoubt",
             Code::Pyx { .. } => "Pyx",

@@ -1,8 +1,9 @@
 -- What an answer of a part says of the whole, over plain variables.
-use Rattle.std.specs.Prelude.{◌≡◌, List, Result, Ok, Err, IsErrAnd}
+use Rattle.std.specs.Prelude.{◌≡◌, List, Result, Ok, Err, IfOk, IsErrAnd}
 use Rattle.std.proofs.Common.{sym, ap, ◌∙◌, subst}
 use Rattle.xq_ast.specs.declared.code.Code.{Code}
 use Rattle.xml_model.specs.Items.{Made, Making, then_with, plain}
+use Rattle.xq_edits.specs.Finds.{Found, Finds}
 use Rattle.xq_values.specs.Gives.{Gives}
 use Rattle.xq_values.specs.declared.end.ValueEnd.{ValueEnd}
 use Rattle.xq_values.specs.declared.end.ValueEnd.TheVariants as value_ends
@@ -117,6 +118,11 @@ pub exits_so : {A2 B2 F : Type 0} (h : Type 0) (p : F → Type 0) (seen2 : A2 �
 exits_so h p seen2 (Ok x) e after whole made g = absurd made
 exits_so h p seen2 (Err x) e after whole made g = subst (λ y. Leaves h p seen2 (Err y) after whole) (sym made) (all_ends_so h p seen2 e after whole g)
 
+-- what ended gives nothing
+pub ends_anyhow : {A E : Type 0} (r : Result A E) (P : A → Type 0) (Q : E → Type 0) → IsErrAnd r Q → IfOk r P
+ends_anyhow (Ok x) P Q made = absurd made
+ends_anyhow (Err x) P Q made = tt
+
 -- ---- whole queries
 
 whole_ends : {A A2 B B2 F : Type 0} (h : Type 0) (p : F → Type 0) (seen : A → B) (seen2 : A2 → B2) (e : EvalEnd F) (m : Made)
@@ -139,3 +145,34 @@ says_same h p (Ok x) a b q g = λ w. sym (q w) ∙ g w
 says_same h p (Err (ends.Code c)) a b q g = λ w. sym (q w) ∙ g w
 says_same h p (Err (ends.Nav f)) a b q g = g
 says_same h p (Err ends.NoMemory) a b q g = tt
+
+-- ---- answers that stand for what is defined
+
+-- an answer that stands for an equal one
+pub finds_same : {A B F : Type 0} (h : Type 0) (p : F → Type 0) (stands : A → B → Type 0) (r : Result A (EvalEnd F)) (d e : Result B Code) → (h → d ≡ e)
+    → Finds h p stands r d → Finds h p stands r e
+finds_same h p stands (Ok x) d e q g = λ w. subst (Found stands x) (q w) (g w)
+finds_same h p stands (Err (ends.Code c)) d e q g = λ w. sym (q w) ∙ g w
+finds_same h p stands (Err (ends.Nav f)) d e q g = g
+finds_same h p stands (Err ends.NoMemory) d e q g = tt
+
+finding_ends : {A A2 B B2 F : Type 0} (h : Type 0) (p : F → Type 0) (seen : A → B) (stands : A2 → B2 → Type 0) (e : EvalEnd F) (m : Made)
+    (d : Result (B × Made) Code) (whole : Result B2 Code) → (h → (code : Code) → d ≡ Err code → whole ≡ Err code)
+    → Leaves h p seen (Err e) m d → Finds h p stands (Err e) whole
+finding_ends h p seen stands (ends.Code c) m d whole q g = λ w. q w c (g w)
+finding_ends h p seen stands (ends.Nav x) m d whole q g = g
+finding_ends h p seen stands ends.NoMemory m d whole q g = tt
+
+-- a part ends, and so does the whole, which stands for what is defined
+pub exits_finding : {A A2 B B2 F : Type 0} (h : Type 0) (p : F → Type 0) (seen : A → B) (stands : A2 → B2 → Type 0) (r : Result A2 (EvalEnd F))
+    (e : EvalEnd F) (m : Made) (d : Result (B × Made) Code) (whole : Result B2 Code) → IsErrAnd r (λ x. x ≡ e)
+    → (h → (code : Code) → d ≡ Err code → whole ≡ Err code) → Leaves h p seen (Err e) m d → Finds h p stands r whole
+exits_finding h p seen stands (Ok x) e m d whole made q g = absurd made
+exits_finding h p seen stands (Err x) e m d whole made q g =
+    subst (λ y. Finds h p stands (Err y) whole) (sym made) (finding_ends h p seen stands e m d whole q g)
+
+-- the whole ends for want of memory
+pub exits_finding_no_memory : {A2 B2 F : Type 0} (h : Type 0) (p : F → Type 0) (stands : A2 → B2 → Type 0) (r : Result A2 (EvalEnd F))
+    (whole : Result B2 Code) → IsErrAnd r (λ x. x ≡ ends.NoMemory) → Finds h p stands r whole
+exits_finding_no_memory h p stands (Ok x) whole made = absurd made
+exits_finding_no_memory h p stands (Err x) whole made = subst (λ y. Finds h p stands (Err y) whole) (sym made) tt

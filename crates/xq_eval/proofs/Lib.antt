@@ -8,8 +8,10 @@ pub mod Forms
 pub mod KeysLeft
 pub mod Lists
 pub mod NodesFiltered
+pub mod Replacing
 pub mod SameNodes
 pub mod Steps
 pub mod Turns
 pub mod UnionsOfMany
+pub mod Updates
 pub mod Weight

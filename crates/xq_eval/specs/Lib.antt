@@ -7,4 +7,5 @@ pub mod Predicates
 pub mod Queries
 pub mod Scopes
 pub mod TuplesSeen
+pub mod Updates
 pub use Rattle.xq_functions.specs.Says

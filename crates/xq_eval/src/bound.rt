@@ -30,8 +30,8 @@ fn shared_at(alloc: Global, at: &Option<Str>) -> Result<Option<SharedText>, NoMe
     }
 }
 
-// A variable with one item.
-fn with_item(alloc: Global, name: &SharedText, item: Item) -> Result<Variable, NoMemory>
+/// A variable with one item.
+pub(crate) fn with_item(alloc: Global, name: &SharedText, item: Item) -> Result<Variable, NoMemory>
     ensures { IfOk result (λ v. v ≡ variable_of name.now (item ∷ [])) }
 {
     let mut items = Items::new(alloc);

@@ -36,8 +36,8 @@ fn with_item<N: Nav>(
     }
 }
 
-// The content that the items make.
-fn content_of<N: Nav>(
+/// The content that the items make, as in a new element, before its tests.
+pub fn content_of<N: Nav>(
     alloc: Global,
     nav: &N,
     made: &[MadeRoot],

@@ -26,7 +26,7 @@ mod text_tests;
 
 pub use atoms::{atomized, key_of_items};
 pub use calls::call_function;
-pub use constructors::{new_element, new_text};
+pub use constructors::{content_of, new_element, new_text};
 pub use context::Focus;
 pub use laws::functions_have_answers;
 pub use lists::{counted, node_items, nodes_or, united_all};

@@ -10,8 +10,8 @@ use crate::end::ValueEnd;
 use xml_model::{Attr, DEPTH_MAX, NODES_MAX, Node, TEXT_BYTES_MAX, has_attribute};
 use xq_ast::{Code, Str};
 
-// Whether two attributes have one name. Takes time by the square of their number.
-fn has_name_twice(attrs: &[Attr]) -> bool
+/// Whether two attributes have one name. Takes time by the square of their number.
+pub fn has_name_twice(attrs: &[Attr]) -> bool
     ensures { result ≡ spec.has_name_twice attrs.now }
 {
     let mut rest = attrs;

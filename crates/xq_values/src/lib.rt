@@ -26,7 +26,7 @@ pub use arithmetic::{Operands, added, both_operands, multiplied};
 pub use cast::{to_boolean, to_integer};
 pub use compare::compares;
 pub use content::{Content, items_make_content};
-pub use elements::element;
+pub use elements::{element, has_name_twice};
 pub use end::ValueEnd;
 pub use item::{Item, ItemList, MadeList, MadePlace, MadeRoot, NodeId};
 pub use key::{joined_type, key_of, keys_order, type_of};

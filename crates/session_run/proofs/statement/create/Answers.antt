@@ -7,7 +7,7 @@ use Rattle.session_run.proofs.statement.create.Goals as goal
 pub returns-in-Some-clause-effect : goal.returns-in-Some-clause-effect
 returns-in-Some-clause-effect c =
     create_taken c.args.name.now c.args.changes.now.changes c.args.base.now c.refused.result _
-    (sym c.in-Some.ensures.document) c.refused.ensures.says c.refused.ensures.change
+    (sym c.in-Some.ensures.document) c.refused.ensures.says c.refused.ensures.changes
 
 pub put-requires-clause-valid : goal.put-requires-clause-valid
 put-requires-clause-valid c = empty_is_valid c.new.result c.new.ensures

@@ -14,8 +14,8 @@ invariant_of-self c =
     ∙ ap (λ name. map.insert (changes_of_entries c.self.inside.entries.entries) name (unshared c.args.after)) c.into_string.ensures))
     (put_is_valid (changes_of_entries c.self.inside.entries.entries) c.args.name (unshared c.args.after) c.self.invariant c.requires.named c.requires.valid)
 
-pub returns : goal.returns
-returns c =
+pub returns-clause-changes : goal.returns-clause-changes
+returns-clause-changes c =
     let room = subst (λ v. 0 < v.room) (sym c.self.view_is) c.requires.room in
     entries-insert c.self.inside.entries c.insert.new.self c.into_string.result c.args.after
     (on_ok c.insert.result (c.insert.ensures.succeeds room) c.insert.ensures.updates)

@@ -1,0 +1,2 @@
+-- Lemmas of the tests of the store.
+pub mod Resident

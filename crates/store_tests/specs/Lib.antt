@@ -1,0 +1,2 @@
+-- What the tests of the store keep of their values.
+pub mod Resident

@@ -1,5 +1,0 @@
-use Rattle.xml_model.proofs.Forests.{leaves}
-use Rattle.xml_model.proofs.laws.statements_keep_forests.Goals as goal
-
-pub returns : goal.returns
-returns c = leaves

@@ -1,0 +1,26 @@
+-- Lemmas of the edits of updates.
+pub mod Attributes
+pub mod Brings
+pub mod ByDocument
+pub mod ByKind
+pub mod ChangesRise
+pub mod EachAlone
+pub mod EachDocument
+pub mod Elements
+pub mod Finding
+pub mod Groups
+pub mod InOrder
+pub mod NameTests
+pub mod NamesAlong
+pub mod NamesOnce
+pub mod Outermost
+pub mod OverTrees
+pub mod Renaming
+pub mod SharedNames
+pub mod StoredTargets
+pub mod TargetKinds
+pub mod TurnEnds
+pub mod UpdateForests
+pub mod UpdateForm
+pub mod UpdateNames
+pub mod Within

@@ -1,0 +1,11 @@
+pub mod Documents
+pub mod Finds
+pub mod Groups
+pub mod Inside
+pub mod Kinds
+pub mod Names
+pub mod Rising
+pub mod Seen
+pub mod SharedNames
+pub mod Turns
+pub mod Targets
