@@ -126,93 +126,147 @@ fn said(
     Ok(all)
 }
 
-#[test]
-fn values_are_atomized_compared_and_counted(rt: HostRuntime) -> Result<(), Fail> {
-    let alloc = rt.alloc();
+/// How two lists compare: the truth value, or the code.
+fn comparison(
+    alloc: Global,
+    left: &ItemList,
+    op: CompareOp,
+    right: &ItemList,
+) -> Result<String, Fail> {
     let docs = documents(alloc)?;
     let nav = TreeNav::of(&docs)?;
     let made = trees(alloc)?;
-    let m = made.as_slice();
+    match compared(
+        alloc,
+        &nav,
+        made.as_slice(),
+        op,
+        left.as_slice(),
+        right.as_slice(),
+    ) {
+        Ok(true) => Ok(String::from_str(alloc, "true")?),
+        Ok(false) => Ok(String::from_str(alloc, "false")?),
+        Err(end) => code::<bool>(alloc, Err(end)),
+    }
+}
+
+#[test]
+fn values_are_compared(rt: HostRuntime) -> Result<(), Fail> {
+    let alloc = rt.alloc();
     let nodes = two(alloc, stored(4), constructed(alloc, 1))?;
-    let atoms = atomized(alloc, &nav, m, nodes.as_slice())
-        .ok()
-        .ok_or("atoms")?;
-    assert_eq!(rt; atoms.len(), 2);
     let seven = one(alloc, int(7))?;
-    let less = compared(
-        alloc,
-        &nav,
-        m,
-        CompareOp::Lt,
-        nodes.as_slice(),
-        seven.as_slice(),
-    );
-    assert_eq!(rt; less.ok(), Some(true));
-    let equal = compared(
-        alloc,
-        &nav,
-        m,
-        CompareOp::Eq,
-        nodes.as_slice(),
-        seven.as_slice(),
-    );
-    assert_eq!(rt; equal.ok(), Some(true));
+    for (op, want) in [
+        (CompareOp::Lt, "true"),
+        (CompareOp::Eq, "true"),
+        (CompareOp::Gt, "false"),
+    ] {
+        let said = comparison(alloc, &nodes, op, &seven)?;
+        assert_eq!(rt; said.as_str(), want);
+    }
     let words = one(alloc, text(alloc, "7")?)?;
-    let mixed = compared(
-        alloc,
-        &nav,
-        m,
-        CompareOp::Eq,
-        words.as_slice(),
-        seven.as_slice(),
-    );
-    assert_eq!(rt; code(alloc, mixed)?.as_str(), "XPTY0004");
-    let key = key_of_items(alloc, &nav, m, words.as_slice()).ok();
-    assert!(rt; matches!(key, Some(Key::Text { .. })));
-    assert_eq!(rt; counted(seven).ok().ok_or("one item")?.len(), 1);
+    let said = comparison(alloc, &words, CompareOp::Eq, &seven)?;
+    assert_eq!(rt; said.as_str(), "XPTY0004");
     Ok(())
 }
 
 #[test]
-fn operators_answer_integers(rt: HostRuntime) -> Result<(), Fail> {
+fn nodes_are_atomized(rt: HostRuntime) -> Result<(), Fail> {
     let alloc = rt.alloc();
     let docs = documents(alloc)?;
     let nav = TreeNav::of(&docs)?;
     let made = trees(alloc)?;
-    let m = made.as_slice();
+    let nodes = two(alloc, stored(4), constructed(alloc, 1))?;
+    let atoms = atomized(alloc, &nav, made.as_slice(), nodes.as_slice());
+    assert_eq!(rt; atoms.ok().ok_or("atoms")?.len(), 2);
+    assert_eq!(rt; counted(nodes).ok().ok_or("two items")?.len(), 2);
+    Ok(())
+}
+
+#[test]
+fn texts_are_keys(rt: HostRuntime) -> Result<(), Fail> {
+    let alloc = rt.alloc();
+    let docs = documents(alloc)?;
+    let nav = TreeNav::of(&docs)?;
+    let made = trees(alloc)?;
+    let words = one(alloc, text(alloc, "7")?)?;
+    let key = key_of_items(alloc, &nav, made.as_slice(), words.as_slice()).ok();
+    assert!(rt; matches!(key, Some(Key::Text { .. })));
+    Ok(())
+}
+
+#[test]
+fn ranges_hold_each_integer(rt: HostRuntime) -> Result<(), Fail> {
+    let alloc = rt.alloc();
+    let docs = documents(alloc)?;
+    let nav = TreeNav::of(&docs)?;
+    let made = trees(alloc)?;
     let low = one(alloc, int(-1))?;
     let high = one(alloc, stored(2))?;
-    let range = ranged(alloc, &nav, m, low.as_slice(), high.as_slice());
+    let range = ranged(
+        alloc,
+        &nav,
+        made.as_slice(),
+        low.as_slice(),
+        high.as_slice(),
+    );
     assert_eq!(rt;
         said(alloc, &docs, &made, range)?.as_str(),
         "=-1\n=0\n=1\n=2\n=3\n=4\n=5\n"
     );
-    let parts = [
-        SumValue {
-            minus: true,
-            items: one(alloc, int(2))?,
-        },
-        SumValue {
-            minus: false,
-            items: one(alloc, stored(4))?,
-        },
-    ];
-    let sum = summed(alloc, &nav, m, one(alloc, int(1))?, parts.as_slice());
+    Ok(())
+}
+
+#[test]
+fn sums_are_made_from_the_left(rt: HostRuntime) -> Result<(), Fail> {
+    let alloc = rt.alloc();
+    let docs = documents(alloc)?;
+    let nav = TreeNav::of(&docs)?;
+    let made = trees(alloc)?;
+    let less = SumValue {
+        minus: true,
+        items: one(alloc, int(2))?,
+    };
+    let more = SumValue {
+        minus: false,
+        items: one(alloc, stored(4))?,
+    };
+    let parts = [less, more];
+    let first = one(alloc, int(1))?;
+    let sum = summed(alloc, &nav, made.as_slice(), first, parts.as_slice());
     assert_eq!(rt; said(alloc, &docs, &made, sum)?.as_str(), "=6\n");
-    let parts = [
-        ProductValue {
-            op: ProductOp::Times,
-            items: one(alloc, int(3))?,
-        },
-        ProductValue {
-            op: ProductOp::Mod,
-            items: one(alloc, int(4))?,
-        },
-    ];
-    let product = multiplied(alloc, &nav, m, one(alloc, int(-5))?, parts.as_slice());
+    Ok(())
+}
+
+#[test]
+fn products_are_made_from_the_left(rt: HostRuntime) -> Result<(), Fail> {
+    let alloc = rt.alloc();
+    let docs = documents(alloc)?;
+    let nav = TreeNav::of(&docs)?;
+    let made = trees(alloc)?;
+    let times = ProductValue {
+        op: ProductOp::Times,
+        items: one(alloc, int(3))?,
+    };
+    let rest = ProductValue {
+        op: ProductOp::Mod,
+        items: one(alloc, int(4))?,
+    };
+    let parts = [times, rest];
+    let first = one(alloc, int(-5))?;
+    let product = multiplied(alloc, &nav, made.as_slice(), first, parts.as_slice());
     assert_eq!(rt; said(alloc, &docs, &made, product)?.as_str(), "=-3\n");
+    Ok(())
+}
+
+#[test]
+fn signs_work_from_the_inside(rt: HostRuntime) -> Result<(), Fail> {
+    let alloc = rt.alloc();
+    let docs = documents(alloc)?;
+    let nav = TreeNav::of(&docs)?;
+    let made = trees(alloc)?;
     let signs = [Sign::Minus, Sign::Minus, Sign::Minus];
-    let signed = signed_value(alloc, &nav, m, signs.as_slice(), one(alloc, int(8))?);
+    let inner = one(alloc, int(8))?;
+    let signed = signed_value(alloc, &nav, made.as_slice(), signs.as_slice(), inner);
     assert_eq!(rt; said(alloc, &docs, &made, signed)?.as_str(), "=-8\n");
     Ok(())
 }

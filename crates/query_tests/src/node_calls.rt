@@ -268,39 +268,39 @@ fn steps_from_stored_nodes(rt: HostRuntime) -> Result<(), Fail> {
     Ok(())
 }
 
+/// The steps to the nodes that are found on an axis of a constructed element.
+fn steps_on(alloc: Global, axis: Axis, test: &Test) -> Result<Vec<PlaceStep>, Fail> {
+    let docs = one_document(alloc)?;
+    let nav = TreeNav::of(&docs)?;
+    let made = two_trees(alloc)?;
+    let root = constructed(alloc, 0, &[])?;
+    let found = tested(alloc, &nav, made.as_slice(), axis, test, &root);
+    Ok(steps(alloc, found)?)
+}
+
 #[test]
-fn steps_from_constructed_nodes(rt: HostRuntime) -> Result<(), Fail> {
+fn steps_from_a_constructed_element(rt: HostRuntime) -> Result<(), Fail> {
+    let alloc = rt.alloc();
+    let any = Test::Name { name: None };
+    for (axis, test, want) in [
+        (Axis::Child, &Test::AnyNode, PlaceStep::Kid(0)),
+        (Axis::Attribute, &any, PlaceStep::Attr(0)),
+        (Axis::DescendantOrSelf, &Test::Text, PlaceStep::Kid(0)),
+    ] {
+        assert_eq!(rt; steps_on(alloc, axis, test)?.as_slice(), [want].as_slice());
+    }
+    Ok(())
+}
+
+#[test]
+fn parent_of_a_constructed_node(rt: HostRuntime) -> Result<(), Fail> {
     let alloc = rt.alloc();
     let docs = one_document(alloc)?;
     let nav = TreeNav::of(&docs)?;
     let made = two_trees(alloc)?;
-    let made = made.as_slice();
-    let root = constructed(alloc, 0, &[])?;
     let kid = constructed(alloc, 0, &[PlaceStep::Kid(0)])?;
     let any = Test::Name { name: None };
-    let kids = tested(alloc, &nav, made, Axis::Child, &Test::AnyNode, &root);
-    assert_eq!(rt;
-        steps(alloc, kids)?.as_slice(),
-        [PlaceStep::Kid(0)].as_slice()
-    );
-    let attrs = tested(alloc, &nav, made, Axis::Attribute, &any, &root);
-    assert_eq!(rt;
-        steps(alloc, attrs)?.as_slice(),
-        [PlaceStep::Attr(0)].as_slice()
-    );
-    let texts = tested(
-        alloc,
-        &nav,
-        made,
-        Axis::DescendantOrSelf,
-        &Test::Text,
-        &root,
-    );
-    assert_eq!(rt;
-        steps(alloc, texts)?.as_slice(),
-        [PlaceStep::Kid(0)].as_slice()
-    );
-    let parent = tested(alloc, &nav, made, Axis::Parent, &any, &kid);
+    let parent = tested(alloc, &nav, made.as_slice(), Axis::Parent, &any, &kid);
     assert_eq!(rt; parent.is_ok_and(|all| all.len() == 1), true);
     Ok(())
 }

@@ -2,6 +2,7 @@
 //! fails, and that edits make a new document.
 ghost use Rattle.std.specs.Prelude.{IfOk};
 ghost use Rattle.tree_edit.specs.Numbered.{RisesFrom};
+
 use crate::navigation::{Failing, failing_after, two_documents};
 use pyx_text::lines_of;
 use std::alloc::Global;
