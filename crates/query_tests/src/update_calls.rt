@@ -4,14 +4,14 @@ ghost use Rattle.std.specs.Prelude.{IfOk};
 ghost use Rattle.tree_edit.specs.Numbered.{RisesFrom};
 
 use crate::navigation::{Failing, failing_after, two_documents};
+use crate::query_calls::told;
 use pyx_text::lines_of;
 use std::alloc::Global;
 use std::test::Fail;
 use tree_edit::{EditEnd, apply};
 use xml_model::{Doc, DocEditsList, DocMap, Edit, EditKind, EditList, Nav, TreeNav};
-use xq_ast::{Call, CallText, Code, NoMemory, Sequence, Str, StrList, Update};
+use xq_ast::{Call, CallText, NoMemory, Sequence, Str, StrList, Update};
 use xq_eval::targets;
-use xq_nodes::EvalEnd;
 use xq_parse::parse_call;
 
 /// The update that a text spells, if it spells one.
@@ -26,74 +26,56 @@ fn update_of(alloc: Global, text: &str) -> Result<Option<Update>, NoMemory> {
     }
 }
 
-/// What an update asks for.
-#[derive(Clone, Copy, Debug, PartialEq, Eq)]
-enum Asked {
-    /// Edits of so many documents, so many of them in the first.
-    Edits(usize, usize),
-    Code(Code),
-    Fault,
-    NoMemory,
-    NoUpdate,
-}
-
-fn counted(edits: &DocEditsList) -> Asked {
-    match edits.as_slice() {
-        [] => Asked::Edits(0, 0),
-        [first, ..] => Asked::Edits(edits.len(), first.edits.len()),
+/// The names of the documents, one for each edit.
+fn names_of_edited(alloc: Global, edits: &DocEditsList) -> Result<String, Fail> {
+    let mut all = String::new(alloc);
+    for doc in edits.as_slice() {
+        for _ in doc.edits.as_slice() {
+            all.push_str(doc.name.as_str())?;
+        }
     }
+    Ok(all)
 }
 
-fn edits_asked_for<N: Nav>(alloc: Global, nav: &N, text: &str) -> Result<Asked, NoMemory> {
-    let Some(what) = update_of(alloc, text)? else {
-        return Ok(Asked::NoUpdate);
-    };
+/// The documents that an update edits, or how it ends.
+fn asked_for<N: Nav>(alloc: Global, nav: &N, text: &str) -> Result<String, Fail> {
+    let what = update_of(alloc, text)?.ok_or("an update")?;
     match targets(alloc, nav, &what) {
-        Ok(edits) => Ok(counted(&edits)),
-        Err(EvalEnd::Code(code)) => Ok(Asked::Code(code)),
-        Err(EvalEnd::Nav(_)) => Ok(Asked::Fault),
-        Err(EvalEnd::NoMemory) => Ok(Asked::NoMemory),
+        Ok(edits) => names_of_edited(alloc, &edits),
+        Err(end) => told::<N::Fault>(alloc, end),
     }
 }
 
-/// Each form, and documents in the order of their names.
+/// Each form, and documents in the order of their names. Behind a tab stand the names of the documents, one for each edit.
 #[test]
 fn updates_ask_for_edits(rt: HostRuntime) -> Result<(), Fail> {
     let alloc = rt.alloc();
     let docs = two_documents(alloc)?;
     let nav = TreeNav::of(&docs)?;
-    for (text, want) in [
-        (
-            "UPDATE insert element x {} into doc('e')/r",
-            Asked::Edits(1, 1),
-        ),
-        (
-            "UPDATE insert 'y' preceding doc('e')/r/node()",
-            Asked::Edits(1, 3),
-        ),
-        (
-            "UPDATE insert 'y' following doc('e')//b",
-            Asked::Edits(1, 1),
-        ),
-        (
-            "UPDATE delete (doc('e')//b, doc('B')/a, doc('e')//@n)",
-            Asked::Edits(2, 1),
-        ),
-        ("UPDATE delete_undeep doc('e')/r/i", Asked::Edits(1, 1)),
-        (
-            "UPDATE replace $v in doc('e')//@n with attribute m { $v }",
-            Asked::Edits(1, 1),
-        ),
-        (
-            "UPDATE rename doc('e')//@* on m",
-            Asked::Code(Code::XQDY0025),
-        ),
-        ("UPDATE delete doc('e')//none", Asked::Edits(0, 0)),
-        ("UPDATE delete doc('x')", Asked::Code(Code::FODC0002)),
-    ] {
-        assert_eq!(rt; edits_asked_for(alloc, &nav, text)?, want);
+    let rows = "UPDATE insert element x {} into doc('e')/r\te
+UPDATE insert 'y' preceding doc('e')/r/node()\teee
+UPDATE insert 'y' following doc('e')//b\te
+UPDATE delete (doc('e')//b, doc('B')/a, doc('e')//@n)\tBee
+UPDATE delete_undeep doc('e')/r/i\te
+UPDATE replace $v in doc('e')//@n with attribute m { $v }\te
+UPDATE rename doc('e')//@* on m\tXQDY0025
+UPDATE delete doc('e')//none\t
+UPDATE delete doc('x')\tFODC0002";
+    for row in rows.split('\n') {
+        let (text, want) = row.split_once('\t').ok_or("an answer")?;
+        assert_eq!(rt; asked_for(alloc, &nav, text)?.as_str(), want);
     }
     Ok(())
+}
+
+/// What an update asks for where so many calls of the `Nav` are answered.
+fn asked_after(alloc: Global, docs: &DocMap, calls: u32) -> Result<String, Fail> {
+    let nav: Failing = failing_after(docs, calls)?;
+    asked_for(
+        alloc,
+        &nav,
+        "UPDATE replace $v in doc('e')/r/i/@n with attribute m { $v }",
+    )
 }
 
 /// A fault comes wherever the `Nav` may fail, and none once it answers all calls.
@@ -104,17 +86,13 @@ fn a_fault_ends_an_update(rt: HostRuntime) -> Result<(), Fail> {
     let mut has_failed = false;
     let mut has_answered = false;
     for calls in 0..128 {
-        let nav: Failing = failing_after(&docs, calls)?;
-        match edits_asked_for(
-            alloc,
-            &nav,
-            "UPDATE replace $v in doc('e')/r/i/@n with attribute m { $v }",
-        )? {
-            Asked::Fault => has_failed = true,
-            other => {
-                assert_eq!(rt; other, Asked::Edits(1, 1));
-                has_answered = true;
-            }
+        let asked = asked_after(alloc, &docs, calls)?;
+        if asked.as_str() == "fault" {
+            assert!(rt; !has_answered);
+            has_failed = true;
+        } else {
+            assert_eq!(rt; asked.as_str(), "e");
+            has_answered = true;
         }
     }
     assert!(rt; has_failed);
