@@ -13,7 +13,8 @@ use Rattle.page_versions.specs.declared.version.Version.{Version}
 use Rattle.page_versions.specs.declared.version.Image.{Image as PageImage}
 use Rattle.slot_store.specs.declared.planning.Placed.{Placed}
 use Rattle.slot_store.specs.Slots.{AreLeast, GivesSlots}
-use Rattle.slot_store.specs.Used.{SlotIds, with_slots}
+use Rattle.slot_store.specs.declared.table.Row.{Row}
+use Rattle.slot_store.specs.Used.{SlotIds, with_slots, slots_of}
 use Rattle.page_versions.specs.declared.version.Image.TheVariants.{Resident, Slot, Absent}
 use Rattle.slot_store.specs.Planned.{written_slots, slot_if, before_of, image_before, newest_images, with_version, with_image}
 use Rattle.page_versions.specs.Chains.{version_at}
@@ -186,3 +187,9 @@ found_version id (Some v) image is = ap (λ o. with_image id (unwrap_or o image)
 pub no_version : (id : PageId) (v : Option Version) → ◌≡◌ {A = Option PageImage} None (option_map (λ w. w.image) v) → with_version id v [] ≡ []
 no_version id None is = refl
 no_version id (Some v) is = absurd (cc is)
+
+-- the slots of some rows are put one after another
+pub slots_parts : (xs : List Row) (m : Row) (ys : List Row) (set : SlotIds)
+    → with_slots (slots_of (xs ++ m ∷ ys)) set ≡ with_slots (slots_of ys) (finite.insert (with_slots (slots_of xs) set) m.slot tt)
+slots_parts [] m ys set = refl
+slots_parts (x ∷ xs) m ys set = slots_parts xs m ys (finite.insert set x.slot tt)

@@ -8,3 +8,6 @@ pub mod Gates
 pub mod Giving
 pub mod Fitting
 pub mod Naming
+pub mod Places
+pub mod Changing
+pub mod Fits

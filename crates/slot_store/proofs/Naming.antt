@@ -23,13 +23,13 @@ use Rattle.page_versions.specs.Kept.{Kept, IsUpTo, IsExact}
 use Rattle.slot_store.specs.declared.table.Row.{Row}
 use Rattle.slot_store.specs.declared.state.SlotState.{SlotState}
 use Rattle.slot_store.specs.Used.{slots_of, slots_if, slot_of_image, slot_of_version, slots_of_chains, slot_if_seen, slots_seen, is_used, is_named}
-use Rattle.slot_store.specs.Planned.{is_in_table, IsTabled, newest_images, with_version, with_image, FitsVersions}
+use Rattle.slot_store.specs.Planned.{is_in_table, IsTabled, newest_images, with_version, with_image}
 
 -- whether a slot is among these
 abbrev has : ℕ → List ℕ → Bool
 has s slots = list_any (λ t. t == s) slots
 
-both_of : (a b : Bool) → (a && b) ≡ true → (a ≡ true) × (b ≡ true)
+pub both_of : (a b : Bool) → (a && b) ≡ true → (a ≡ true) × (b ≡ true)
 both_of true b is = (refl, is)
 both_of false b is = absurd (cc is)
 
@@ -37,7 +37,7 @@ one_of : (a b : Bool) → (a || b) ≡ true → (a ≡ true) ⊎ (b ≡ true)
 one_of true b is = inl refl
 one_of false b is = inr is
 
-is_true : (b : Bool) → T b → b ≡ true
+pub is_true : (b : Bool) → T b → b ≡ true
 is_true true t = refl
 is_true false t = absurd t
 
@@ -257,9 +257,9 @@ holds_all kept commit upto exact = each (finite.entries kept.chains) (all_found 
 -- At the newest commit, the slots in use are those that the table of the log that counts, that of a head in doubt, or a version
 -- that an open snapshot sees names.
 pub used_named : (state : SlotState) (kept : Kept) (commit : ℕ) → IsUpTo kept commit → IsExact kept
-    → FitsVersions state (newest_images commit (finite.entries kept.chains)) → (s : ℕ)
+    → AllByRecursion (λ (x : PageId × PageImage). IsTabled state.table x.1) (newest_images commit (finite.entries kept.chains)) → (s : ℕ)
     → is_used state commit (finite.entries kept.chains) s ≡ is_named state kept s
-used_named state kept commit upto exact fits s =
+used_named state kept commit upto exact tabled s =
     let es = finite.entries kept.chains in let known = slots_of state.table ++ slots_if state.doubt in
     let used = slots_of_chains commit es in let seen = slots_seen kept.snapshots es in
     let holds = holds_all kept commit upto exact in
@@ -268,6 +268,6 @@ used_named state kept commit upto exact fits s =
     ∙ or_left (has s (slots_of state.table)) (has s (slots_if state.doubt)) (in_table_has s state.table is) in
     list_any-append (λ t. t == s) known used
     ∙ (same_joined (has s known) (has s used) (has s seen)
-    (λ is. ⊎_elim (λ table. inl (in_known table)) inr (chains_named s commit kept.snapshots state.table es holds fits.tabled is))
+    (λ is. ⊎_elim (λ table. inl (in_known table)) inr (chains_named s commit kept.snapshots state.table es holds tabled is))
     (chains_used s commit kept.snapshots state.table es holds)
     ∙ sym (list_any-append (λ t. t == s) known seen))

@@ -1,9 +1,9 @@
 -- Writes of a plan, one after another: its images to their slots, its head behind the gate.
-use Rattle.std.proofs.Common.{◌≡◌, ℕ, zero, suc, ◌+◌, ◌-◌, ◌*◌, ◌<◌, ◌≤◌, List, [], ◌∷◌, ◌++◌, length, take, drop, get_or, false, ◌==◌, Option, Some, None, refl, sym, ap, ◌∙◌, subst, arith, length-append}
+use Rattle.std.proofs.Common.{◌≡◌, ℕ, zero, suc, ◌+◌, ◌-◌, ◌*◌, ◌<◌, ◌≤◌, List, [], ◌∷◌, ◌++◌, length, map, take, drop, get_or, false, ◌==◌, Option, Some, None, refl, sym, ap, ◌∙◌, subst, arith, length-append}
 use Rattle.std.specs.Prelude.{IfSome, Result, Ok, Err, OnOk}
 use Rattle.std.specs.List.{list_any, AllByRecursion, flat_map}
 use Rattle.std.proofs.lemmas.Bool.{or_parts, or_from, ne_eqb}
-use Rattle.std.proofs.lemmas.List.{take_all, take_at, drop-drop, drop_at, drop-take, take-take, take-append-drop}
+use Rattle.std.proofs.lemmas.List.{length-map, take_all, take_at, drop-drop, drop_at, drop-take, take-take, take-append-drop}
 use Rattle.std.proofs.lemmas.List.Concat.{flat_map-append}
 use Rattle.redo_log.specs.Record.{number}
 use Rattle.redo_log.proofs.Bodies.{length-number}
@@ -17,7 +17,7 @@ use Rattle.page_device.proofs.Runs.{same_others-twice, bytes_of-with_bytes}
 use Rattle.slot_store.specs.declared.planning.Placed.{Placed}
 use Rattle.slot_store.specs.Slots.{slot_in, IsInside}
 use Rattle.slot_store.specs.Head.{EachPair, row_bytes}
-use Rattle.slot_store.specs.Planned.{written_slots, slot_if, AreApart}
+use Rattle.slot_store.specs.Planned.{written_slots, slot_if, AreApart, placed_bytes, row_of}
 use Rattle.slot_store.specs.Steps.{From, BehindGate, SlotsWritten, HasImage, HasImages, BeginsWith}
 use Rattle.slot_store.proofs.Steps.{slots_twice, slots_more, from_weaker, from_twice, behind_twice}
 
@@ -165,14 +165,14 @@ pub behind_all : (file : Which) (old mid new : Image → Type 0) → Each mid (F
     → Each new (From (BehindGate file) old)
 behind_all file old mid new all more i left = behind_again file old mid all i (more i left)
 
--- the first of some rows, and those that are written next
-pub rows_more : (rows : List Row) (place next : ℕ) → place ≤ next
-    → flat_map row_bytes (take next rows) ≡ flat_map row_bytes (take place rows) ++ flat_map row_bytes (take (next - place) (drop place rows))
+-- the first of some pages, and those whose rows are written next
+pub rows_more : (rows : List Placed) (place next : ℕ) → place ≤ next
+    → flat_map placed_bytes (take next rows) ≡ flat_map placed_bytes (take place rows) ++ flat_map placed_bytes (take (next - place) (drop place rows))
 rows_more rows place next le =
-    ap (λ (n : ℕ). flat_map row_bytes (take n rows)) (omega arith)
-    ∙ (ap (flat_map row_bytes) (take_parts rows place (next - place)) ∙ flat_map-append row_bytes (take place rows) (take (next - place) (drop place rows)))
+    ap (λ (n : ℕ). flat_map placed_bytes (take n rows)) (omega arith)
+    ∙ (ap (flat_map placed_bytes) (take_parts rows place (next - place)) ∙ flat_map-append placed_bytes (take place rows) (take (next - place) (drop place rows)))
   where
-    take_parts : (xs : List Row) (k n : ℕ) → take (k + n) xs ≡ take k xs ++ take n (drop k xs)
+    take_parts : (xs : List Placed) (k n : ℕ) → take (k + n) xs ≡ take k xs ++ take n (drop k xs)
     take_parts xs k n =
         let front = ap (λ l. l ++ drop k (take (k + n) xs)) (take-take k (k + n) xs (omega arith)) in
         sym (take-append-drop k (take (k + n) xs)) ∙ (front ∙ ap (λ l. take k xs ++ l) (drop-take k n xs))
@@ -193,6 +193,15 @@ length-rows (r ∷ rs) = omega (arith, length-append (row_bytes r) (flat_map row
       length-number r.id.number,
       length-number r.slot,
     )
+
+-- the rows of some pages have the same bytes
+pub bytes_placed : (placed : List Placed) → flat_map placed_bytes placed ≡ flat_map row_bytes (map row_of placed)
+bytes_placed [] = refl
+bytes_placed (p ∷ ps) = ap (λ (l : List ℕ). placed_bytes p ++ l) (bytes_placed ps)
+
+-- how many these are
+pub length-placed : (placed : List Placed) → length (flat_map placed_bytes placed) ≡ length placed * 32
+length-placed placed = ap length (bytes_placed placed) ∙ length-rows (map row_of placed) ∙ ap (λ (n : ℕ). n * 32) (length-map placed row_of)
 
 -- of two things that hold after Ok
 pub both_ok : {T E : Type 0} (r : Result T E) (A B C : Type 0) → (A → B → C) → OnOk r A → OnOk r B → OnOk r C

@@ -2,6 +2,7 @@
 pub mod Slots
 pub mod Logs
 pub mod Head
+pub mod Table
 pub mod Opens
 pub mod Used
 pub mod Planned

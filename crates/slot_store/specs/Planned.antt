@@ -2,6 +2,7 @@
 use Rattle.std.specs.Prelude.{◌≡◌, ◌≢◌, ℕ, ◌+◌, ◌≤◌, Bool, true, false, ◌==◌, List, [], ◌∷◌, length, map, Option, Some, None, IfSome}
 use Rattle.std.specs.List.{AllByRecursion, list_any}
 use Rattle.std.specs.FinMap as map
+use Rattle.std.specs.Option.{option_map}
 use Rattle.page_bytes.specs.declared.ids.PageId.{PageId}
 use Rattle.page_bytes.specs.Known.{PageMap}
 use Rattle.page_device.specs.declared.device.TheConstants.{LONGEST}
@@ -10,6 +11,7 @@ use Rattle.page_versions.specs.declared.version.Version.{Version}
 use Rattle.page_versions.specs.declared.version.Image.{Image as PageImage}
 use Rattle.page_versions.specs.declared.version.Image.TheVariants.{Resident, Slot, Absent}
 use Rattle.page_versions.specs.Chains.{version_at}
+use Rattle.page_versions.specs.Kept.{Kept, chain_of}
 use Rattle.slot_store.specs.declared.table.Row.{Row}
 use Rattle.slot_store.specs.declared.state.SlotState.{SlotState}
 use Rattle.slot_store.specs.declared.planning.Placed.{Placed}
@@ -18,7 +20,8 @@ use Rattle.slot_store.specs.declared.planning.CheckPlan.{CheckPlan}
 use Rattle.slot_store.specs.declared.planning.CheckPlan.TheVariants.{Made, Spent}
 use Rattle.slot_store.specs.declared.planning.TheConstants.{BUFFER_BYTES, LAST_SLOT}
 use Rattle.slot_store.specs.Slots.{slot_in}
-use Rattle.slot_store.specs.Head.{Head, front_bytes, head_bytes, names_of, EachPair}
+use Rattle.slot_store.specs.Head.{Head, front_bytes, head_bytes, names_of, EachPair, HaveTwoSlots, row_bytes}
+use Rattle.slot_store.specs.Table.{with_row, without_row, slot_of}
 use Rattle.slot_store.specs.Opens.{Opened}
 
 -- The newest image of each page at a commit, in the order of pages, without those that are gone.
@@ -48,6 +51,10 @@ before_of p = (p.id, image_before p.slot p.page)
 -- a page's row in the new table
 abbrev pub row_of : Placed → Row
 row_of p = record { id = p.id; slot = p.slot }
+
+-- the bytes of that row
+abbrev pub placed_bytes : Placed → List ℕ
+placed_bytes p = row_bytes (row_of p)
 
 -- the slots that are written, in the order of pages
 abbrev pub slot_if : ℕ → Option (List ℕ) → List ℕ → List ℕ
@@ -142,7 +149,38 @@ AreInTwo (Slot s) Absent = Unit {0}
 AreInTwo (Resident page) y = Unit {0}
 AreInTwo Absent y = Unit {0}
 
--- the newest images that are in slots are in slots of the state's table, no two in one
-pub record FitsVersions (state : SlotState) (images : List (PageId × PageImage)) : Type 0 where
-  pub tabled : AllByRecursion (λ (x : PageId × PageImage). IsTabled state.table x.1) images
-  pub apart : EachPair (λ (x y : PageId × PageImage). AreInTwo x.1 y.1) images
+-- the image that a page has at a commit
+abbrev pub image_at : Kept → ℕ → PageId → Option PageImage
+image_at kept commit id = option_map (λ v. v.image) (version_at (chain_of kept id) commit)
+
+-- The state's table is that of these versions when they were put into slots: an image in a slot has its page's row there, no
+-- two rows have one slot, and each page with a row has versions.
+pub record FitsVersions (state : SlotState) (kept : Kept) (commit : ℕ) : Type 0 where
+  pub known : (id : PageId) (slot : ℕ) → image_at kept commit id ≡ Some (Slot slot) → slot_of id state.table ≡ Some slot
+  pub own : EachPair HaveTwoSlots state.table
+  pub covered : AllByRecursion (λ (r : Row). map.contains_key kept.chains r.id ≡ true) state.table
+
+-- the rows without that of a page that has no image
+abbrev pub cut_image : PageImage → PageId → List Row → List Row
+cut_image (Resident page) id rows = rows
+cut_image (Slot slot) id rows = rows
+cut_image Absent id rows = without_row id rows
+
+abbrev pub cut_gone : Option Version → PageId → List Row → List Row
+cut_gone None id rows = without_row id rows
+cut_gone (Some v) id rows = cut_image v.image id rows
+
+-- the rows without those of the pages of these chains that have no image at the commit
+abbrev pub without_gone : ℕ → List (PageId × List Version) → List Row → List Row
+without_gone commit [] rows = rows
+without_gone commit (e ∷ es) rows = without_gone commit es (cut_gone (version_at e.1 commit) e.0 rows)
+
+-- the rows with that of a page which is written
+abbrev pub put_if : Option (List ℕ) → Row → List Row → List Row
+put_if None r rows = rows
+put_if (Some page) r rows = with_row r rows
+
+-- the rows with those of all pages which are written
+abbrev pub with_written : List Placed → List Row → List Row
+with_written [] rows = rows
+with_written (p ∷ ps) rows = with_written ps (put_if p.page (row_of p) rows)

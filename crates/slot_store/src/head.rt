@@ -4,12 +4,11 @@ ghost use Rattle.std.specs.List.{flat_map};
 ghost use Rattle.page_device.specs.Image.{Image, bytes_of};
 ghost use Rattle.page_device.specs.Device.{FileIs, HasCause};
 ghost use Rattle.page_device.specs.Run.{Each, LeavesOnly};
-ghost use Rattle.slot_store.specs.Head.{row_bytes};
+ghost use Rattle.slot_store.specs.Planned.{placed_bytes};
 ghost use Rattle.slot_store.specs.Steps.{From, HasGate, BehindGate, BeginsWith, Stands};
 
-use crate::planning::BUFFER_BYTES;
+use crate::planning::{BUFFER_BYTES, Placed};
 use crate::spelling::{ROW_BYTES, fill_rows};
-use crate::table::Row;
 use page_device::{Device, Failed, LONGEST, Which};
 
 /// Writes a head behind the gate of a file: its front, its rows, the first record's gate as 0. Then syncs the file.
@@ -17,7 +16,7 @@ pub fn write_head<D: Device>(
     device: &mut D,
     file: Which,
     front: &[u8],
-    rows: &[Row],
+    rows: &[Placed],
     buffer: &mut [u8],
 ) -> Result<(), Failed>
     requires fits { length front.now + length rows.now * 32 + 2 ≤ LONGEST }
@@ -25,7 +24,7 @@ pub fn write_head<D: Device>(
     requires gate { IfSome (D.contents device.old) (HasGate file) }
     ensures buffer { length buffer.new ≡ length buffer.old }
     ensures told { is_some (D.contents device.new) ≡ is_some (D.contents device.old) }
-    ensures contents { OnOk result (IfSome (D.contents device.old) (λ c. (d : Image) × (D.contents device.new ≡ Some d) × Stands file ((front.now ++ flat_map row_bytes rows.now) ++ 0 ∷ []) c d × FileIs file (bytes_of d file) (D.may_leave device.new))) }
+    ensures contents { OnOk result (IfSome (D.contents device.old) (λ c. (d : Image) × (D.contents device.new ≡ Some d) × Stands file ((front.now ++ flat_map placed_bytes rows.now) ++ 0 ∷ []) c d × FileIs file (bytes_of d file) (D.may_leave device.new))) }
     ensures images { Each (D.may_leave device.new) (From (BehindGate file) (D.may_leave device.old)) }
     ensures any_moment { LeavesOnly D.moment D.left_since device.old device.new (From (BehindGate file) (D.may_leave device.old)) }
     ensures cause { HasCause (D.failures device.old) (D.failures device.new) result }
@@ -42,7 +41,7 @@ fn write_rows<D: Device>(
     device: &mut D,
     file: Which,
     at: u64,
-    rows: &[Row],
+    rows: &[Placed],
     buffer: &mut [u8],
 ) -> Result<u64, Failed>
     requires place { 1 ≤ at }
@@ -51,7 +50,7 @@ fn write_rows<D: Device>(
     ensures end { IfOk result (λ end. end ≡ at + length rows.now * 32) }
     ensures buffer { length buffer.new ≡ length buffer.old }
     ensures told { is_some (D.contents device.new) ≡ is_some (D.contents device.old) }
-    ensures begins { OnOk result (IfSome (D.contents device.old) (λ c. (front rest : List ℕ) → length front ≡ at → bytes_of c file ≡ front ++ rest → BeginsWith file (front ++ flat_map row_bytes rows.now) c (D.contents device.new))) }
+    ensures begins { OnOk result (IfSome (D.contents device.old) (λ c. (front rest : List ℕ) → length front ≡ at → bytes_of c file ≡ front ++ rest → BeginsWith file (front ++ flat_map placed_bytes rows.now) c (D.contents device.new))) }
     ensures images { Each (D.may_leave device.new) (From (BehindGate file) (D.may_leave device.old)) }
     ensures any_moment { LeavesOnly D.moment D.left_since device.old device.new (From (BehindGate file) (D.may_leave device.old)) }
     ensures cause { HasCause (D.failures device.old) (D.failures device.new) result }
@@ -71,7 +70,7 @@ fn write_some<D: Device>(
     device: &mut D,
     file: Which,
     at: u64,
-    rows: &[Row],
+    rows: &[Placed],
     buffer: &mut [u8],
 ) -> Result<(), Failed>
     requires place { 1 ≤ at }
@@ -79,7 +78,7 @@ fn write_some<D: Device>(
     requires buffer { length rows.now * 32 ≤ length buffer.old }
     ensures buffer { length buffer.new ≡ length buffer.old }
     ensures told { is_some (D.contents device.new) ≡ is_some (D.contents device.old) }
-    ensures begins { OnOk result (IfSome (D.contents device.old) (λ c. (front rest : List ℕ) → length front ≡ at → bytes_of c file ≡ front ++ rest → BeginsWith file (front ++ flat_map row_bytes rows.now) c (D.contents device.new))) }
+    ensures begins { OnOk result (IfSome (D.contents device.old) (λ c. (front rest : List ℕ) → length front ≡ at → bytes_of c file ≡ front ++ rest → BeginsWith file (front ++ flat_map placed_bytes rows.now) c (D.contents device.new))) }
     ensures images { Each (D.may_leave device.new) (From (BehindGate file) (D.may_leave device.old)) }
     ensures any_moment { LeavesOnly D.moment D.left_since device.old device.new (From (BehindGate file) (D.may_leave device.old)) }
     ensures cause { HasCause (D.failures device.old) (D.failures device.new) result }

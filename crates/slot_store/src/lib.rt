@@ -24,6 +24,7 @@ mod slot_set;
 mod spelling;
 mod state;
 mod table;
+mod tree;
 
 pub use end::CheckEnd;
 pub use making::{checkpoint, settle_head};

@@ -6,7 +6,7 @@ ghost use Rattle.page_versions.specs.Chains.{version_at};
 ghost use Rattle.std.specs.List.{AllByRecursion};
 ghost use Rattle.slot_store.specs.Slots.{AreLeast, GivesSlots};
 ghost use Rattle.slot_store.specs.Spent.{IsSlotSpent, IsSlotEnd, NoneFree, count_residents};
-ghost use Rattle.slot_store.specs.Planned.{newest_images, with_image, with_version, before_of, row_of, written_slots};
+ghost use Rattle.slot_store.specs.Planned.{newest_images, with_image, with_version, before_of, row_of, written_slots, cut_gone, without_gone, put_if, with_written};
 
 use crate::end::PlanEnd;
 use crate::planning::{LAST_SLOT, Placed};
@@ -135,16 +135,63 @@ fn take_free(from: &mut u64, used: &SlotSet) -> Result<u64, PlanEnd>
     }
 }
 
-/// The table of the placed pages.
-pub fn table_of(alloc: Global, placed: &[Placed]) -> Result<PageTable, NoMemory>
-    ensures { IfOk result (λ table. table ≡ map row_of placed.now) }
+/// The table of a plan, made of the table that counts by what is written and what is gone.
+pub fn changed_table(
+    table: &PageTable,
+    versions: &Versions,
+    commit: u64,
+    placed: &[Placed],
+) -> Result<PageTable, NoMemory>
+    ensures { IfOk result (λ new. new ≡ with_written placed.now (without_gone commit (maps.entries versions.now.chains) table.now)) }
 {
-    let mut table = PageTable::new(alloc);
-    for page in placed {
-        table.push(Row {
-            id: page.id,
-            slot: page.slot,
-        })?;
+    let mut new = table.share()?;
+    remove_gone(&mut new, versions, commit)?;
+    put_written(&mut new, placed)?;
+    Ok(new)
+}
+
+// Takes the rows of those pages away that have no image.
+fn remove_gone(table: &mut PageTable, versions: &Versions, commit: u64) -> Result<(), NoMemory>
+    ensures { OnOk result (table.new ≡ without_gone commit (maps.entries versions.now.chains) table.old) }
+{
+    for (id, chain) in versions.chains() {
+        remove_if_gone(table, *id, chain, commit)?;
     }
-    Ok(table)
+    Ok(())
+}
+
+fn remove_if_gone(
+    table: &mut PageTable,
+    id: PageId,
+    chain: &Chain,
+    commit: u64,
+) -> Result<(), NoMemory>
+    ensures { OnOk result (table.new ≡ cut_gone (version_at chain.now commit) id table.old) }
+{
+    match newest(chain, commit) {
+        None | Some(Image::Absent) => table.remove(id),
+        Some(_) => Ok(()),
+    }
+}
+
+// Puts the rows of the pages that are written into the table.
+fn put_written(table: &mut PageTable, placed: &[Placed]) -> Result<(), NoMemory>
+    ensures { OnOk result (table.new ≡ with_written placed.now table.old) }
+{
+    for page in placed {
+        put_if_written(table, page)?;
+    }
+    Ok(())
+}
+
+fn put_if_written(table: &mut PageTable, page: &Placed) -> Result<(), NoMemory>
+    ensures { OnOk result (table.new ≡ put_if page.now.page (row_of page.now) table.old) }
+{
+    if page.page.is_none() {
+        return Ok(());
+    }
+    table.insert(Row {
+        id: page.id,
+        slot: page.slot,
+    })
 }

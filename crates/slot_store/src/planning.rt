@@ -10,7 +10,7 @@ ghost use Rattle.slot_store.specs.Spent.{last_generation, IsSlotSpent, IsLogSpen
 ghost use Rattle.slot_store.specs.Planned.{newest_images, before_of, row_of, written_slots, head_of, IfMade, placed_in, IsMadeFor, FitsVersions};
 
 use crate::end::PlanEnd;
-use crate::placing::{place_pages, table_of};
+use crate::placing::{changed_table, place_pages};
 use crate::slot_set::used_slots;
 use crate::spelling::{ROW_BYTES, front_of};
 use crate::state::{Log, SlotState};
@@ -84,7 +84,7 @@ pub fn plan(
     entries: &LogNameList,
 ) -> Result<CheckPlan, NoMemory>
     requires names { All (λ n. length n.name ≤ DOCUMENT_NAME_BYTES_MAX) entries.now }
-    requires fits { FitsVersions state.now (newest_images commit (map.entries versions.now.chains)) }
+    requires fits { FitsVersions state.now versions.now commit }
     ensures made { IfOk result (λ p. IfMade p (IsMadeFor state.now)) }
     ensures commit { IfOk result (λ p. IfMade p (λ m. m.commit ≡ commit)) }
     ensures entries { IfOk result (λ p. IfMade p (λ m. m.entries.value ≡ entries.now)) }
@@ -115,7 +115,7 @@ fn make_plan(
     entries: &LogNameList,
 ) -> Result<MadePlan, PlanEnd>
     requires names { All (λ n. length n.name ≤ DOCUMENT_NAME_BYTES_MAX) entries.now }
-    requires fits { FitsVersions state.now (newest_images commit (map.entries versions.now.chains)) }
+    requires fits { FitsVersions state.now versions.now commit }
     ensures made { IfOk result (IsMadeFor state.now) }
     ensures commit { IfOk result (λ p. p.commit ≡ commit) }
     ensures entries { IfOk result (λ p. p.entries.value ≡ entries.now) }
@@ -137,7 +137,9 @@ fn make_plan(
     let generation = state.generation + 1;
     let used = used_slots(alloc, state, versions, commit)?;
     let placed = place_pages(alloc, versions, commit, &used)?;
-    let table = table_of(alloc, placed.as_slice())?;
+    // It hands out that the rows are in the order of pages.
+    state.table.rises();
+    let table = changed_table(&state.table, versions, commit, placed.as_slice())?;
     let front = front_of(alloc, generation, commit, entries.as_slice(), placed.len())?;
     test_length(front.len(), placed.len())?;
     let Ok(buffer) = vec![in alloc; 0; BUFFER_BYTES] else {

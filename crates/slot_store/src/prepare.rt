@@ -35,8 +35,7 @@ pub fn prepare<D: Device>(
     let file = state.log.other().file();
     close_gate(device, file)?;
     let front = plan.front.as_slice();
-    let rows = plan.table.rows();
     let buffer = plan.buffer.as_mut_slice();
-    write_head(device, file, front, rows, buffer)?;
+    write_head(device, file, front, placed, buffer)?;
     Ok(())
 }

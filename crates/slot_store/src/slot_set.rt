@@ -3,13 +3,14 @@ ghost use Rattle.std.specs.Prelude.{◌≡◌, ◌≤◌, ◌<◌, ℕ, true, fa
 ghost use Rattle.std.specs.FinMap as map;
 ghost use Rattle.page_versions.specs.declared.version.Version.{Version as AVersion};
 ghost use Rattle.page_versions.specs.Kept.{IsUpTo};
-ghost use Rattle.slot_store.specs.Planned.{newest_images, FitsVersions};
+ghost use Rattle.slot_store.specs.Planned.{FitsVersions};
+ghost use Rattle.slot_store.specs.Table.{rows_in};
 ghost use Rattle.slot_store.specs.Used.{with_slots, slots_of, slots_if, slots_of_chains, slot_of_version, used_slots, is_used, is_named};
 ghost use Rattle.std.specs.List.{flat_map};
 
 use crate::planning::LAST_SLOT;
 use crate::state::{DoubtedHead, SlotState};
-use crate::table::Row;
+use crate::tree::Tree;
 use page_bytes::NoMemory;
 use page_versions::{Chain, Image, Version, Versions};
 use std::alloc::Global;
@@ -83,7 +84,7 @@ pub fn used_slots(
     ensures { IfOk result (λ set. set ≡ with_slots (used_slots state.now commit (map.entries versions.now.chains)) map.empty) }
 {
     let mut slots = SlotSet::new(alloc);
-    add_rows(&mut slots, state.table.rows())?;
+    add_rows(&mut slots, state.table.tree())?;
     add_doubted(&mut slots, &state.doubt)?;
     add_versions(&mut slots, versions, commit)?;
     Ok(slots)
@@ -93,7 +94,7 @@ pub fn used_slots(
 /// version seen by an open snapshot names, where nothing is later than the commit. Does nothing.
 pub fn only_named(state: &SlotState, versions: &Versions, commit: u64)
     requires newest { IsUpTo versions.now commit }
-    requires fits { FitsVersions state.now (newest_images commit (map.entries versions.now.chains)) }
+    requires fits { FitsVersions state.now versions.now commit }
     ensures { (s : ℕ) → is_used state.now commit (map.entries versions.now.chains) s ≡ is_named state.now versions.now s }
 {
     // It hands out that each chain has its newest version and those that a snapshot sees, and no other.
@@ -107,17 +108,19 @@ fn add_doubted(slots: &mut SlotSet, doubt: &Option<DoubtedHead>) -> Result<(), N
 {
     match doubt {
         None => Ok(()),
-        Some(head) => add_rows(slots, head.table.rows()),
+        Some(head) => add_rows(slots, head.table.tree()),
     }
 }
 
-fn add_rows(slots: &mut SlotSet, rows: &[Row]) -> Result<(), NoMemory>
-    ensures { OnOk result (slots.new ≡ with_slots (slots_of rows.now) slots.old) }
+fn add_rows(slots: &mut SlotSet, tree: &Tree) -> Result<(), NoMemory>
+    ensures { OnOk result (slots.new ≡ with_slots (slots_of (rows_in tree.now)) slots.old) }
 {
-    for row in rows {
-        slots.insert(row.slot)?;
-    }
-    Ok(())
+    let Tree::Node(branch) = tree else {
+        return Ok(());
+    };
+    add_rows(slots, &branch.left)?;
+    slots.insert(branch.row.slot)?;
+    add_rows(slots, &branch.right)
 }
 
 fn add_versions(slots: &mut SlotSet, versions: &Versions, commit: u64) -> Result<(), NoMemory>

@@ -3,9 +3,10 @@ ghost use Rattle.std.specs.Prelude.{◌≡◌, ◌≤◌, ◌+◌, ◌*◌, ◌+
 ghost use Rattle.std.specs.List.{flat_map};
 ghost use Rattle.xq_ast.specs.declared.limits.TheConstants.{DOCUMENT_NAME_BYTES_MAX};
 ghost use Rattle.redo_log.specs.Record.{number};
-ghost use Rattle.slot_store.specs.Head.{magic, document_bytes, front_bytes, row_bytes};
+ghost use Rattle.slot_store.specs.Planned.{placed_bytes};
+ghost use Rattle.slot_store.specs.Head.{magic, document_bytes, front_bytes};
 
-use crate::table::Row;
+use crate::planning::Placed;
 use redo_log::{LogName, push_entry, push_number, push_text};
 use std::alloc::Global;
 use xq_ast::NoMemory;
@@ -56,9 +57,9 @@ fn push_document(out: &mut Vec<u8>, document: &LogName) -> Result<(), NoMemory>
 }
 
 /// Writes rows into a buffer, from its front on.
-pub fn fill_rows(buffer: &mut [u8], rows: &[Row])
+pub fn fill_rows(buffer: &mut [u8], rows: &[Placed])
     requires { length rows.now * 32 ≤ length buffer.old }
-    ensures bytes { take (length rows.now * 32) buffer.new ≡ flat_map row_bytes rows.now }
+    ensures bytes { take (length rows.now * 32) buffer.new ≡ flat_map placed_bytes rows.now }
     ensures long { length buffer.new ≡ length buffer.old }
 {
     let mut at = 0;
@@ -68,9 +69,9 @@ pub fn fill_rows(buffer: &mut [u8], rows: &[Row])
     }
 }
 
-fn fill_row(buffer: &mut [u8], at: usize, row: &Row)
+fn fill_row(buffer: &mut [u8], at: usize, row: &Placed)
     requires { at + 32 ≤ length buffer.old }
-    ensures bytes { take (at + 32) buffer.new ≡ take at buffer.old ++ row_bytes row.now }
+    ensures bytes { take (at + 32) buffer.new ≡ take at buffer.old ++ placed_bytes row.now }
     ensures long { length buffer.new ≡ length buffer.old }
 {
     fill_number(buffer, at, row.id.space.commit);

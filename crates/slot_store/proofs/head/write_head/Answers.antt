@@ -3,10 +3,10 @@ use Rattle.std.specs.List.{flat_map}
 use Rattle.page_device.specs.Image.{bytes_of}
 use Rattle.page_device.proofs.Told.{if_told, told}
 use Rattle.page_device.proofs.Runs.{joined, goes_on}
-use Rattle.slot_store.specs.Head.{row_bytes}
+use Rattle.slot_store.specs.Planned.{placed_bytes}
 use Rattle.slot_store.specs.Steps.{From, BehindGate}
 use Rattle.slot_store.proofs.Gates.{first_of}
-use Rattle.slot_store.proofs.Writing.{behind_again, behind_all, length-rows, begins_thrice, both_ok}
+use Rattle.slot_store.proofs.Writing.{behind_again, behind_all, length-placed, begins_thrice, both_ok}
 use Rattle.slot_store.proofs.head.write_head.Goals as goal
 
 pub returns-in_err-end-clause-any_moment : goal.returns-in_err-end-clause-any_moment
@@ -46,13 +46,13 @@ returns-clause-any_moment g c =
 pub returns-clause-contents : goal.returns-clause-contents
 returns-clause-contents g c =
     let d = c.args.device.now in let d1 = c.put.new.device in let d2 = c.write_rows.new.device in let d3 = c.put-2.new.device in let f = c.args.file in
-    let o = g.D.Device.contents d in let fr = c.args.front.now in let rows = flat_map row_bytes c.args.rows.now in
+    let o = g.D.Device.contents d in let fr = c.args.front.now in let rows = flat_map placed_bytes c.args.rows.now in
     both_ok c.sync.result _ _ _ (λ durable same. if_told o _ (λ i is.
     let first = first_of (bytes_of i f) (told o _ i is c.requires.gate) in let gate = get_or (bytes_of i f) 0 0 in
     let b1 = told o _ i is c.in_ok-put.ensures.begins (gate ∷ []) first.0 refl first.1 in
     let b2 = told (g.D.Device.contents d1) _ b1.image b1.told c.in_ok-end.ensures.begins (gate ∷ fr) b1.rest (search rules) b1.is in
     let b3 = told (g.D.Device.contents d2) _ b2.image b2.told c.in_ok-put-2.ensures.begins (gate ∷ (fr ++ rows)) b2.rest
-    (omega (arith, length-append fr rows, length-rows c.args.rows.now, c.in_ok-end.ensures.end)) b2.is in
+    (omega (arith, length-append fr rows, length-placed c.args.rows.now, c.in_ok-end.ensures.end)) b2.is in
     let three = begins_thrice f (gate ∷ fr) (gate ∷ (fr ++ rows)) (gate ∷ ((fr ++ rows) ++ 0 ∷ [])) i (g.D.Device.contents d1) (g.D.Device.contents d2)
     (g.D.Device.contents d3) b1 b2 b3 in (
       three.image,

@@ -4,10 +4,10 @@ use Rattle.std.proofs.lemmas.List.{append-nil, take_all}
 use Rattle.page_device.proofs.Told.{if_told, told}
 use Rattle.page_device.proofs.Runs.{started, joined}
 use Rattle.page_device.proofs.Replay.{with_own}
-use Rattle.slot_store.specs.Head.{row_bytes}
+use Rattle.slot_store.specs.Planned.{placed_bytes}
 use Rattle.slot_store.specs.Steps.{From, BehindGate, BeginsWith}
 use Rattle.slot_store.proofs.Steps.{from_itself, behind_still}
-use Rattle.slot_store.proofs.Writing.{behind_again, rows_more, length-rows, begins_twice}
+use Rattle.slot_store.proofs.Writing.{behind_again, rows_more, length-placed, begins_twice}
 use Rattle.slot_store.proofs.head.write_rows.Goals as goal
 
 pub loop-place-init : goal.loop-place-init
@@ -34,7 +34,7 @@ loop-place-preserved g c =
     let k = c.loop-place.place in let next = c.min-next.result in let inv = c.loop-place.invariant in let o = g.D.Device.contents d in
     let le : k ≤ next = search rules in
     let within : next ≤ length rows = search rules in
-    let one = flat_map row_bytes (take k rows) in let two = flat_map row_bytes (take (next - k) (drop k rows)) in
+    let one = flat_map placed_bytes (take k rows) in let two = flat_map placed_bytes (take (next - k) (drop k rows)) in
     record {
       within = within;
       buffer = c.write_some.ensures.buffer ∙ inv.buffer;
@@ -42,9 +42,9 @@ loop-place-preserved g c =
       begins = if_told o _ (λ i is. λ front rest long starts.
           let was = told o _ i is inv.begins front rest long starts in
           let here : length (front ++ one) ≡ c.args.at + k * 32 =
-          omega (arith, long, length-append front one, length-rows (take k rows), length-take k rows, inv.within) in
+          omega (arith, long, length-append front one, length-placed (take k rows), length-take k rows, inv.within) in
           let step = told (g.D.Device.contents mid) _ was.image was.told c.in_ok-write_some.ensures.begins (front ++ one) was.rest here was.is in
-          begins_twice f (front ++ one) (front ++ flat_map row_bytes (take next rows)) i (g.D.Device.contents mid) (g.D.Device.contents new) was
+          begins_twice f (front ++ one) (front ++ flat_map placed_bytes (take next rows)) i (g.D.Device.contents mid) (g.D.Device.contents new) was
           (subst (λ (l : List ℕ). BeginsWith f l was.image (g.D.Device.contents new))
           (append_assoc front one two ∙ ap (λ (l : List ℕ). front ++ l) (sym (rows_more rows k next le))) step));
       images = λ i left. behind_again f (g.D.Device.may_leave d) (g.D.Device.may_leave mid) inv.images i (c.write_some.ensures.images i left);
@@ -67,5 +67,5 @@ returns-in_err-write_some-clause-any_moment g c = let d = c.args.device.now in l
 pub returns-clause-begins : goal.returns-clause-begins
 returns-clause-begins g c = let d = c.args.device.now in
     if_told (g.D.Device.contents d) _ (λ i is. λ front rest long starts.
-    subst (λ rows. BeginsWith c.args.file (front ++ flat_map row_bytes rows) i (g.D.Device.contents c.loop-place.device))
+    subst (λ rows. BeginsWith c.args.file (front ++ flat_map placed_bytes rows) i (g.D.Device.contents c.loop-place.device))
     (take_all c.loop-place.place c.args.rows.now (search rules)) (told (g.D.Device.contents d) _ i is c.loop-place.invariant.begins front rest long starts))

@@ -10,9 +10,11 @@ use Rattle.slot_store.specs.declared.planning.TheConstants.{LAST_SLOT}
 use Rattle.slot_store.specs.Head.{EachPair, front_bytes, head_bytes}
 use Rattle.slot_store.specs.Spent.{last_generation}
 use Rattle.slot_store.specs.Used.{is_used, used_slots}
-use Rattle.slot_store.specs.Planned.{newest_images, written_slots, is_in_table, IsTabled, AreInTwo, row_of}
+use Rattle.slot_store.specs.Planned.{newest_images, written_slots, is_in_table, IsTabled, AreInTwo, row_of, with_written, without_gone}
 use Rattle.slot_store.proofs.Giving.{slots_has}
 use Rattle.slot_store.proofs.Fitting.{least_by, spent_by, slot_end_only, all_placed, all_apart, state_used, fits_from}
+use Rattle.slot_store.proofs.Changing.{changed}
+use Rattle.slot_store.proofs.Fits.{walk_sorted, walk_covers, walk_knows, walk_tabled, walk_apart}
 use Rattle.slot_store.proofs.planning.make_plan.Goals as goal
 
 pub returns-in_err-placed-clause-spent_generation : goal.returns-in_err-placed-clause-spent_generation
@@ -43,12 +45,12 @@ returns-clause-least c =
 
 pub returns-clause-made : goal.returns-clause-made
 returns-clause-made c =
-    let st = c.args.state.now in let es = maps.entries c.args.versions.now.chains in let used = c.in_ok-used.used in
+    let st = c.args.state.now in let kept = c.args.versions.now in let es = maps.entries c.args.versions.now.chains in let used = c.in_ok-used.used in
     let placed = c.in_ok-placed.placed.items in let next = st.generation + 1 in let names = sym c.of.ensures in
     let in_use : (s : ℕ) → is_in_table st.table s ≡ true → maps.contains_key used s ≡ true =
     λ s is. ap (λ m. maps.contains_key m s) c.in_ok-used.ensures ∙ slots_has (used_slots st c.args.commit es) s ∙ state_used st c.args.commit es s is in
-    let tabled = subst (AllByRecursion (λ (x : PageId × PageImage). IsTabled st.table x.1)) (sym c.in_ok-placed.ensures.pages) c.requires.fits.tabled in
-    let two = subst (EachPair (λ (x y : PageId × PageImage). AreInTwo x.1 y.1)) (sym c.in_ok-placed.ensures.pages) c.requires.fits.apart in
+    let tabled = subst (AllByRecursion (λ (x : PageId × PageImage). IsTabled st.table x.1)) (sym c.in_ok-placed.ensures.pages) (walk_tabled st kept c.args.commit c.requires.fits) in
+    let two = subst (EachPair (λ (x y : PageId × PageImage). AreInTwo x.1 y.1)) (sym c.in_ok-placed.ensures.pages) (walk_apart st kept c.args.commit c.requires.fits) in
     let all = all_placed st.table (λ s. maps.contains_key used s) in_use placed 0 tabled c.in_ok-placed.ensures.least c.in_ok-placed.ensures.within in
     let sliced : c.as_slice.result.now ≡ placed = search rules in
     let spelled : c.in_ok-front.front.items ≡ front_bytes next c.args.commit c.args.entries.now (length placed) = search rules in
@@ -56,7 +58,9 @@ returns-clause-made c =
     record {
       log = refl;
       generation = refl;
-      table = c.in_ok-table.ensures ∙ ap (map row_of) sliced;
+      table = c.in_ok-table.ensures ∙ ap (λ ps. with_written ps (without_gone c.args.commit es st.table)) sliced
+          ∙ changed c.args.commit es placed st.table (walk_sorted kept.chains) c.rises.ensures (walk_covers st kept c.args.commit c.requires.fits)
+          (walk_knows st kept c.args.commit c.requires.fits) c.in_ok-placed.ensures.pages;
       front = spelled ∙ ap (λ (es : List LogName). front_bytes next c.args.commit es (length placed)) names;
       placed = all;
       apart = all_apart st.table (λ s. maps.contains_key used s) in_use placed 0 c.in_ok-placed.ensures.least all two;

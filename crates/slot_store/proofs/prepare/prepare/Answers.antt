@@ -1,8 +1,14 @@
-use Rattle.std.proofs.Common.{◌≡◌, [], refl, rules}
+use Rattle.std.proofs.Common.{◌≡◌, ◌++◌, ◌∷◌, [], length, map, sym, ap, subst, ◌∙◌, arith, refl, rules}
+use Rattle.std.specs.List.{flat_map}
+use Rattle.std.proofs.lemmas.List.{length-map}
 use Rattle.page_device.specs.Image.{Image}
 use Rattle.page_device.proofs.Told.{if_told, told}
 use Rattle.slot_store.specs.Logs.{other_file}
 use Rattle.slot_store.proofs.Preparing.{first_planned, first_stand, first_run, second_planned, second_stand, second_run, third_planned, third_stand, third_run, third_prepared, head_fits}
+use Rattle.slot_store.specs.Head.{row_bytes}
+use Rattle.slot_store.specs.Planned.{placed_bytes, row_of}
+use Rattle.slot_store.specs.Steps.{Stands}
+use Rattle.slot_store.proofs.Writing.{bytes_placed}
 use Rattle.slot_store.proofs.prepare.prepare.Goals as goal
 
 pub returns-in_err-write_images-clause-images : goal.returns-in_err-write_images-clause-images
@@ -155,7 +161,8 @@ returns-clause-done g c =
     let d2 = c.close_gate.new.device in let mid' = g.D.Device.may_leave d2 in let f = c.file-file.result in let fv : f ≡ other_file st.log = search rules in
     let d3 = c.write_head.new.device in let new = g.D.Device.may_leave d3 in
     let front = c.as_slice-front.result.now in let front_is : front ≡ pl.front.items = search rules in
-    let rows = c.rows-rows.result.now in let rows_is : rows ≡ pl.table = search rules in
+    let rows = pl.table in let bytes : flat_map placed_bytes ps ≡ flat_map row_bytes rows =
+    bytes_placed ps ∙ ap (λ l. flat_map row_bytes (map row_of l)) pv ∙ ap (flat_map row_bytes) (sym c.requires.made.table) in
     if_told o _ (λ i is. let one = told o _ i is c.in_ok-write_images.ensures.contents in let two = (told (g.D.Device.contents d1) _ _
     (told o _ i is c.in_ok-write_images.ensures.contents).1 c.in_ok-close_gate.ensures.contents)
     in let three = (told (g.D.Device.contents d2) _ _ (told (g.D.Device.contents d1) _ _
@@ -168,7 +175,8 @@ returns-clause-done g c =
           (told (g.D.Device.contents d1) _ _ (told o _ i is c.in_ok-write_images.ensures.contents).1 c.in_ok-close_gate.ensures.contents).0
           (told (g.D.Device.contents d1) _ _ (told o _ i is c.in_ok-write_images.ensures.contents).1 c.in_ok-close_gate.ensures.contents).3
           c.write_head.ensures.images
-          one.0 three.0 front rows front_is rows_is one.2 one.3 two.2 three.2 three.3,
+          one.0 three.0 front rows front_is refl one.2 one.3 two.2
+          (subst (λ l. Stands f ((front ++ l) ++ 0 ∷ []) two.0 three.0) bytes three.2) three.3,
     ))
 
 no_image : Image
@@ -176,4 +184,7 @@ no_image = record { slots = []; log_a = []; log_b = [] }
 
 pub write_head-requires-clause-fits : goal.write_head-requires-clause-fits
 write_head-requires-clause-fits g c =
-    head_fits c.args.state.now c.args.plan.now c.requires.made no_image c.as_slice-front.result.now c.rows-rows.result.now (search rules) (search rules)
+    let pl = c.args.plan.now in
+    let long : length pl.table ≡ length pl.placed.items = ap length c.requires.made.table ∙ length-map pl.placed.items row_of in
+    let placed : length c.as_slice-placed.result.now ≡ length pl.placed.items = search rules in
+    omega (arith, long, placed, head_fits c.args.state.now pl c.requires.made no_image c.as_slice-front.result.now pl.table (search rules) refl)
