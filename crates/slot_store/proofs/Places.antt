@@ -1,5 +1,5 @@
 -- Where a row stands among rising rows, and what an insert and a removal do there.
-use Rattle.std.proofs.Common.{◌≡◌, ℕ, List, [], ◌∷◌, ◌++◌, Option, Some, None, refl, sym, ap, subst, ◌∙◌}
+use Rattle.std.proofs.Common.{◌≡◌, ℕ, List, [], ◌∷◌, ◌++◌, Option, Some, None, refl, ap, ◌∙◌}
 use Rattle.std.specs.List.{AllByRecursion}
 use Rattle.std.specs.declared.cmp.Ordering.{Ordering}
 use Rattle.std.specs.declared.cmp.Ordering.TheVariants.{Less, Equal, Greater}
@@ -8,7 +8,7 @@ use Rattle.page_bytes.specs.declared.ids.PageId.{PageId}
 use Rattle.page_bytes.specs.Order.{page_cmp}
 use Rattle.page_bytes.proofs.Orders.{page_cmp-total}
 use Rattle.slot_store.specs.declared.table.Row.{Row}
-use Rattle.slot_store.specs.Head.{EachPair, IsRowBefore}
+use Rattle.slot_store.specs.Head.{IsRowBefore}
 use Rattle.slot_store.specs.Table.{Rise, set_by, with_row, cut_by, without_row, slot_by, slot_of, later_rows}
 
 -- what holds of all of a list holds of its front
@@ -49,9 +49,10 @@ past_before m (x ∷ xs) id same all =
 -- a page past a row is past what is before it
 pub past_all : (m : Row) (xs : List Row) (id : PageId) → page_cmp id m.id ≡ Greater → AllByRecursion (λ q. IsRowBefore q m) xs → IsPast id xs
 past_all m [] id past all = tt
-past_all m (x ∷ xs) id past all =
-    ( page_cmp-total.antisymm id x.id ∙ ap ordering_reverse (page_cmp-total.trans x.id m.id id all.0 (page_cmp-total.antisymm m.id id ∙ ap ordering_reverse past))
-    , past_all m xs id past all.1 )
+past_all m (x ∷ xs) id past all = (
+  page_cmp-total.antisymm id x.id ∙ ap ordering_reverse (page_cmp-total.trans x.id m.id id all.0 (page_cmp-total.antisymm m.id id ∙ ap ordering_reverse past)),
+  past_all m xs id past all.1,
+)
 
 -- a row past the front goes into the rest
 pub insert_past : (r : Row) (xs ys : List Row) → IsPast r.id xs → with_row r (xs ++ ys) ≡ xs ++ with_row r ys

@@ -20,7 +20,7 @@ use Rattle.slot_store.specs.declared.planning.CheckPlan.{CheckPlan}
 use Rattle.slot_store.specs.declared.planning.CheckPlan.TheVariants.{Made, Spent}
 use Rattle.slot_store.specs.declared.planning.TheConstants.{BUFFER_BYTES, LAST_SLOT}
 use Rattle.slot_store.specs.Slots.{slot_in}
-use Rattle.slot_store.specs.Head.{Head, front_bytes, head_bytes, names_of, EachPair, HaveTwoSlots, row_bytes}
+use Rattle.slot_store.specs.Head.{Head, front_bytes, head_bytes, names_of, EachPair, row_bytes}
 use Rattle.slot_store.specs.Table.{with_row, without_row, slot_of}
 use Rattle.slot_store.specs.Opens.{Opened}
 
@@ -153,27 +153,31 @@ AreInTwo Absent y = Unit {0}
 abbrev pub image_at : Kept → ℕ → PageId → Option PageImage
 image_at kept commit id = option_map (λ v. v.image) (version_at (chain_of kept id) commit)
 
--- The state's table is that of these versions when they were put into slots: an image in a slot has its page's row there, no
--- two rows have one slot, and each page with a row has versions.
+-- The images of these versions that are in slots are where the state's table has them: each in the slot of its page's row, no
+-- two in one slot.
 pub record FitsVersions (state : SlotState) (kept : Kept) (commit : ℕ) : Type 0 where
   pub known : (id : PageId) (slot : ℕ) → image_at kept commit id ≡ Some (Slot slot) → slot_of id state.table ≡ Some slot
-  pub own : EachPair HaveTwoSlots state.table
-  pub covered : AllByRecursion (λ (r : Row). map.contains_key kept.chains r.id ≡ true) state.table
+  pub apart : (a b : PageId) (slot : ℕ) → image_at kept commit a ≡ Some (Slot slot) → image_at kept commit b ≡ Some (Slot slot) → a ≡ b
+
+-- whether a page has an image
+abbrev pub is_bytes : PageImage → Bool
+is_bytes (Resident page) = true
+is_bytes (Slot slot) = true
+is_bytes Absent = false
+
+abbrev pub is_image : Option PageImage → Bool
+is_image None = false
+is_image (Some image) = is_bytes image
 
 -- the rows without that of a page that has no image
-abbrev pub cut_image : PageImage → PageId → List Row → List Row
-cut_image (Resident page) id rows = rows
-cut_image (Slot slot) id rows = rows
-cut_image Absent id rows = without_row id rows
+abbrev pub cut_gone : Bool → PageId → List Row → List Row
+cut_gone true id rows = rows
+cut_gone false id rows = without_row id rows
 
-abbrev pub cut_gone : Option Version → PageId → List Row → List Row
-cut_gone None id rows = without_row id rows
-cut_gone (Some v) id rows = cut_image v.image id rows
-
--- the rows without those of the pages of these chains that have no image at the commit
-abbrev pub without_gone : ℕ → List (PageId × List Version) → List Row → List Row
-without_gone commit [] rows = rows
-without_gone commit (e ∷ es) rows = without_gone commit es (cut_gone (version_at e.1 commit) e.0 rows)
+-- the table without the rows of those of these pages that have no image at the commit
+abbrev pub without_gone : Kept → ℕ → List Row → List Row → List Row
+without_gone kept commit [] table = table
+without_gone kept commit (r ∷ rs) table = without_gone kept commit rs (cut_gone (is_image (image_at kept commit r.id)) r.id table)
 
 -- the rows with that of a page which is written
 abbrev pub put_if : Option (List ℕ) → Row → List Row → List Row

@@ -6,12 +6,14 @@ ghost use Rattle.page_versions.specs.Chains.{version_at};
 ghost use Rattle.std.specs.List.{AllByRecursion};
 ghost use Rattle.slot_store.specs.Slots.{AreLeast, GivesSlots};
 ghost use Rattle.slot_store.specs.Spent.{IsSlotSpent, IsSlotEnd, NoneFree, count_residents};
-ghost use Rattle.slot_store.specs.Planned.{newest_images, with_image, with_version, before_of, row_of, written_slots, cut_gone, without_gone, put_if, with_written};
+ghost use Rattle.slot_store.specs.Table.{rows_in};
+ghost use Rattle.slot_store.specs.Planned.{newest_images, with_image, with_version, before_of, row_of, written_slots, image_at, is_image, cut_gone, without_gone, put_if, with_written};
 
 use crate::end::PlanEnd;
 use crate::planning::{LAST_SLOT, Placed};
 use crate::slot_set::SlotSet;
 use crate::table::{PageTable, Row};
+use crate::tree::Tree;
 use page_bytes::{NoMemory, PageId};
 use page_versions::{Chain, Image, Versions};
 use std::alloc::Global;
@@ -142,35 +144,52 @@ pub fn changed_table(
     commit: u64,
     placed: &[Placed],
 ) -> Result<PageTable, NoMemory>
-    ensures { IfOk result (λ new. new ≡ with_written placed.now (without_gone commit (maps.entries versions.now.chains) table.now)) }
+    ensures { IfOk result (λ new. new ≡ with_written placed.now (without_gone versions.now commit table.now table.now)) }
 {
     let mut new = table.share()?;
-    remove_gone(&mut new, versions, commit)?;
+    remove_gone(&mut new, table.tree(), versions, commit)?;
     put_written(&mut new, placed)?;
     Ok(new)
 }
 
-// Takes the rows of those pages away that have no image.
-fn remove_gone(table: &mut PageTable, versions: &Versions, commit: u64) -> Result<(), NoMemory>
-    ensures { OnOk result (table.new ≡ without_gone commit (maps.entries versions.now.chains) table.old) }
+// Takes the rows of those of these pages away that have no image.
+fn remove_gone(
+    table: &mut PageTable,
+    rows: &Tree,
+    versions: &Versions,
+    commit: u64,
+) -> Result<(), NoMemory>
+    ensures { OnOk result (table.new ≡ without_gone versions.now commit (rows_in rows.now) table.old) }
 {
-    for (id, chain) in versions.chains() {
-        remove_if_gone(table, *id, chain, commit)?;
-    }
-    Ok(())
+    let Tree::Node(branch) = rows else {
+        return Ok(());
+    };
+    remove_gone(table, &branch.left, versions, commit)?;
+    remove_if_gone(table, branch.row.id, versions, commit)?;
+    remove_gone(table, &branch.right, versions, commit)
 }
 
 fn remove_if_gone(
     table: &mut PageTable,
     id: PageId,
-    chain: &Chain,
+    versions: &Versions,
     commit: u64,
 ) -> Result<(), NoMemory>
-    ensures { OnOk result (table.new ≡ cut_gone (version_at chain.now commit) id table.old) }
+    ensures { OnOk result (table.new ≡ cut_gone (is_image (image_at versions.now commit id)) id table.old) }
 {
-    match newest(chain, commit) {
-        None | Some(Image::Absent) => table.remove(id),
-        Some(_) => Ok(()),
+    if has_image(versions, id, commit) {
+        return Ok(());
+    }
+    table.remove(id)
+}
+
+// Whether a page has an image at a commit.
+fn has_image(versions: &Versions, id: PageId, commit: u64) -> bool
+    ensures { result ≡ is_image (image_at versions.now commit id) }
+{
+    match versions.page_at(id, commit) {
+        None | Some(Image::Absent) => false,
+        Some(_) => true,
     }
 }
 

@@ -1,7 +1,7 @@
 -- Versions that are in no slot stay so by a commit, and fit each state.
 use Rattle.std.proofs.Common.{◌≡◌, ℕ, Bool, true, false, cond, List, [], ◌∷◌, Option, Some, None, filter, nat_le, ◌&&◌, unwrap_or, refl, sym, subst}
 use Rattle.std.specs.List.{AllByRecursion}
-use Rattle.std.specs.FinMap as finite
+use Rattle.std.specs.Option.{option_map}
 use Rattle.page_bytes.specs.declared.ids.PageId.{PageId}
 use Rattle.page_bytes.specs.declared.ids.Space.{Space}
 use Rattle.page_bytes.specs.declared.lists.PageChange.{PageChange}
@@ -9,15 +9,11 @@ use Rattle.page_bytes.specs.Changes.{change_of}
 use Rattle.page_versions.specs.declared.version.Version.{Version}
 use Rattle.page_versions.specs.declared.version.Image.{Image}
 use Rattle.page_versions.specs.declared.version.Image.TheVariants.{Resident, Slot, Absent}
-use Rattle.page_versions.specs.ChainMap.{chain_in}
 use Rattle.page_versions.specs.Chains.{version_at, is_needed, needed}
 use Rattle.page_versions.specs.Kept.{Kept, chain_of}
 use Rattle.page_versions.specs.Staging.{staged_image, staged_chain, with_image as with_staged, is_dropped, has_versions}
 use Rattle.slot_store.specs.declared.state.SlotState.{SlotState}
-use Rattle.slot_store.specs.declared.table.Row.{Row}
-use Rattle.slot_store.specs.Head.{EachPair}
-use Rattle.slot_store.specs.Planned.{newest_images, with_version, with_image, IsTabled, AreInTwo, FitsVersions}
-use Rattle.slot_store.proofs.Naming.{all_found}
+use Rattle.slot_store.specs.Planned.{FitsVersions, image_at}
 use Rattle.store_tests.specs.Resident.{IsOut}
 
 abbrev pub AllOut : List Version → Type 0
@@ -55,55 +51,21 @@ out_at commit (w ∷ ws) out v is = one (nat_le w.commit commit) is (λ same. ou
     one true same later = subst (λ o. IsOut (unwrap_or o v).image) same out.0
     one false same later = later same
 
-abbrev ImagesOut : List (PageId × Image) → Type 0
-ImagesOut images = AllByRecursion (λ (x : PageId × Image). IsOut x.1) images
-
-out_with : (id : PageId) (o : Option Version) (rest : List (PageId × Image)) → ((v : Version) → o ≡ Some v → IsOut v.image) → ImagesOut rest
-    → ImagesOut (with_version id o rest)
-out_with id None rest out more = more
-out_with id (Some v) rest out more = one v.image (out v refl)
-  where
-    one : (image : Image) → IsOut image → ImagesOut (with_image id image rest)
-    one (Resident page) is = (tt, more)
-    one (Slot slot) is = absurd is
-    one Absent is = more
-
-tabled : (table : List Row) (images : List (PageId × Image)) → ImagesOut images → AllByRecursion (λ (x : PageId × Image). IsTabled table x.1) images
-tabled table [] out = tt
-tabled table (x ∷ xs) out = (one x.1 out.0, tabled table xs out.1)
-  where
-    one : (image : Image) → IsOut image → IsTabled table image
-    one (Resident page) is = tt
-    one (Slot slot) is = absurd is
-    one Absent is = tt
-
-two_of : (i j : Image) → IsOut i → AreInTwo i j
-two_of (Resident page) j is = tt
-two_of (Slot slot) j is = absurd is
-two_of Absent j is = tt
-
-apart : (images : List (PageId × Image)) → ImagesOut images → EachPair (λ (x y : PageId × Image). AreInTwo x.1 y.1) images
-apart [] out = tt
-apart (x ∷ xs) out = (all xs, apart xs out.1)
-  where
-    all : (ys : List (PageId × Image)) → AllByRecursion (λ (y : PageId × Image). AreInTwo x.1 y.1) ys
-    all [] = tt
-    all (y ∷ ys) = (two_of x.1 y.1 out.0, all ys)
-
 -- versions in no slot fit each state
-pub fits_out : (state : SlotState) (k : Kept) (commit : ℕ) → ((id : PageId) → AllOut (chain_of k id))
-    → FitsVersions state (newest_images commit (finite.entries k.chains))
-fits_out state k commit out =
-    let images = each (finite.entries k.chains) (all_found k.chains) in record {
-      tabled = tabled state.table _ images;
-      apart = apart _ images;
-    }
+pub fits_out : (state : SlotState) (k : Kept) (commit : ℕ) → ((id : PageId) → AllOut (chain_of k id)) → FitsVersions state k commit
+fits_out state k commit out = record {
+  known = λ id s is. absurd (never id s is);
+  apart = λ a b s is other. absurd (never a s is);
+}
   where
-    chain_out : (id : PageId) (chain : List Version) → chain_in k.chains id ≡ chain → AllOut chain
-    chain_out id chain is = subst AllOut is (out id)
+    no_slot : (o : Option Version) (s : ℕ) → ((v : Version) → o ≡ Some v → IsOut v.image) → option_map (λ v. v.image) o ≡ Some (Slot s) → ⊥
+    no_slot None s all is = absurd (cc is)
+    no_slot (Some v) s all is = one v.image (all v refl) is
+      where
+        one : (image : Image) → IsOut image → Some image ≡ Some (Slot s) → ⊥
+        one (Resident page) free same = absurd (cc same)
+        one (Slot slot) free same = absurd free
+        one Absent free same = absurd (cc same)
 
-    each : (es : List (PageId × List Version)) → AllByRecursion (λ (e : PageId × List Version). chain_in k.chains e.0 ≡ e.1) es
-        → ImagesOut (newest_images commit es)
-    each [] found = tt
-    each (e ∷ es) found = out_with e.0 (version_at e.1 commit) (newest_images commit es)
-        (λ v is. out_at commit e.1 (chain_out e.0 e.1 found.0) v is) (each es found.1)
+    never : (id : PageId) (s : ℕ) → image_at k commit id ≡ Some (Slot s) → ⊥
+    never id s is = no_slot (version_at (chain_of k id) commit) s (λ v there. out_at commit (chain_of k id) (out id) v there) is

@@ -200,7 +200,8 @@ fn a_gates_sync_that_fails_is_a_doubt_that_settles_with_yes(rt: HostRuntime) -> 
     assert_eq!(rt; settle_head(&mut device, &mut state).ok(), Some(true));
     assert_eq!(rt; state.generation, 2);
     assert_eq!(rt; state.log, Log::B);
-    assert_eq!(rt; state.table.rows().len(), 2);
+    assert_eq!(rt; state.table.slot_of(id(0)), Some(0));
+    assert_eq!(rt; state.table.slot_of(id(1)), Some(1));
     assert_eq!(rt; counting(&mut device.device), Some(COUNTING[1]));
     Ok(())
 }

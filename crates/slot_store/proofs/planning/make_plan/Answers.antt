@@ -13,8 +13,8 @@ use Rattle.slot_store.specs.Used.{is_used, used_slots}
 use Rattle.slot_store.specs.Planned.{newest_images, written_slots, is_in_table, IsTabled, AreInTwo, row_of, with_written, without_gone}
 use Rattle.slot_store.proofs.Giving.{slots_has}
 use Rattle.slot_store.proofs.Fitting.{least_by, spent_by, slot_end_only, all_placed, all_apart, state_used, fits_from}
-use Rattle.slot_store.proofs.Changing.{changed}
-use Rattle.slot_store.proofs.Fits.{walk_sorted, walk_covers, walk_knows, walk_tabled, walk_apart}
+use Rattle.slot_store.proofs.Changing.{changed, staying, gone_all, stay_rise}
+use Rattle.slot_store.proofs.Fits.{walk_sorted, walk_covers, walk_stays, walk_tabled, walk_apart}
 use Rattle.slot_store.proofs.planning.make_plan.Goals as goal
 
 pub returns-in_err-placed-clause-spent_generation : goal.returns-in_err-placed-clause-spent_generation
@@ -58,9 +58,10 @@ returns-clause-made c =
     record {
       log = refl;
       generation = refl;
-      table = c.in_ok-table.ensures ∙ ap (λ ps. with_written ps (without_gone c.args.commit es st.table)) sliced
-          ∙ changed c.args.commit es placed st.table (walk_sorted kept.chains) c.rises.ensures (walk_covers st kept c.args.commit c.requires.fits)
-          (walk_knows st kept c.args.commit c.requires.fits) c.in_ok-placed.ensures.pages;
+      table = c.in_ok-table.ensures ∙ ap (λ ps. with_written ps (without_gone kept c.args.commit st.table st.table)) sliced
+          ∙ (ap (with_written placed) (gone_all kept c.args.commit st.table c.rises.ensures)
+          ∙ changed c.args.commit es placed (staying kept c.args.commit st.table) (walk_sorted kept.chains) (stay_rise kept c.args.commit st.table c.rises.ensures)
+          (walk_covers kept c.args.commit st.table) (walk_stays st kept c.args.commit c.requires.fits) c.in_ok-placed.ensures.pages);
       front = spelled ∙ ap (λ (es : List LogName). front_bytes next c.args.commit es (length placed)) names;
       placed = all;
       apart = all_apart st.table (λ s. maps.contains_key used s) in_use placed 0 c.in_ok-placed.ensures.least all two;

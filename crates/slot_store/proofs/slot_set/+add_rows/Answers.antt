@@ -1,4 +1,4 @@
-use Rattle.std.proofs.Common.{rules, ◌≡◌, ◌++◌, ◌∷◌, sym, ap, ◌∙◌}
+use Rattle.std.proofs.Common.{rules, ◌≡◌, ◌++◌, ◌∷◌, ap, ◌∙◌}
 use Rattle.slot_store.specs.Table.{rows_in}
 use Rattle.slot_store.specs.Used.{with_slots, slots_of}
 use Rattle.slot_store.proofs.Giving.{slots_parts}

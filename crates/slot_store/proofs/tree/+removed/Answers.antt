@@ -1,4 +1,4 @@
-use Rattle.std.proofs.Common.{rules, ◌≡◌, ◌++◌, ◌∷◌, [], IfOk, sym, ap, subst, ◌∙◌}
+use Rattle.std.proofs.Common.{rules, ◌≡◌, ◌++◌, ◌∷◌, ap, subst, ◌∙◌}
 use Rattle.std.specs.declared.cmp.Ordering.TheVariants.{Less, Equal, Greater}
 use Rattle.page_bytes.specs.Order.{page_cmp}
 use Rattle.slot_store.specs.Table.{rows_in, Rise, without_row}
@@ -11,7 +11,7 @@ returns-in_ok-share-in-Less t c rises =
     let whole : rows_in c.args.tree.now ≡ rows_in b.left ++ b.row ∷ rows_in b.right = search rules in
     let less : page_cmp c.args.id b.row.id ≡ Less = search rules in
     let is : without_row c.args.id (rows_in c.args.tree.now) ≡ without_row c.args.id (rows_in b.left) ++ b.row ∷ rows_in b.right =
-        ap (without_row c.args.id) whole ∙ remove_before c.args.id b.row (rows_in b.left) (rows_in b.right) less in
+    ap (without_row c.args.id) whole ∙ remove_before c.args.id b.row (rows_in b.left) (rows_in b.right) less in
     let part = c.removed.ensures (rise_front (rows_in b.left) (b.row ∷ rows_in b.right) (subst Rise whole rises)) in
     let made : rows_in c.in_ok-left-in-Less.left ≡ without_row c.args.id (rows_in b.left) = search rules in
     search rules
@@ -22,7 +22,7 @@ returns-in-Equal t c rises =
     let whole : rows_in c.args.tree.now ≡ rows_in b.left ++ b.row ∷ rows_in b.right = search rules in
     let same : page_cmp c.args.id b.row.id ≡ Equal = search rules in
     let is : without_row c.args.id (rows_in c.args.tree.now) ≡ rows_in b.left ++ rows_in b.right =
-        ap (without_row c.args.id) whole ∙ remove_there c.args.id b.row (rows_in b.left) (rows_in b.right) (subst Rise whole rises) same in
+    ap (without_row c.args.id) whole ∙ remove_there c.args.id b.row (rows_in b.left) (rows_in b.right) (subst Rise whole rises) same in
     search rules
 
 pub returns-in_ok-share-in-Greater : goal.returns-in_ok-share-in-Greater
@@ -31,7 +31,7 @@ returns-in_ok-share-in-Greater t c rises =
     let whole : rows_in c.args.tree.now ≡ rows_in b.left ++ b.row ∷ rows_in b.right = search rules in
     let past : page_cmp c.args.id b.row.id ≡ Greater = search rules in
     let is : without_row c.args.id (rows_in c.args.tree.now) ≡ rows_in b.left ++ b.row ∷ without_row c.args.id (rows_in b.right) =
-        ap (without_row c.args.id) whole ∙ remove_behind c.args.id b.row (rows_in b.left) (rows_in b.right) (subst Rise whole rises) past in
+    ap (without_row c.args.id) whole ∙ remove_behind c.args.id b.row (rows_in b.left) (rows_in b.right) (subst Rise whole rises) past in
     let part = c.removed-in-Greater.ensures ((rise_end (rows_in b.left) (b.row ∷ rows_in b.right) (subst Rise whole rises)).1) in
     let made : rows_in c.in_ok-right-in-Greater.right ≡ without_row c.args.id (rows_in b.right) = search rules in
     search rules

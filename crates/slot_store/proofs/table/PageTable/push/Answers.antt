@@ -1,4 +1,4 @@
-use Rattle.std.proofs.Common.{◌≡◌, ◌++◌, ◌∷◌, [], OnOk, subst}
+use Rattle.std.proofs.Common.{◌≡◌, OnOk, subst}
 use Rattle.slot_store.proofs.Places.{insert_last}
 use Rattle.slot_store.proofs.table.PageTable.push.Goals as goal
 

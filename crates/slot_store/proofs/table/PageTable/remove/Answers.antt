@@ -1,4 +1,4 @@
-use Rattle.std.proofs.Common.{rules, ◌≡◌, None, sym, ap, ◌∙◌, subst}
+use Rattle.std.proofs.Common.{rules, ◌≡◌, None, sym, subst}
 use Rattle.slot_store.specs.Table.{rows_in, Rise, without_row, slot_of}
 use Rattle.slot_store.proofs.Places.{rise_without, none_cut}
 use Rattle.slot_store.proofs.table.PageTable.remove.Goals as goal
