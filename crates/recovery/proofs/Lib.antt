@@ -1,0 +1,5 @@
+-- Lemmas of opening: what is kept of pages, and runs of calls that write nothing.
+pub mod Means
+pub mod Keeping
+pub mod Reading
+pub mod Whole
