@@ -3,3 +3,5 @@ pub mod Means
 pub mod Keeping
 pub mod Reading
 pub mod Whole
+pub mod Replays
+pub mod Starts

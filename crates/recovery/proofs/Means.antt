@@ -22,7 +22,7 @@ use Rattle.recovery.specs.Images.{ImageMap, bytes_in, bytes_if, resident, with_s
 module _ (slots : List ℕ) where
   -- nothing is kept of no pages
   pub nothing_means : Mean slots finite.empty finite.empty
-  nothing_means id = refl
+  nothing_means id = finite.get-empty page_cmp id ∙ sym (ap (bytes_if slots) (finite.get-empty page_cmp id))
 
   -- an image and its bytes are put in
   inserted : (a : ImageMap) (b : PageMap) (k : PageId) (held : Held) (page : List ℕ) → bytes_in slots held ≡ page → Mean slots a b

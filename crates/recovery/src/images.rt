@@ -1,5 +1,5 @@
 //! The newest image of each page, while the records of a log are gone through. Contracts see a finite map.
-ghost use Rattle.std.specs.Prelude.{◌≡◌, not, Some, IfSome, OnOk, is_none, true};
+ghost use Rattle.std.specs.Prelude.{◌≡◌, ◌<◌, not, Some, IfSome, OnOk, is_none, true};
 ghost use Rattle.std.specs.FinMap as map;
 
 use page_bytes::{Page, PageId, Space};
@@ -79,7 +79,7 @@ impl ImageTable {
     pub fn pop_first(&mut self) -> Option<HeldPage>
         ensures taken { IfSome result (λ p. (map.get self.old p.id ≡ Some p.image) × (self.new ≡ map.remove self.old p.id)) }
         ensures none { is_none result ≡ true → self.old ≡ map.empty }
-        ensures fewer { IfSome result (λ _. map.len self.old ≡ suc (map.len self.new)) }
+        ensures fewer { IfSome result (λ _. map.len self.new < map.len self.old) }
     {
         match self.images.pop_first() {
             None => None,
