@@ -5,3 +5,6 @@ pub mod Reading
 pub mod Whole
 pub mod Replays
 pub mod Starts
+pub mod Fronts
+pub mod Synced
+pub mod Making
