@@ -37,5 +37,13 @@ front_number bytes = ap (from_be_bytes w64) (range_in_front bytes 9 8 17 (omega 
 pub counts_by_fronts : (c : Image) → counting (record { slots = []; log_a = take 17 c.log_a; log_b = take 17 c.log_b }) ≡ counting c
 unfolding counting
 counts_by_fronts c =
-    rw (front_candidate c.log_a, front_candidate c.log_b, front_magic c.log_a, front_magic c.log_b, front_generation c.log_a, front_generation c.log_b,
-    front_number c.log_a, front_number c.log_b) refl
+    rw (
+      front_candidate c.log_a,
+      front_candidate c.log_b,
+      front_magic c.log_a,
+      front_magic c.log_b,
+      front_generation c.log_a,
+      front_generation c.log_b,
+      front_number c.log_a,
+      front_number c.log_b,
+    ) refl

@@ -8,8 +8,7 @@ use Rattle.page_device.proofs.Runs.{started, goes_on, joined}
 use Rattle.recovery.specs.Kept.{OnlyReads, WritesNothing}
 
 module _ {D : Type 0} (contents : D → Option Image) (may_leave : D → Image → Type 0) (moment : D → ℕ) (left_since : D → ℕ → Image → Type 0)
-  (failures : D → ℕ) (only_now : (d : D) (c : Image) → left_since d (moment d) c → may_leave d c) where
-
+    (failures : D → ℕ) (only_now : (d : D) (c : Image) → left_since d (moment d) c → may_leave d c) where
   -- one call that reads
   pub one_read : (old new : D) → contents new ≡ contents old → Same (may_leave old) (may_leave new)
       → Elapses (moment old) (moment new) (left_since old) (left_since new) (may_leave new) → failures old ≤ failures new → OnlyReads contents may_leave moment left_since failures old new

@@ -48,7 +48,7 @@ module _ (first : Store) (images : ImageMap) (bytes : List ℕ) where
       record { done = []; follow = λ cs end h. h; refuse = λ cs left h. h; store_is = refl; names_are = same; images_are = refl }
 
   module _ (store : Store) (names : Names) (now : ImageMap) (rest : List ℕ) (so_far : SoFar store names now rest) (gate : ℕ) (behind : List ℕ)
-    (is : rest ≡ gate ∷ behind) where
+      (is : rest ≡ gate ∷ behind) where
     -- one record more
     pub one_more : (c : Change) (next : List ℕ) (t : Store) (named : Names) (new : ImageMap) → gate ≡ 1 → record_at store behind ≡ Ok (c, next)
         → t ≡ after c store → named ≡ names_with c.names names → new ≡ pages_after resident c names now → SoFar t named new next

@@ -36,7 +36,7 @@ module _ (commit : ℕ) (first : ImageMap) where
   Started chains left = (q : PageId) → chain_in chains q ++ chain_for commit (finite.get left q) ≡ chain_for commit (finite.get first q)
 
   module _ (chains : ChainMap) (left : ImageMap) (so_far : Started chains left)
-    (id : PageId) (held : Held) (there : finite.get left id ≡ Some held) where
+      (id : PageId) (held : Held) (there : finite.get left id ≡ Some held) where
     -- a page whose image is left has no chain yet
     pub no_chain : chain_in chains id ≡ []
     no_chain = none_before (chain_in chains id) _ (chain_for commit (finite.get first id)) (short commit (finite.get first id))

@@ -70,8 +70,8 @@ unfolding opened
 none_counts c e none = rw none refl
 
 module _ (c : Image) (which : SlotLog) (h : HeadRead) (behind end : List ℕ) (store : Store) (names : Names) (images : ImageMap)
-  (read : head_at (length c.slots) (drop 9 (bytes_of c (file_of which))) ≡ Ok (head_of h, behind))
-  (r : Replays (store_of_head (head_of h)) (with_slots (rows_of h.rows.items) finite.empty) behind store names images end) where
+    (read : head_at (length c.slots) (drop 9 (bytes_of c (file_of which))) ≡ Ok (head_of h, behind))
+    (r : Replays (store_of_head (head_of h)) (with_slots (rows_of h.rows.items) finite.empty) behind store names images end) where
   -- what was made of a log is its store
   pub store_read : (s : OpenedStore) → s.commit ≡ store.commit → s.names ≡ names
       → ((q : PageId) → chain_of s.versions q ≡ chain_for store.commit (finite.get images q)) → s.versions.snapshots ≡ [] → s.versions.staged ≡ None

@@ -5,7 +5,7 @@ use Rattle.page_device.specs.Device.{Same}
 use Rattle.page_device.specs.Run.{Each, LeavesOnly}
 
 module _ {D : Type 0} (contents : D → Option Image) (may_leave : D → Image → Type 0) (moment : D → ℕ) (left_since : D → ℕ → Image → Type 0)
-  (failures : D → ℕ) where
+    (failures : D → ℕ) where
   -- it was read alone: the contents and the images are as they were, and at each moment a crash left one of these images
   pub record OnlyReads (old new : D) : Type 0 where
     pub contents_stay : contents new ≡ contents old

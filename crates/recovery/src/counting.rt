@@ -78,7 +78,7 @@ fn is_candidate(front: &[u8]) -> bool
 fn has_magic(front: &[u8]) -> bool
     ensures { result ≡ has_magic front.now }
 {
-    front.len() >= 9 && front[1..9] == MAGIC
+    front.len() >= 9 && front[1..9] == MAGIC[..]
 }
 
 fn has_generation(front: &[u8]) -> bool

@@ -76,8 +76,13 @@ pub fn documents_at<'a>(
     let mut documents = Vec::new(alloc);
     let mut rest = bytes;
     for _ in 0..count {
-        let (document, behind) =
-            document_at(alloc, commit, documents.as_slice(), &store.spaces, rest)?;
+        let (document, behind) = document_at(
+            alloc,
+            commit,
+            documents.as_slice(),
+            &store.spaces,
+            rest,
+        )?;
         store.take_name(&document)?;
         documents.push(document)?;
         rest = behind;

@@ -97,7 +97,7 @@ fn put_name(table: &mut Catalogue, name: &LogName) -> Result<(), NoMemory>
 {
     match name.entry {
         None => {
-            table.remove(&name.name);
+            let _ = table.remove(&name.name);
             Ok(())
         }
         Some(entry) => table.insert(name.name.copy()?, entry),

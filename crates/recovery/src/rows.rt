@@ -116,10 +116,7 @@ fn row_at<'a>(
 {
     let (id, rest) = id_at(done.pages(), spaces, bytes)?;
     let (slot, behind) = number_at(rest)?;
-    check(
-        is_inside(held, slot) && done.is_unnamed(slot),
-        rest.len(),
-    )?;
+    check(is_inside(held, slot) && done.is_unnamed(slot), rest.len())?;
     Ok((Row { id, slot }, behind))
 }
 

@@ -32,8 +32,7 @@ enum Answer {
 }
 
 // What files with these bytes open to.
-fn answer(alloc: Global, slots: &[u8], log_a: &[u8], log_b: &[u8]) -> Result<Answer, Fail>
-{
+fn answer(alloc: Global, slots: &[u8], log_a: &[u8], log_b: &[u8]) -> Result<Answer, Fail> {
     if is_too_long(slots) || is_too_long(log_a) || is_too_long(log_b) {
         return Ok(Answer::Fails);
     }

@@ -7,6 +7,7 @@ use std::test::Fail;
 
 // The space of the first document, and that of no document.
 const OWN: [u64; 2] = [1, 0];
+
 const OTHER: [u64; 2] = [1, 1];
 
 // Whether the log, beside a slot file of two slots, is refused at this place.
@@ -93,7 +94,17 @@ fn page_of_no_document(alloc: Global) -> Result<(), Fail> {
 // Each length of a head that is too short, with the place of the field that runs past its end.
 #[test]
 fn heads_cut_off(alloc: Global) -> Result<(), Fail> {
-    for (long, at) in [(17, 17), (24, 17), (32, 25), (40, 33), (41, 41), (42, 42), (59, 59), (91, 84), (92, 92)] {
+    for (long, at) in [
+        (17, 17),
+        (24, 17),
+        (32, 25),
+        (40, 33),
+        (41, 41),
+        (42, 42),
+        (59, 59),
+        (91, 84),
+        (92, 92),
+    ] {
         let mut log = head_of(alloc, b"a", OWN, 0)?;
         log.cut(long);
         assert!(is_refused(alloc, &log, at)?);
