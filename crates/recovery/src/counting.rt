@@ -1,5 +1,5 @@
 //! Which log counts, by the front of each.
-ghost use Rattle.std.specs.Prelude.{◌≡◌, ◌≤◌, ◌||◌, not, IfSome, IsErrOf, length, take};
+ghost use Rattle.std.specs.Prelude.{◌≡◌, ◌≤◌, [], IfSome, IsErrOf, length};
 ghost use Rattle.page_device.specs.Device.{Rose};
 ghost use Rattle.redo_log.specs.Candidates.{need, is_candidate, has_magic, has_generation, generation_of, greater, counting};
 ghost use Rattle.std.specs.Ordering.{nat_cmp};
