@@ -74,3 +74,32 @@ found_again n s cs bytes end long stand = found (records_at n s bytes) (finds n 
 pub bytes_between : (s : Store) (cs : List Change) (bytes end : List ℕ) → IsBytes bytes → AreRecords s cs bytes end
     → length bytes - length end ≡ length (flat_map record_of cs)
 bytes_between s cs bytes end fits r = omega (arith, ap length (records_take cs s bytes end fits r), length-append (flat_map record_of cs) end)
+
+module _ (s : Store) (rest : List ℕ) where
+  -- behind an open gate, a record that fails fails all
+  open_fails : (n left : ℕ) → record_at s rest ≡ Err left → records_at (suc n) s (1 ∷ rest) ≡ Err left
+  unfolding records_at
+  open_fails n left e = rw e refl
+
+  -- behind an open gate and a first record, what fails behind it fails all
+  later_fails : (n left : ℕ) (c : Change) (next : List ℕ) → record_at s rest ≡ Ok (c, next) → records_at n (after c s) next ≡ Err left
+      → records_at (suc n) s (1 ∷ rest) ≡ Err left
+  unfolding records_at
+  later_fails n left c next e f = rw (e, f) refl
+
+-- no gate at the end of the bytes
+no_gate : (n : ℕ) (s : Store) → records_at n s [] ≡ Err 0
+unfolding records_at
+no_gate n s = refl
+
+-- Records that are refused at a field are refused there where as many are looked for as there are bytes.
+pub refused_again : (n : ℕ) (s : Store) (cs : List Change) (bytes : List ℕ) (left : ℕ) → length bytes ≤ n → IsRefused s cs bytes left
+    → records_at n s bytes ≡ Err left
+refused_again n s [] bytes left long (inl w) =
+    rw (w.0, w.1) (no_gate n s)
+refused_again zero s [] bytes left long (inr w) = absurd (omega (arith, long, ap length w.1))
+refused_again (suc n) s [] bytes left long (inr w) = rw w.1 (open_fails s w.0 n left w.2)
+refused_again zero s (c ∷ cs) bytes left long r = absurd (omega (arith, long, ap length r.2))
+refused_again (suc n) s (c ∷ cs) bytes left long r =
+    rw r.2 (later_fails s r.0 n left c r.1 r.3
+    (refused_again n (after c s) cs r.1 left (omega (arith, long, ap length r.2, record_shorter s r.0 (c, r.1) r.3)) r.4))

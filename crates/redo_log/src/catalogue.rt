@@ -27,6 +27,7 @@ impl Model for Catalogue {
 }
 
 impl Catalogue {
+    /// A catalogue without names. Takes no memory.
     pub fn new(alloc: Global) -> Catalogue
         ensures { result ≡ finite.empty }
     {

@@ -10,7 +10,8 @@
 //! definitions over lists.
 //!
 //! `number_at`, `byte_at`, `bytes_at`, `is_name` and `text_of` read the fields of which a record and a head are made, and
-//! `push_number`, `push_text`, `push_space`, `push_entry` and `push_id` write them.
+//! `push_number`, `push_text`, `push_space`, `push_entry` and `push_id` write them. `read_from` reads a file to its end,
+//! and `record_at` one record, which a `Store` takes.
 #![tactic(auto)]
 
 mod appending;
@@ -32,11 +33,17 @@ mod store;
 
 pub use appending::{append, settle};
 pub use body::{LogBody, build, push_entry, push_id, push_number, push_space, push_text};
+pub use catalogue::Catalogue;
 pub use change::{Change, LogChangeList, LogName, LogNameList};
 pub use end::{AppendEnd, LogEnd};
 pub use fault::ReadEnd;
 pub use fields::{byte_at, bytes_at, check, number_at};
 pub use laws::{page_laws, record_laws, scan_laws};
-pub use names::{is_name, text_of};
+pub use names::{is_name, is_next_name, text_of};
 pub use opening::opening_laws;
-pub use scanning::{LogBase, ScanEnd, Scanned, scan};
+pub use page_table::PageTable;
+pub use pages::id_at;
+pub use record::{has_home, name_length, record_at};
+pub use scanning::{LogBase, ScanEnd, Scanned, read_from, scan};
+pub use space_table::SpaceTable;
+pub use store::Store;

@@ -62,7 +62,8 @@ fn rises(order: Ordering, dropped: bool, sets: bool) -> bool
     }
 }
 
-fn is_next_name(done: &[LogName], sets: bool, name: &[u8]) -> bool
+/// Whether a name may come after those that are done, `sets` where it is set and not dropped.
+pub fn is_next_name(done: &[LogName], sets: bool, name: &[u8]) -> bool
     ensures { result ≡ is_next_name (last_in done.now) sets name.now }
 {
     match done.last() {

@@ -49,7 +49,8 @@ fn is_next_page(done: &[PageChange], id: PageId) -> bool
     }
 }
 
-fn id_at<'a>(
+/// A page's place, after the pages that are done. It lies in a document's space.
+pub fn id_at<'a>(
     done: &[PageChange],
     spaces: &SpaceTable,
     bytes: &'a [u8],

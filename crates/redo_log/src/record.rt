@@ -15,7 +15,8 @@ use crate::store::{Store, leave_gone, put_images};
 use page_bytes::{ChangeList, DocEntry, Page, PageChange, PageId};
 use std::alloc::Global;
 
-fn has_home(pages: &PageTable, entry: Option<DocEntry>) -> bool
+/// Whether a document that is set has its page 0.
+pub fn has_home(pages: &PageTable, entry: Option<DocEntry>) -> bool
     ensures { result ≡ has_home pages.now entry }
 {
     match entry {
@@ -27,7 +28,8 @@ fn has_home(pages: &PageTable, entry: Option<DocEntry>) -> bool
     }
 }
 
-fn name_length(n: &LogName) -> usize
+/// How many bytes a change of a name has.
+pub fn name_length(n: &LogName) -> usize
     ensures { result ≡ length (name_change n.now) }
 {
     match n.entry {

@@ -52,8 +52,8 @@ pub enum ScanEnd {
     NoMemory,
 }
 
-// The bytes of a file from a place on.
-fn read_from<D: Device>(
+/// The bytes of a file from a place on. Nothing else is read, and NotAStore doesn't come.
+pub fn read_from<D: Device>(
     alloc: Global,
     device: &mut D,
     file: Which,

@@ -29,6 +29,6 @@ mod tree;
 pub use end::CheckEnd;
 pub use making::{checkpoint, settle_head};
 pub use planning::{BUFFER_BYTES, CheckPlan, LAST_SLOT, MadePlan, Placed, plan};
-pub use slot_set::only_named;
+pub use slot_set::{SlotSet, only_named};
 pub use state::{DoubtedHead, Log, SlotState};
 pub use table::{PageTable, Row};

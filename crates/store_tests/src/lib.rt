@@ -9,6 +9,8 @@ mod hist_lock_calls;
 #[cfg(test)]
 mod page_device_calls;
 #[cfg(test)]
+mod recovery_calls;
+#[cfg(test)]
 mod redo_log_calls;
 #[cfg(test)]
 mod slot_store_calls;
