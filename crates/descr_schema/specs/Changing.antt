@@ -1,5 +1,5 @@
 -- What `add` and `remove` do, page by page.
-use Rattle.std.specs.Prelude.{◌≡◌, ℕ, zero, suc, ◌+◌, ◌⊎◌, Bool, not, ◌&&◌, ◌||◌, ◌==◌, nat_le, List, [], ◌∷◌, length, map, Option, Some, None, Result, Ok, Err, if◌then◌else◌}
+use Rattle.std.specs.Prelude.{◌≡◌, ℕ, zero, suc, ◌+◌, ◌<◌, ◌≤◌, ◌⊎◌, Bool, true, false, not, get_or, ◌&&◌, ◌||◌, ◌==◌, nat_le, List, [], ◌∷◌, length, map, Option, Some, None, Result, Ok, Err, if◌then◌else◌}
 use Rattle.std.specs.List.{list_any}
 use Rattle.page_bytes.specs.declared.ids.Space.{Space}
 use Rattle.page_bytes.specs.declared.ids.SchemaId.{SchemaId}
@@ -11,6 +11,8 @@ use Rattle.page_bytes.specs.Links.{page_in}
 use Rattle.page_bytes.specs.Refusal.{fresh_refusal}
 use Rattle.page_bytes.specs.Schema.{entry_count, next_schema_page}
 use Rattle.page_bytes.specs.Work.{Work, without_page, next_in, first_bytes}
+use Rattle.page_bytes.specs.Known.{Known}
+use Rattle.descr_schema.specs.declared.changing.Leaving.{Leaving}
 use Rattle.descr_schema.specs.declared.forms.Entry.{Entry}
 use Rattle.descr_schema.specs.declared.forms.Row.{Row}
 use Rattle.descr_schema.specs.declared.forms.Schema.{Schema}
@@ -37,6 +39,22 @@ unused_from ids (suc n) id = if has_id ids id then unused_from ids n (id + 1) el
 -- the id that is given next: the least from 1 on that no entry has
 abbrev pub next_id : List ℕ → ℕ
 next_id ids = unused_from ids (length ids) 1
+
+-- the list says of each number below its length whether it is one of these ids
+abbrev pub AreMarks : List ℕ → List Bool → Type 0
+AreMarks ids used = (k : ℕ) → k < length used → get_or used k false ≡ has_id ids k
+
+-- the first number from 1 on that isn't marked, or the one behind the last
+pub record IsFirstFree (used : List Bool) (n : ℕ) : Type 0 where
+  pub positive : 0 < n
+  pub within : n ≤ length used
+  pub before : (k : ℕ) → 0 < k → k < n → get_or used k false ≡ true
+  pub free : n < length used → get_or used n false ≡ false
+
+-- what is looked at of the page of an entry before that goes
+abbrev pub leaving_of : Known → Space → ℕ → Leaving
+leaving_of k space number =
+    let page = first_bytes k (page_in space number) in record { only = entry_count page == 1; next = next_schema_page page }
 
 -- a new entry, which has no block
 abbrev pub new_entry : ℕ → ℕ → ℕ → List ℕ → Entry

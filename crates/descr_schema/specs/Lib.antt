@@ -3,7 +3,9 @@ pub mod Entries
 pub mod Reading
 pub mod Finding
 pub mod Paths
+pub mod States
 pub mod Writing
+pub mod Inside
 pub mod Changing
 pub mod Meaning
 pub mod Owned

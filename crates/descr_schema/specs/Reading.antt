@@ -8,6 +8,7 @@ use Rattle.page_bytes.specs.Links.{page_in, and_then}
 use Rattle.page_bytes.specs.Schema.{entry_count, next_schema_page, schema_page, first_in}
 use Rattle.descr_schema.specs.declared.forms.Row.{Row}
 use Rattle.descr_schema.specs.declared.forms.Schema.{Schema}
+use Rattle.descr_schema.specs.declared.reading.Passage.{Passage}
 use Rattle.descr_schema.specs.Entries.{rows_among, rows_end}
 
 -- How far the chain has been read: the page that is next and the page that leads there, 0 for the head; the entries so far; and
@@ -61,3 +62,18 @@ schema_of w = record { rows = w.rows; last = w.from; end = w.end }
 abbrev pub IsRead : Known → Space → Result Schema PageEnd → Type 0
 IsRead k space (Ok schema) = (n : ℕ) × ((w : Walk) × ((walked k space n ≡ Ok w) × (w.next ≡ 0) × (schema ≡ schema_of w)))
 IsRead k space (Err end) = (end ≡ NoMemory) ⊎ (((n : ℕ) × (walked k space n ≡ Err end)) ⊎ WalkLeadsBack k space end)
+
+-- the entries of a page were added to those before, and end at a place; a refusal is that of the first that isn't good
+abbrev pub RowsRead : Space → ℕ → ℕ → List ℕ → List Row → List Row → Result ℕ PageEnd → Type 0
+RowsRead space from number page old new (Ok end) =
+    (rows : List Row) × ((rows_among space from number (entry_count page) 16 page ≡ Ok rows) × (new ≡ old ++ rows)
+    × (end ≡ rows_end (entry_count page) 16 page))
+RowsRead space from number page old new (Err end) = (end ≡ NoMemory) ⊎ (rows_among space from number (entry_count page) 16 page ≡ Err end)
+
+-- the next page of a chain was read behind the entries that were there, wherever those ended
+abbrev pub PageRead : Known → Space → ℕ → ℕ → List Row → List Row → Result Passage PageEnd → Type 0
+PageRead k space from number old new (Ok p) =
+    (ended : ℕ) → walk_page k space (record { from = from; next = number; rows = old; end = ended })
+    ≡ Ok (record { from = number; next = p.next; rows = new; end = p.end })
+PageRead k space from number old new (Err end) =
+    (end ≡ NoMemory) ⊎ ((ended : ℕ) → walk_page k space (record { from = from; next = number; rows = old; end = ended }) ≡ Err end)

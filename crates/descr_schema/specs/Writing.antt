@@ -21,9 +21,9 @@ with_count n page = with_field 2 page 2 n
 abbrev pub with_entry_more : ℕ → Entry → List ℕ → List ℕ
 with_entry_more at e page = with_count (entry_count page + 1) (with_entry at e page)
 
--- a new schema page with one entry
-abbrev pub page_with_entry : Entry → List ℕ
-page_with_entry e = with_count 1 (with_entry 16 e (with_bytes zeros 0 (SCHEMA_KIND ∷ [])))
+-- a page that is made a schema page with one entry
+abbrev pub page_of : List ℕ → Entry → List ℕ
+page_of page e = with_count 1 (with_entry 16 e (with_bytes page 0 (SCHEMA_KIND ∷ [])))
 
 -- the page without the bytes from a place up to another: what is behind them moves there, and there is one entry less
 abbrev pub without_entry : ℕ → ℕ → List ℕ → List ℕ
@@ -39,7 +39,7 @@ with_link w space from number = with_page w (page_in space from) (with_field 8 (
 
 -- a new schema page is there, with one entry
 abbrev pub with_new : Work → Space → Entry → Work
-with_new w space e = with_page (with_fresh w space) (page_in space (next_in w space)) (page_with_entry e)
+with_new w space e = with_page (with_fresh w space) (page_in space (next_in w space)) (page_of zeros e)
 
 -- an entry is there on a page, at a place
 abbrev pub with_entry_on : Work → Space → ℕ → ℕ → Entry → Work

@@ -1,0 +1,71 @@
+//! The calls on the schema.
+ghost use Rattle.std.specs.Prelude.{◌≤◌, length};
+ghost use Rattle.descr_schema.specs.Entries.{kind_byte as byte_of};
+ghost use Rattle.descr_schema.specs.Finding.{IsFound};
+ghost use Rattle.descr_schema.specs.Changing.{IsAdded, IsRemoved};
+
+use crate::changing::{add_path, remove_path};
+use crate::forms::kind_byte;
+use crate::numbers::find_child;
+use crate::reading::read_schema;
+use page_bytes::{PageEnd, Pages, SchemaId, Space, Workspace};
+use std::alloc::Global;
+use xq_ast::{Kind, Str};
+
+/// The schema node with this parent, kind and name, if it is there; the document's own has the parent 0.
+pub fn find<P: Pages>(
+    alloc: Global,
+    pages: &P,
+    space: Space,
+    parent: SchemaId,
+    kind: Kind,
+    name: &Str,
+) -> Result<Option<SchemaId>, PageEnd>
+    ensures pages { IsFound (P.known pages.now) space parent.0 (byte_of kind) name.now result }
+{
+    let schema = match read_schema(alloc, pages, space) {
+        Ok(schema) => schema,
+        Err(end) => return Err(end),
+    };
+    Ok(find_child(
+        schema.rows.as_slice(),
+        parent.0,
+        kind_byte(kind),
+        name.as_bytes(),
+    ))
+}
+
+/// Adds a path: the child of a parent with this kind and this name, which has at most 255 bytes. Its id is the least from 1 on that
+/// isn't there.
+pub fn add(
+    alloc: Global,
+    work: &mut Workspace,
+    space: Space,
+    parent: SchemaId,
+    kind: Kind,
+    name: &Str,
+) -> Result<SchemaId, PageEnd>
+    requires { length name.now ≤ 255 }
+    ensures pages { IsAdded work.old space parent.0 (byte_of kind) name.now result work.new }
+{
+    add_path(
+        alloc,
+        work,
+        space,
+        parent.0,
+        kind_byte(kind),
+        name.as_bytes(),
+    )
+}
+
+/// Takes a path away, by its id.
+pub fn remove(
+    alloc: Global,
+    work: &mut Workspace,
+    space: Space,
+    id: SchemaId,
+) -> Result<(), PageEnd>
+    ensures pages { IsRemoved work.old space id.0 result work.new }
+{
+    remove_path(alloc, work, space, id.0)
+}
