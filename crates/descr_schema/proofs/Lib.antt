@@ -1,0 +1,3 @@
+-- Lemmas of the schema: how its pages and their chain are read.
+pub mod Pages
+pub mod Walks
