@@ -1,8 +1,10 @@
 -- What the parts of a call tell each other: that the head and the pages of entries are there, and how far entries reach.
-use Rattle.std.specs.Prelude.{◌≡◌, ℕ, ◌+◌, ◌*◌, ◌<◌, ◌≤◌, ◌⊎◌, List, length, IsTrue}
+use Rattle.std.specs.Prelude.{◌≡◌, ℕ, ◌+◌, ◌*◌, ◌<◌, ◌≤◌, ◌⊎◌, List, length, Result, Ok, Err}
 use Rattle.std.specs.List.{All}
 use Rattle.page_bytes.specs.declared.ids.Space.{Space}
-use Rattle.page_bytes.specs.Known.{Known, is_there}
+use Rattle.page_bytes.specs.declared.end.PageEnd.{PageEnd}
+use Rattle.page_bytes.specs.declared.end.PageEnd.TheVariants.{NoMemory}
+use Rattle.page_bytes.specs.Known.{Known}
 use Rattle.page_bytes.specs.Kept.{IsWholeHead, IsWholePage}
 use Rattle.page_bytes.specs.Links.{page_in}
 use Rattle.page_bytes.specs.Schema.{entry_count}
@@ -30,3 +32,7 @@ pub record IsSchemaThere (k : Known) (space : Space) (s : Schema) : Type 0 where
   pub few : 0 < s.last → 16 + 26 * entry_count (first_bytes k (page_in space s.last)) ≤ s.end
   pub inside : s.end ≤ 4096
   pub rows : All (IsRowThere k space) s.rows
+
+-- what is asked for is answered, or there is no memory
+abbrev pub OrNoMemory : {X : Type 0} → Result X PageEnd → Result X PageEnd → Type 0
+OrNoMemory asked r = (r ≡ asked) ⊎ (r ≡ Err NoMemory)

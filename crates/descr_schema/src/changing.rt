@@ -7,12 +7,12 @@ ghost use Rattle.descr_schema.specs.Reading.{IsRead};
 ghost use Rattle.page_bytes.specs.Answers.{Answers};
 ghost use Rattle.page_bytes.specs.Kept.{IsWholeHead};
 
-use crate::forms::{ENTRIES_AT, ENTRY_BYTES, Entry, NEXT_PAGE_AT, Row, Schema};
+use crate::forms::{ENTRIES_AT, ENTRY_BYTES, Entry, NEXT_PAGE_AT, Row, Schema, copy_bytes};
 use crate::numbers::{find_row, has_id, least_unused};
 use crate::reading::{page_of_entries, read_schema};
 use crate::writing::{cut_entry, new_schema_page, write_link, write_on_page};
 use page_bytes::{
-    ByteList, NoMemory, PageEnd, PageId, SchemaId, Space, Workspace, read_u16, read_u64,
+    NoMemory, PageEnd, PageId, SchemaId, Space, Workspace, read_u16, read_u64,
 };
 use std::alloc::Global;
 
@@ -48,17 +48,13 @@ fn new_entry(
 ) -> Result<Entry, NoMemory>
     ensures { IfOk result (λ entry. entry ≡ form.new_entry id parent kind name.now) }
 {
-    let mut bytes = Vec::new(alloc);
-    if bytes.extend_from_slice(name).is_err() {
-        return Err(NoMemory);
-    }
     Ok(Entry {
         id,
         parent,
         kind,
         first_block: 0,
         last_block: 0,
-        name: ByteList::of(bytes),
+        name: copy_bytes(alloc, name)?,
     })
 }
 

@@ -1,8 +1,9 @@
 //! The form of schema pages, as it is read, and the lists of what was read.
-ghost use Rattle.std.specs.Prelude.{◌≡◌};
+ghost use Rattle.std.specs.Prelude.{◌≡◌, IfOk};
 ghost use Rattle.descr_schema.specs.Entries as form;
 
-use page_bytes::{ByteList, SchemaId};
+use page_bytes::{ByteList, NoMemory, SchemaId};
+use std::alloc::Global;
 use std::marker::Model;
 use xq_ast::Kind;
 
@@ -137,5 +138,16 @@ pub fn kind_byte(kind: Kind) -> u8
         Kind::Attribute => 2,
         Kind::Text => 3,
         Kind::Pi => 4,
+    }
+}
+
+/// A list of these bytes.
+pub fn copy_bytes(alloc: Global, bytes: &[u8]) -> Result<ByteList, NoMemory>
+    ensures { IfOk result (λ list. list ≡ bytes.now) }
+{
+    let mut copy = Vec::new(alloc);
+    match copy.extend_from_slice(bytes) {
+        Ok(()) => Ok(ByteList::of(copy)),
+        Err(_) => Err(NoMemory),
     }
 }

@@ -10,10 +10,12 @@
 
 mod changing;
 mod forms;
+mod matching;
 mod numbers;
 mod reading;
 mod schema;
+mod states;
 mod writing;
 
 pub use forms::SchemaIdList;
-pub use schema::{add, find, remove};
+pub use schema::{add, find, matches, remove};

@@ -57,10 +57,13 @@ fn used_ids(alloc: Global, rows: &[Row]) -> Result<Vec<bool>, NoMemory>
     ensures length { IfOk result (λ used. length used.items ≡ length rows.now + 1) }
     ensures marks { IfOk result (λ used. form.AreMarks (form.ids_of rows.now) used.items) }
 {
-    let mut used = match vec![in alloc; false; rows.len() + 1] {
-        Ok(used) => used,
-        Err(_) => return Err(NoMemory),
-    };
+    let mut used = Vec::new(alloc);
+    for _number in 0..rows.len() + 1 {
+        match used.push(false) {
+            Ok(()) => {}
+            Err(_) => return Err(NoMemory),
+        }
+    }
     for row in rows {
         let at = row.entry.id as usize;
         if at < used.len() {

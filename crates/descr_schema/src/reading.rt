@@ -8,10 +8,10 @@ ghost use Rattle.descr_schema.specs.Reading.{IsRead, RowsRead, PageRead};
 
 use crate::forms::{
     ENTRIES_AT, ENTRY_BYTES, Entry, FIRST_ENTRY_AT, FIRST_PAGE_AT, LAST_KIND, NEXT_PAGE_AT, Row,
-    RowList, SCHEMA_KIND, Schema,
+    RowList, SCHEMA_KIND, Schema, copy_bytes,
 };
 use page_bytes::{
-    ByteList, NoMemory, PageEnd, PageId, Pages, Space, ask, read_bytes, read_head, read_u8,
+    NoMemory, PageEnd, PageId, Pages, Space, ask, read_bytes, read_head, read_u8,
     read_u16, read_u32, read_u64,
 };
 use std::alloc::Global;
@@ -67,20 +67,14 @@ fn entry_at(alloc: Global, page: &[u8; 4096], at: usize) -> Result<Entry, NoMemo
     ensures { IfOk result (λ entry. entry ≡ form.entry_at at page.now) }
 {
     let length = read_u8(page, at + 25) as usize;
-    let mut name = Vec::new(alloc);
-    if name
-        .extend_from_slice(read_bytes(page, at + ENTRY_BYTES, length))
-        .is_err()
-    {
-        return Err(NoMemory);
-    }
+    let name = copy_bytes(alloc, read_bytes(page, at + ENTRY_BYTES, length))?;
     Ok(Entry {
         id: read_u32(page, at),
         parent: read_u32(page, at + 4),
         kind: read_u8(page, at + 8),
         first_block: read_u64(page, at + 9),
         last_block: read_u64(page, at + 17),
-        name: ByteList::of(name),
+        name,
     })
 }
 

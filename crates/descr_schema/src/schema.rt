@@ -1,16 +1,21 @@
 //! The calls on the schema.
-ghost use Rattle.std.specs.Prelude.{◌≤◌, length};
+ghost use Rattle.std.specs.Prelude.{◌≤◌, ℕ, List, Option, length, OnOk};
+ghost use Rattle.page_bytes.specs.declared.ids.PageId.{PageId};
+ghost use Rattle.page_bytes.specs.Own.{KeepsToOwn};
 ghost use Rattle.descr_schema.specs.Entries.{kind_byte as byte_of};
 ghost use Rattle.descr_schema.specs.Finding.{IsFound};
 ghost use Rattle.descr_schema.specs.Changing.{IsAdded, IsRemoved};
+ghost use Rattle.descr_schema.specs.Owned.{schema_own};
+ghost use Rattle.descr_schema.specs.Paths.{IsMatched};
 
 use crate::changing::{add_path, remove_path};
-use crate::forms::kind_byte;
+use crate::forms::{SchemaIdList, kind_byte};
+use crate::matching::match_steps;
 use crate::numbers::find_child;
 use crate::reading::read_schema;
 use page_bytes::{PageEnd, Pages, SchemaId, Space, Workspace};
 use std::alloc::Global;
-use xq_ast::{Kind, Str};
+use xq_ast::{Kind, PathTest, Str};
 
 /// The schema node with this parent, kind and name, if it is there; the document's own has the parent 0.
 pub fn find<P: Pages>(
@@ -21,7 +26,7 @@ pub fn find<P: Pages>(
     kind: Kind,
     name: &Str,
 ) -> Result<Option<SchemaId>, PageEnd>
-    ensures pages { IsFound (P.known pages.now) space parent.0 (byte_of kind) name.now result }
+    ensures { IsFound (P.known pages.now) space parent.0 (byte_of kind) name.now result }
 {
     let schema = match read_schema(alloc, pages, space) {
         Ok(schema) => schema,
@@ -47,6 +52,7 @@ pub fn add(
 ) -> Result<SchemaId, PageEnd>
     requires { length name.now ≤ 255 }
     ensures pages { IsAdded work.old space parent.0 (byte_of kind) name.now result work.new }
+    ensures own { OnOk result ((all : PageId → Option (List ℕ)) → KeepsToOwn schema_own 1 work.old work.new all space) }
 {
     add_path(
         alloc,
@@ -66,6 +72,19 @@ pub fn remove(
     id: SchemaId,
 ) -> Result<(), PageEnd>
     ensures pages { IsRemoved work.old space id.0 result work.new }
+    ensures own { OnOk result ((all : PageId → Option (List ℕ)) → KeepsToOwn schema_own 0 work.old work.new all space) }
 {
     remove_path(alloc, work, space, id.0)
+}
+
+/// The schema nodes whose paths from the document fit a structural path, in rising order, each once.
+pub fn matches<P: Pages>(
+    alloc: Global,
+    pages: &P,
+    space: Space,
+    path: &PathTest,
+) -> Result<SchemaIdList, PageEnd>
+    ensures { IsMatched (P.known pages.now) space path.now result }
+{
+    match_steps(alloc, pages, space, path.as_slice())
 }
