@@ -1,3 +1,5 @@
 -- Lemmas of the schema: how its pages and their chain are read.
 pub mod Pages
 pub mod Walks
+pub mod Fits
+pub mod Placing

@@ -1,7 +1,7 @@
 -- Entries of schema pages. An entry has its id, its parent's id at 4, its kind at 8, the numbers of its first block at 9 and of its
 -- last block at 17, the length of its name at 25 and its name from 26 on.
 use Rattle.std.specs.Prelude.{ℕ, zero, suc, ◌+◌, Bool, true, not, ◌&&◌, ◌==◌, nat_le, List, [], ◌∷◌, length, slice_index, Result, Ok, Err, if◌then◌else◌}
-use lib.Pointwise.{pointwise}
+use Rattle.std.specs.Cmp.Lexicographic.{pointwise}
 use Rattle.std.specs.Prelude.{nat_eq}
 use Rattle.xq_ast.specs.declared.kind.Kind.{Kind}
 use Rattle.xq_ast.specs.declared.kind.Kind.TheVariants.{Document, Element, Attribute, Text, Pi}
