@@ -3,3 +3,5 @@ pub mod Pages
 pub mod Walks
 pub mod Fits
 pub mod Placing
+pub mod There
+pub mod Numbers
