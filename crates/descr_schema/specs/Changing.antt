@@ -2,6 +2,7 @@
 use Rattle.std.specs.Prelude.{◌≡◌, ℕ, zero, suc, ◌+◌, ◌<◌, ◌≤◌, ◌⊎◌, Bool, true, false, not, get_or, ◌&&◌, ◌||◌, ◌==◌, nat_le, List, [], ◌∷◌, length, map, Option, Some, None, Result, Ok, Err, if◌then◌else◌}
 use Rattle.std.specs.List.{list_any}
 use Rattle.page_bytes.specs.declared.ids.Space.{Space}
+use Rattle.page_bytes.specs.declared.ids.PageId.{PageId}
 use Rattle.page_bytes.specs.declared.ids.SchemaId.{SchemaId}
 use Rattle.page_bytes.specs.declared.end.PageEnd.{PageEnd}
 use Rattle.page_bytes.specs.declared.end.PageEnd.TheVariants.{Damaged, NoMemory}
@@ -52,9 +53,8 @@ pub record IsFirstFree (used : List Bool) (n : ℕ) : Type 0 where
   pub free : n < length used → get_or used n false ≡ false
 
 -- what is looked at of the page of an entry before that goes
-abbrev pub leaving_of : Known → Space → ℕ → Leaving
-leaving_of k space number =
-    let page = first_bytes k (page_in space number) in record { only = entry_count page == 1; next = next_schema_page page }
+abbrev pub leaving_of : Known → PageId → Leaving
+leaving_of k id = let page = first_bytes k id in record { only = entry_count page == 1; next = next_schema_page page }
 
 -- a new entry, which has no block
 abbrev pub new_entry : ℕ → ℕ → ℕ → List ℕ → Entry

@@ -1,18 +1,17 @@
 //! How a path is added and taken away.
-ghost use Rattle.std.specs.Prelude.{◌≡◌, ◌≤◌, ◌<◌, ◌+◌, length, IfOk, OnOk, IsTrue, Some};
+ghost use Rattle.std.specs.Prelude.{◌≡◌, ◌≤◌, ◌<◌, length, IfOk, IsTrue, Some};
 ghost use Rattle.descr_schema.specs.Changing as form;
-ghost use Rattle.descr_schema.specs.Changing.{added_in, put_in, gone_in, row_gone, IsAdded, IsRemoved};
+ghost use Rattle.descr_schema.specs.Changing.{added_in, put_in, gone_in, IsAdded, IsRemoved};
 ghost use Rattle.descr_schema.specs.Inside.{IsSchemaThere, IsRowThere};
-ghost use Rattle.descr_schema.specs.Reading.{IsRead};
 ghost use Rattle.page_bytes.specs.Answers.{Answers};
-ghost use Rattle.page_bytes.specs.Kept.{IsWholeHead};
+ghost use Rattle.page_bytes.specs.Known.{is_there};
 
 use crate::forms::{ENTRIES_AT, ENTRY_BYTES, Entry, NEXT_PAGE_AT, Row, Schema, copy_bytes};
 use crate::numbers::{find_row, has_id, least_unused};
-use crate::reading::{page_of_entries, read_schema};
+use crate::reading::read_schema;
 use crate::writing::{cut_entry, new_schema_page, write_link, write_on_page};
 use page_bytes::{
-    NoMemory, PageEnd, PageId, SchemaId, Space, Workspace, read_u16, read_u64,
+    NoMemory, PageEnd, PageId, Pages, SchemaId, Space, Workspace, read_u16, read_u64,
 };
 use std::alloc::Global;
 
@@ -112,15 +111,15 @@ pub struct Leaving {
 }
 
 /// Looks at the page of an entry that is to go.
-fn look_at_page(work: &Workspace, space: Space, row: &Row) -> Result<Leaving, PageEnd>
-    requires { IsRowThere work.now.now space row.now }
-    ensures { IfOk result (λ leaving. leaving ≡ form.leaving_of work.now.now space row.now.page) }
+fn look_at_page(work: &Workspace, id: PageId) -> Leaving
+    requires { IsTrue (is_there work.now.now id) }
+    ensures { result ≡ form.leaving_of work.now.now id }
 {
-    let page = page_of_entries(work, space, row.from, row.page)?;
-    Ok(Leaving {
+    let page = work.page(id).unwrap();
+    Leaving {
         only: read_u16(page, ENTRIES_AT) == 1,
         next: read_u64(page, NEXT_PAGE_AT),
-    })
+    }
 }
 
 /// Takes an entry away.
@@ -128,13 +127,14 @@ fn remove_row(work: &mut Workspace, space: Space, row: &Row) -> Result<(), PageE
     requires { IsRowThere work.old.now space row.now }
     ensures { Answers (gone_in work.old space (Some row.now)) result work.new }
 {
-    let leaving = look_at_page(work, space, row)?;
+    let id = PageId {
+        space,
+        number: row.page,
+    };
+    let leaving = look_at_page(work, id);
     if leaving.only && row.from != 0 {
         write_link(work, space, row.from, leaving.next)?;
-        return work.free(PageId {
-            space,
-            number: row.page,
-        });
+        return work.free(id);
     }
     let at = row.at as usize;
     let end = at + ENTRY_BYTES + row.entry.name.as_slice().len();

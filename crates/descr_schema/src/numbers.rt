@@ -1,5 +1,5 @@
 //! Searches among the entries of a schema.
-ghost use Rattle.std.specs.Prelude.{◌≡◌, ◌≤◌, ◌<◌, ◌+◌, ℕ, length, option_map, Option, IfOk};
+ghost use Rattle.std.specs.Prelude.{◌≡◌, ◌<◌, ◌+◌, false, length, replicate, IfOk};
 ghost use Rattle.std.specs.Option.{option_copied};
 ghost use Rattle.descr_schema.specs.Entries.{is_child};
 ghost use Rattle.descr_schema.specs.Finding.{found_among};
@@ -52,18 +52,22 @@ pub fn has_id(rows: &[Row], id: u32) -> bool
     false
 }
 
+/// So many numbers of which none is noted.
+fn unmarked(alloc: Global, count: usize) -> Result<Vec<bool>, NoMemory>
+    ensures { IfOk result (λ used. used.items ≡ replicate count false) }
+{
+    match vec![in alloc; false; count] {
+        Ok(used) => Ok(used),
+        Err(_) => Err(NoMemory),
+    }
+}
+
 /// For each number up to the number of entries whether it is an id.
 fn used_ids(alloc: Global, rows: &[Row]) -> Result<Vec<bool>, NoMemory>
     ensures length { IfOk result (λ used. length used.items ≡ length rows.now + 1) }
     ensures marks { IfOk result (λ used. form.AreMarks (form.ids_of rows.now) used.items) }
 {
-    let mut used = Vec::new(alloc);
-    for _number in 0..rows.len() + 1 {
-        match used.push(false) {
-            Ok(()) => {}
-            Err(_) => return Err(NoMemory),
-        }
-    }
+    let mut used = unmarked(alloc, rows.len() + 1)?;
     for row in rows {
         let at = row.entry.id as usize;
         if at < used.len() {
