@@ -1,6 +1,6 @@
 -- What the pages of a document mean as a schema: the tree of paths, each once, as the list of its entries. An entry stands behind its
 -- parent's.
-use Rattle.std.specs.Prelude.{◌≡◌, ℕ, zero, suc, ◌+◌, ◌<◌, ◌≤◌, ◌⊎◌, Bool, true, false, not, ◌&&◌, ◌||◌, ◌==◌, List, [], ◌∷◌, ◌++◌, length, slice_index, map, Option, Some, None, IsTrue, if◌then◌else◌}
+use Rattle.std.specs.Prelude.{◌≡◌, ℕ, zero, suc, ◌+◌, ◌<◌, ◌≤◌, ◌⊎◌, Bool, true, false, not, ◌&&◌, ◌||◌, ◌==◌, List, [], ◌∷◌, ◌++◌, length, slice_index, map, Option, Some, None, unwrap_or, IsTrue, if◌then◌else◌}
 use Rattle.std.specs.List.{list_any, All}
 use Rattle.page_bytes.specs.declared.ids.Space.{Space}
 use Rattle.page_bytes.specs.declared.ids.PageId.{PageId}
@@ -15,6 +15,7 @@ use Rattle.page_bytes.specs.Seen.{PagesByNumber, seen, bytes, next_of}
 use Rattle.descr_schema.specs.declared.forms.Entry.{Entry}
 use Rattle.descr_schema.specs.Entries.{entry_at, is_good, is_child}
 use Rattle.descr_schema.specs.Changing.{MOST_ENTRIES, has_id, next_id, new_entry}
+use Rattle.descr_schema.specs.Paths.{Placed, path_of}
 
 -- whether so many entries of a page from a place on are good
 abbrev pub are_good : ℕ → ℕ → List ℕ → Bool
@@ -123,3 +124,12 @@ without_id (e ∷ es) id = if e.id == id then es else e ∷ without_id es id
 -- whether an entry with an id is there, and no other has it as its parent
 abbrev pub may_go : List Entry → ℕ → Bool
 may_go es id = has_id (entry_ids es) id && not (list_any (λ e. e.parent == id) es)
+
+-- the path of an entry behind those that are there: its parent's with the entry; the document's own has none
+abbrev pub entry_path : List Placed → Entry → List Entry
+entry_path before e = if e.parent == 0 then [] else unwrap_or (path_of before e.parent) [] ++ e ∷ []
+
+-- entries with their paths, the last one first
+abbrev pub entry_paths : List Placed → List Entry → List Placed
+entry_paths before [] = before
+entry_paths before (e ∷ es) = entry_paths (record { id = e.id; path = entry_path before e } ∷ before) es

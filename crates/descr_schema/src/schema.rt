@@ -1,12 +1,16 @@
 //! The calls on the schema.
-ghost use Rattle.std.specs.Prelude.{◌≤◌, ℕ, List, Option, length, OnOk};
+ghost use Rattle.std.specs.Prelude.{◌≡◌, ◌≤◌, ℕ, List, Option, [], length, IsTrue, OnOk, MatchResult};
+ghost use Rattle.page_bytes.specs.Answers.{IsStop};
+ghost use Rattle.page_bytes.specs.Seen.{seen};
+ghost use Rattle.descr_schema.specs.declared.forms.Entry.{Entry};
+ghost use Rattle.descr_schema.specs.Meaning.{MeansSchema, MayAdd, IsNotAdded, child_of, with_path, without_id, may_go, entry_paths};
 ghost use Rattle.page_bytes.specs.declared.ids.PageId.{PageId};
 ghost use Rattle.page_bytes.specs.Own.{KeepsToOwn};
 ghost use Rattle.descr_schema.specs.Entries.{kind_byte as byte_of};
 ghost use Rattle.descr_schema.specs.Finding.{IsFound};
 ghost use Rattle.descr_schema.specs.Changing.{IsAdded, IsRemoved};
 ghost use Rattle.descr_schema.specs.Owned.{schema_own};
-ghost use Rattle.descr_schema.specs.Paths.{IsMatched};
+ghost use Rattle.descr_schema.specs.Paths.{IsMatched, AreMatched};
 
 use crate::changing::{add_path, remove_path};
 use crate::forms::{SchemaIdList, kind_byte};
@@ -26,7 +30,8 @@ pub fn find<P: Pages>(
     kind: Kind,
     name: &Str,
 ) -> Result<Option<SchemaId>, PageEnd>
-    ensures { IsFound (P.known pages.now) space parent.0 (byte_of kind) name.now result }
+    ensures pages { IsFound (P.known pages.now) space parent.0 (byte_of kind) name.now result }
+    ensures meaning { (all : PageId → Option (List ℕ)) (es : List Entry) → MeansSchema (seen (P.known pages.now) all space) es → MatchResult result (λ found. found ≡ child_of es parent.0 (byte_of kind) name.now) (λ end. IsStop (P.known pages.now) all space end) }
 {
     let schema = match read_schema(alloc, pages, space) {
         Ok(schema) => schema,
@@ -53,6 +58,7 @@ pub fn add(
     requires { length name.now ≤ 255 }
     ensures pages { IsAdded work.old space parent.0 (byte_of kind) name.now result work.new }
     ensures own { OnOk result ((all : PageId → Option (List ℕ)) → KeepsToOwn schema_own 1 work.old work.new all space) }
+    ensures meaning { (all : PageId → Option (List ℕ)) (es : List Entry) → MeansSchema (seen work.old.now all space) es → MayAdd es parent.0 (byte_of kind) name.now → MatchResult result (λ id. MeansSchema (seen work.new.now all space) (with_path es parent.0 (byte_of kind) name.now)) (λ end. IsNotAdded work.old.now all space es end) }
 {
     add_path(
         alloc,
@@ -73,6 +79,7 @@ pub fn remove(
 ) -> Result<(), PageEnd>
     ensures pages { IsRemoved work.old space id.0 result work.new }
     ensures own { OnOk result ((all : PageId → Option (List ℕ)) → KeepsToOwn schema_own 0 work.old work.new all space) }
+    ensures meaning { (all : PageId → Option (List ℕ)) (es : List Entry) → MeansSchema (seen work.old.now all space) es → IsTrue (may_go es id.0) → MatchResult result (λ done. MeansSchema (seen work.new.now all space) (without_id es id.0)) (λ end. IsStop work.old.now all space end) }
 {
     remove_path(alloc, work, space, id.0)
 }
@@ -84,7 +91,8 @@ pub fn matches<P: Pages>(
     space: Space,
     path: &PathTest,
 ) -> Result<SchemaIdList, PageEnd>
-    ensures { IsMatched (P.known pages.now) space path.now result }
+    ensures pages { IsMatched (P.known pages.now) space path.now result }
+    ensures meaning { (all : PageId → Option (List ℕ)) (es : List Entry) → MeansSchema (seen (P.known pages.now) all space) es → MatchResult result (λ ids. AreMatched path.now (entry_paths [] es) ids) (λ end. IsStop (P.known pages.now) all space end) }
 {
     match_steps(alloc, pages, space, path.as_slice())
 }
