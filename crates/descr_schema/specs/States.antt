@@ -53,11 +53,15 @@ opened_all steps space opened [] = Ok opened
 opened_all steps space opened (r ∷ rs) =
     and_then (states_in steps space opened r) (λ states. opened_all steps space (map.insert opened r.entry.id states) rs)
 
--- whether all steps have been made
+-- the last of some states, or else the one before them
+abbrev pub last_of : Bool → List Bool → Bool
+last_of b [] = b
+last_of b (c ∷ bs) = last_of c bs
+
+-- whether all steps have been made: the last state
 abbrev pub is_end : List Bool → Bool
 is_end [] = false
-is_end (b ∷ []) = b
-is_end (b ∷ c ∷ bs) = is_end (c ∷ bs)
+is_end (b ∷ bs) = last_of b bs
 
 -- whether they have at the node with an id
 abbrev pub ends_at : Option (List Bool) → Bool
