@@ -64,8 +64,7 @@ module _ (space : Space) (from number : ℕ) (page : List ℕ) (old : List Row) 
   pub read_all : (rows : List Row) (left at : ℕ) → left ≡ 0 → HasRead rows left at → RowsRead space from number page old rows (Ok at)
   read_all rows left at none h =
       let here : behind_rows h.done (rows_among space from number left at page) ≡ Ok (h.done ++ []) =
-      ap (λ m. behind_rows h.done (rows_among space from number m at page)) none in
-      (
+      ap (λ m. behind_rows h.done (rows_among space from number m at page)) none in (
         h.done,
         (
           sym h.rest ∙ here ∙ ap (λ (l : List Row). Ok l) (append-nil h.done),

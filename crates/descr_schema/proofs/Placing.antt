@@ -62,7 +62,7 @@ module _ (steps : List PathStep) (space : Space) where
   pub all_opened : (rows : List Row) (opened : StateMap) (before : List Placed) → AreOpened opened before
       → OpensAs (opened_all steps space opened rows) (placed space before rows)
   all_opened [] opened before are = are
-  all_opened (r ∷ rs) opened before are = 
+  all_opened (r ∷ rs) opened before are =
       at (path_in space before r) (states_in steps space opened r) (row_states opened before r are)
       (λ path. all_opened rs (map.insert opened r.entry.id (states_at steps path)) (record { id = r.entry.id; path = path } ∷ before)
       (opened_more opened before r.entry.id path are))

@@ -101,8 +101,7 @@ module _ (k : Known) (space : Space) where
       → Contains passed number → WalkLeadsBack k space (Damaged (page_in space from))
   walked_back from number rows end passed h some there =
       let before = All-contains (IsPassed h.0) passed number h.1.1 there in
-      let next = before.1.1.2 in
-      (
+      let next = before.1.1.2 in (
         before.0,
         (h.0, (before.1.0, (walk_at from number rows end, (before.1.1.0, before.1.1.1, h.1.0, sym next, omega (arith, next, some), refl)))),
       )

@@ -38,13 +38,7 @@ fn put_entry(
 }
 
 /// A new entry without blocks.
-fn new_entry(
-    alloc: Global,
-    id: u32,
-    parent: u32,
-    kind: u8,
-    name: &[u8],
-) -> Result<Entry, NoMemory>
+fn new_entry(alloc: Global, id: u32, parent: u32, kind: u8, name: &[u8]) -> Result<Entry, NoMemory>
     ensures { IfOk result (λ entry. entry ≡ form.new_entry id parent kind name.now) }
 {
     Ok(Entry {

@@ -11,8 +11,8 @@ use crate::forms::{
     RowList, SCHEMA_KIND, Schema, copy_bytes,
 };
 use page_bytes::{
-    NoMemory, PageEnd, PageId, Pages, Space, ask, read_bytes, read_head, read_u8,
-    read_u16, read_u32, read_u64,
+    NoMemory, PageEnd, PageId, Pages, Space, ask, read_bytes, read_head, read_u8, read_u16,
+    read_u32, read_u64,
 };
 use std::alloc::Global;
 

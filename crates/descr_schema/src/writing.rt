@@ -64,11 +64,7 @@ fn write_first_entry(work: &mut Workspace, id: PageId, entry: &Entry) -> Result<
 }
 
 /// Makes a new schema page with one entry.
-pub fn new_schema_page(
-    work: &mut Workspace,
-    space: Space,
-    entry: &Entry,
-) -> Result<u64, PageEnd>
+pub fn new_schema_page(work: &mut Workspace, space: Space, entry: &Entry) -> Result<u64, PageEnd>
     requires { length entry.now.name < 256 }
     ensures answer { Answers (unless (fresh_refusal work.old.now space) (next_in work.old space, form.with_new work.old space entry.now)) result work.new }
 {
@@ -78,12 +74,7 @@ pub fn new_schema_page(
 }
 
 /// Makes the page `from` lead to a schema page; 0 is the head.
-pub fn write_link(
-    work: &mut Workspace,
-    space: Space,
-    from: u64,
-    number: u64,
-) -> Result<(), PageEnd>
+pub fn write_link(work: &mut Workspace, space: Space, from: u64, number: u64) -> Result<(), PageEnd>
     requires { IsTrue (is_there work.old.now (page_in space from)) }
     ensures { Answers (Ok (tt, form.with_link work.old space from number)) result work.new }
 {

@@ -80,12 +80,24 @@ fn document(alloc: Global) -> Result<Workspace, PageEnd> {
 fn removed_id_is_given_again(rt: HostRuntime) -> Result<(), Fail> {
     let alloc = rt.alloc();
     let mut work = document(alloc)?;
-    assert_eq!(rt; found(alloc, &work, 3, Kind::Element, "b"), Ok(Some(SchemaId(4))));
+    assert_eq!(rt;
+        found(alloc, &work, 3, Kind::Element, "b"),
+        Ok(Some(SchemaId(4)))
+    );
     assert_eq!(rt; remove(alloc, &mut work, SPACE, SchemaId(4)), Ok(()));
     assert_eq!(rt; found(alloc, &work, 3, Kind::Element, "b"), Ok(None));
-    assert_eq!(rt; added(alloc, &mut work, 8, Kind::Element, "d"), Ok(SchemaId(4)));
-    assert_eq!(rt; found(alloc, &work, 8, Kind::Element, "d"), Ok(Some(SchemaId(4))));
-    assert_eq!(rt; found(alloc, &work, 2, Kind::Element, "b"), Ok(Some(SchemaId(8))));
+    assert_eq!(rt;
+        added(alloc, &mut work, 8, Kind::Element, "d"),
+        Ok(SchemaId(4))
+    );
+    assert_eq!(rt;
+        found(alloc, &work, 8, Kind::Element, "d"),
+        Ok(Some(SchemaId(4)))
+    );
+    assert_eq!(rt;
+        found(alloc, &work, 2, Kind::Element, "b"),
+        Ok(Some(SchemaId(8)))
+    );
     Ok(())
 }
 
@@ -94,7 +106,10 @@ fn absent_parent_and_id_damage_the_head(rt: HostRuntime) -> Result<(), Fail> {
     let alloc = rt.alloc();
     let mut work = document(alloc)?;
     let damaged = PageEnd::Damaged { page: id(0) };
-    assert_eq!(rt; added(alloc, &mut work, 9, Kind::Element, "d"), Err(damaged));
+    assert_eq!(rt;
+        added(alloc, &mut work, 9, Kind::Element, "d"),
+        Err(damaged)
+    );
     assert_eq!(rt; remove(alloc, &mut work, SPACE, SchemaId(9)), Err(damaged));
     Ok(())
 }
@@ -138,7 +153,10 @@ fn full_page_and_one_more(rt: HostRuntime) -> Result<(), Fail> {
     let alloc = rt.alloc();
     let mut work = full_page(alloc)?;
     assert_eq!(rt; page_of(&work, 1), Some((17, 0)));
-    assert_eq!(rt; added(alloc, &mut work, 1, Kind::Element, "d"), Ok(SchemaId(18)));
+    assert_eq!(rt;
+        added(alloc, &mut work, 1, Kind::Element, "d"),
+        Ok(SchemaId(18))
+    );
     assert_eq!(rt; page_of(&work, 1), Some((17, 2)));
     assert_eq!(rt; page_of(&work, 2), Some((1, 0)));
     assert_eq!(rt; remove(alloc, &mut work, SPACE, SchemaId(18)), Ok(()));
@@ -190,10 +208,16 @@ fn child_steps(rt: HostRuntime) -> Result<(), Fail> {
     let work = document(alloc)?;
     let first = step(alloc, false, false, Some("r"))?;
     let last = step(alloc, false, false, None)?;
-    assert_eq!(rt; matched(alloc, &work, first, last, &[SchemaId(3), SchemaId(8)]), Ok(true));
+    assert_eq!(rt;
+        matched(alloc, &work, first, last, &[SchemaId(3), SchemaId(8)]),
+        Ok(true)
+    );
     let first = step(alloc, false, false, None)?;
     let last = step(alloc, false, true, None)?;
-    assert_eq!(rt; matched(alloc, &work, first, last, &[SchemaId(5)]), Ok(true));
+    assert_eq!(rt;
+        matched(alloc, &work, first, last, &[SchemaId(5)]),
+        Ok(true)
+    );
     Ok(())
 }
 
@@ -203,13 +227,22 @@ fn deep_steps(rt: HostRuntime) -> Result<(), Fail> {
     let work = document(alloc)?;
     let first = step(alloc, true, false, Some("r"))?;
     let last = step(alloc, true, false, Some("b"))?;
-    assert_eq!(rt; matched(alloc, &work, first, last, &[SchemaId(4), SchemaId(8)]), Ok(true));
+    assert_eq!(rt;
+        matched(alloc, &work, first, last, &[SchemaId(4), SchemaId(8)]),
+        Ok(true)
+    );
     let first = step(alloc, false, false, Some("r"))?;
     let last = step(alloc, true, true, Some("c"))?;
-    assert_eq!(rt; matched(alloc, &work, first, last, &[SchemaId(5), SchemaId(6)]), Ok(true));
+    assert_eq!(rt;
+        matched(alloc, &work, first, last, &[SchemaId(5), SchemaId(6)]),
+        Ok(true)
+    );
     let first = step(alloc, true, false, None)?;
     let last = step(alloc, false, false, Some("b"))?;
-    assert_eq!(rt; matched(alloc, &work, first, last, &[SchemaId(4), SchemaId(8)]), Ok(true));
+    assert_eq!(rt;
+        matched(alloc, &work, first, last, &[SchemaId(4), SchemaId(8)]),
+        Ok(true)
+    );
     Ok(())
 }
 
@@ -247,7 +280,9 @@ fn counted(alloc: Global, work: &Workspace, parent: u32, first: u32) -> Result<u
             Ok(name) => name,
             Err(_) => return Err(PageEnd::NoMemory),
         };
-        if found(alloc, work, parent, Kind::Element, name.as_str())? == Some(SchemaId(first + number)) {
+        if found(alloc, work, parent, Kind::Element, name.as_str())?
+            == Some(SchemaId(first + number))
+        {
             count += 1;
         }
     }
@@ -273,6 +308,9 @@ fn thousand_paths(rt: HostRuntime) -> Result<(), Fail> {
     assert_eq!(rt; thinned(alloc, &mut work, 103, 1003), Ok(()));
     assert_eq!(rt; counted(alloc, &work, 2, 3), Ok(100));
     assert_eq!(rt; counted(alloc, &work, 11, 903), Ok(66));
-    assert_eq!(rt; added(alloc, &mut work, 2, Kind::Attribute, "n"), Ok(SchemaId(105)));
+    assert_eq!(rt;
+        added(alloc, &mut work, 2, Kind::Attribute, "n"),
+        Ok(SchemaId(105))
+    );
     Ok(())
 }
