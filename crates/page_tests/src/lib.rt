@@ -5,6 +5,8 @@
 #![tactic(auto)]
 
 #[cfg(test)]
+mod descr_schema_calls;
+#[cfg(test)]
 mod indirection_calls;
 #[cfg(test)]
 mod order_labels_calls;
