@@ -1,0 +1,3 @@
+-- Blocks of descriptors: the forms of their pages, and what the calls make of a schema node's blocks.
+pub mod Forms
+pub mod BlockRows
