@@ -7,7 +7,7 @@ use crate::forms::{
 use crate::moved::Move;
 use crate::reading::{add, damaged, page_from};
 use page_bytes::{
-    Addr, NodeNo, PageEnd, PageId, Pages, SchemaId, Space, Workspace, read_bytes, read_u32,
+    Addr, NodeNo, PageEnd, PageId, SchemaId, Space, Workspace, read_bytes, read_u32,
 };
 use std::alloc::Global;
 

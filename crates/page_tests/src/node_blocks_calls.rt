@@ -2,7 +2,7 @@
 use node_blocks::{Descriptor, find, insert, remove};
 use order_labels::Label;
 use page_bytes::{
-    Draft, NoMemory, NodeNo, Page, PageEnd, PageId, PageSet, Pages, SchemaId, Space, TextRef,
+    Draft, LAST_LAYER, NoMemory, NodeNo, Page, PageEnd, PageId, PageSet, Pages, SchemaId, Space, TextRef,
     Workspace, read_u16, read_u32, read_u64,
 };
 use std::alloc::Global;
@@ -40,9 +40,9 @@ fn empty_document(alloc: Global) -> Result<Workspace, NoMemory> {
     Ok(Workspace::over(alloc, set))
 }
 
-// A label of two bytes: key numbers from 1 to 60,000 in their order.
+// A label of two bytes, which are in the order of the keys.
 fn label(alloc: Global, key: u16) -> Result<Label, Fail> {
-    Ok(Label::from_bytes(alloc, &[(key / 250 + 2) as u8, (key % 250 + 2) as u8])?)
+    Ok(Label::from_bytes(alloc, &key.to_be_bytes())?)
 }
 
 fn row(alloc: Global, key: u16) -> Result<Descriptor, Fail> {
@@ -77,6 +77,9 @@ fn found(alloc: Global, work: &Workspace, key: u16) -> Result<u32, Fail> {
     let wanted = label(alloc, key)?;
     match find(alloc, work, SPACE, ID, &wanted)? {
         Some(place) => {
+            if place.layer > LAST_LAYER || place.at > 4000 {
+                return Err(Fail::from("no place of a page"));
+            }
             let page = work.page(id(place.number())).ok_or("no page")?;
             Ok(read_u32(page, place.at as usize + 2))
         }
