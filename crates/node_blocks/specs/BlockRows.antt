@@ -2,7 +2,7 @@
 -- whose first row isn't above the new one, or else into the first block. A full block gives its upper 28 rows to a fresh block
 -- after it, but behind the last row of the last full block a fresh block begins with the new row alone. After a removal a block
 -- without rows goes, and a block and its next with at most 28 rows together are one.
-use Rattle.std.specs.Prelude.{ℕ, zero, suc, ◌+◌, ◌==◌, Bool, true, false, nat_le, nat_lt, List, [], ◌∷◌, ◌++◌, length, take, drop, map, Option, Some, None, if◌then◌else◌}
+use Rattle.std.specs.Prelude.{ℕ, zero, suc, ◌+◌, ◌==◌, Bool, true, false, nat_le, nat_lt, List, [], ◌∷◌, ◌++◌, length, take, drop, map, if◌then◌else◌}
 use Rattle.std.specs.declared.cmp.Ordering.{Ordering}
 use Rattle.std.specs.declared.cmp.Ordering.TheVariants.{Less, Equal, Greater}
 use Rattle.order_labels.specs.LabelOrder.{byte_order}
@@ -91,7 +91,7 @@ split fresh node label block =
     record {
       blocks =
           if nat_le (place_of label block.rows) HALF then
-            record { page = block.page; rows = with_row node label low } ∷ record { page = fresh; rows = high } ∷ []
+          record { page = block.page; rows = with_row node label low } ∷ record { page = fresh; rows = high } ∷ []
           else record { page = block.page; rows = low } ∷ record { page = fresh; rows = with_row node label high } ∷ [];
       moved = moves_of fresh high;
     }
@@ -157,22 +157,22 @@ abbrev pub joined : Block → List Block → After
 joined block [] = record { blocks = block ∷ []; moved = [] }
 joined block (next ∷ blocks) =
     if nat_le (length block.rows + length next.rows) HALF then
-      record { blocks = merged block next ∷ blocks; moved = moves_of block.page (drop (length block.rows) (merged block next).rows) }
+    record { blocks = merged block next ∷ blocks; moved = moves_of block.page (drop (length block.rows) (merged block next).rows) }
     else record { blocks = block ∷ next ∷ blocks; moved = [] }
 
--- a block without the row, which goes if it has none left
-abbrev pub lessened : Block → List Block → After
-lessened (record { page = page; rows = [] }) blocks = record { blocks = blocks; moved = [] }
-lessened (record { page = page; rows = row ∷ rows }) blocks = joined (record { page = page; rows = row ∷ rows }) blocks
+-- a block with the rows that it has left, which goes if it has none
+abbrev pub lessened : ℕ → List Row → List Block → After
+lessened page [] blocks = record { blocks = blocks; moved = [] }
+lessened page (row ∷ rows) blocks = joined (record { page = page; rows = row ∷ rows }) blocks
 
--- what was done behind a block, and if nothing moved there the block joined with what is behind it
-abbrev pub joined_before : Block → After → After
-joined_before block (record { blocks = blocks; moved = [] }) = joined block blocks
-joined_before block (record { blocks = blocks; moved = m ∷ moved }) = record { blocks = block ∷ blocks; moved = m ∷ moved }
+-- a block with what was done behind it. If nothing moved there it is joined with its next
+abbrev pub joined_before : Block → List Block → List Moved → After
+joined_before block blocks [] = joined block blocks
+joined_before block blocks (m ∷ moved) = record { blocks = block ∷ blocks; moved = m ∷ moved }
 
 -- the blocks without the row of a label
 abbrev pub removed : List ℕ → List Block → After
 removed label [] = record { blocks = []; moved = [] }
 removed label (block ∷ blocks) =
-    if has_row label block.rows then lessened (record block { rows = without_row label block.rows }) blocks
-    else joined_before block (removed label blocks)
+    if has_row label block.rows then lessened block.page (without_row label block.rows) blocks
+    else joined_before block (removed label blocks).blocks (removed label blocks).moved

@@ -85,7 +85,14 @@ pub fn insert_row(
     }
     let block = block_of(alloc, work, space, id, &ends, &row.label)?;
     let mut rows = rows_of(alloc, work, space, &block)?;
-    let place = place_in(alloc, work, space, block.number, rows.as_slice(), &row.label)?;
+    let place = place_in(
+        alloc,
+        work,
+        space,
+        block.number,
+        rows.as_slice(),
+        &row.label,
+    )?;
     if block.count < MOST_ROWS {
         put_row(work, space, block.number, &mut rows, place.passed, row)?;
         return Ok(Moved::of(Vec::new(alloc)));
@@ -93,5 +100,15 @@ pub fn insert_row(
     if block.behind == 0 && place.passed == rows.len() {
         return begin_block(alloc, work, space, id, &ends, block.number, row);
     }
-    split(alloc, work, space, id, &ends, &block, rows.as_slice(), place.passed, row)
+    split(
+        alloc,
+        work,
+        space,
+        id,
+        &ends,
+        &block,
+        rows.as_slice(),
+        place.passed,
+        row,
+    )
 }

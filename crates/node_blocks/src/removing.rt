@@ -8,13 +8,14 @@ use order_labels::Label;
 use page_bytes::{PageEnd, PageId, SchemaId, Space, Workspace};
 use std::alloc::Global;
 
-/// The blocks beside a block, where there are such, with the right links.
+/// The blocks beside a block, where there are such.
 struct Beside {
     before: Option<Block>,
     behind: Option<Block>,
 }
 
-fn beside(
+/// The blocks beside a block, which link back to it.
+fn look_beside(
     work: &Workspace,
     space: Space,
     id: SchemaId,
@@ -35,6 +36,7 @@ fn beside(
     Ok(Beside { before, behind })
 }
 
+/// The block with a number, or none for 0.
 fn neighbour(
     work: &Workspace,
     space: Space,
@@ -59,7 +61,15 @@ fn merge(
 ) -> Result<Moved, PageEnd> {
     let mut rows = rows_of(alloc, work, space, block)?;
     let more = rows_of(alloc, work, space, next)?;
-    let moves = move_rows(alloc, work, space, next, more.as_slice(), block.number, &mut rows)?;
+    let moves = move_rows(
+        alloc,
+        work,
+        space,
+        next,
+        more.as_slice(),
+        block.number,
+        &mut rows,
+    )?;
     join(work, space, ends, block.number, next.behind)?;
     work.free(PageId {
         space,
@@ -68,7 +78,7 @@ fn merge(
     Ok(Moved::of(moves))
 }
 
-/// Joins a block that lost a row, `left` of which are there, with the one behind it or the one before it where they have few
+/// Joins a block that lost a row with the one behind it or the one before it where they have few
 /// rows together.
 fn settle(
     alloc: Global,
@@ -113,7 +123,7 @@ pub fn remove_row(
         Some(index) => index,
         None => return Err(damaged(space, 0)),
     };
-    let beside = beside(work, space, id, &ends, &block)?;
+    let beside = look_beside(work, space, id, &ends, &block)?;
     if block.count == 1 {
         join(work, space, &ends, block.before, block.behind)?;
         work.free(PageId {

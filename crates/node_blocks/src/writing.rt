@@ -6,9 +6,7 @@ use crate::forms::{
 };
 use crate::moved::Move;
 use crate::reading::{add, damaged, page_from};
-use page_bytes::{
-    Addr, NodeNo, PageEnd, PageId, SchemaId, Space, Workspace, read_bytes, read_u32,
-};
+use page_bytes::{Addr, NodeNo, PageEnd, PageId, SchemaId, Space, Workspace, read_bytes, read_u32};
 use std::alloc::Global;
 
 /// Writes a number of eight bytes.
@@ -114,6 +112,12 @@ pub fn put_row(
     write_order(work, space, number, rows)
 }
 
+/// A row that was moved: its index in its block now, and the move.
+struct Settled {
+    index: u16,
+    made: Move,
+}
+
 /// Moves a row to the first free index of another block.
 fn move_row(
     work: &mut Workspace,
@@ -121,7 +125,7 @@ fn move_row(
     from: &[u8; 4096],
     index: u16,
     to: u64,
-) -> Result<(u16, Move), PageEnd> {
+) -> Result<Settled, PageEnd> {
     let free = free_index(page_from(work, space, to, to)?);
     let new = match free {
         Some(new) => new,
@@ -133,7 +137,10 @@ fn move_row(
     draft.write_bytes(place, read_bytes(from, at, DESCRIPTOR_BYTES));
     let node = NodeNo(read_u32(from, at + 2));
     let to = Addr::of(to, place as u16);
-    Ok((new, Move { node, to }))
+    Ok(Settled {
+        index: new,
+        made: Move { node, to },
+    })
 }
 
 /// Moves rows of a block behind the rows of another one, and lists the moves.
@@ -149,9 +156,9 @@ pub fn move_rows(
     let bytes = *page_from(work, space, from.number, from.number)?;
     let mut moves = Vec::new(alloc);
     for index in rows {
-        let (new, moved) = move_row(work, space, &bytes, *index, to)?;
-        add(target, new)?;
-        add(&mut moves, moved)?;
+        let settled = move_row(work, space, &bytes, *index, to)?;
+        add(target, settled.index)?;
+        add(&mut moves, settled.made)?;
     }
     write_order(work, space, to, target)?;
     Ok(moves)

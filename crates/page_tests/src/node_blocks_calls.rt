@@ -2,8 +2,8 @@
 use node_blocks::{Descriptor, find, insert, remove};
 use order_labels::Label;
 use page_bytes::{
-    Draft, LAST_LAYER, NoMemory, NodeNo, Page, PageEnd, PageId, PageSet, Pages, SchemaId, Space, TextRef,
-    Workspace, read_u16, read_u32, read_u64,
+    Draft, LAST_LAYER, NoMemory, NodeNo, Page, PageEnd, PageId, PageSet, Pages, SchemaId, Space,
+    TextRef, Workspace, read_u16, read_u32, read_u64,
 };
 use std::alloc::Global;
 use std::test::Fail;
