@@ -1,4 +1,11 @@
 //! The calls on blocks.
+ghost use Rattle.std.specs.Prelude.{ℕ, ◌<◌, ◌≤◌, ◌⊎◌, List, length, Option, Some, IsSome, Ok, OnOk};
+ghost use Rattle.page_bytes.specs.declared.ids.Addr.{Addr};
+ghost use Rattle.page_bytes.specs.declared.ids.PageId.{PageId};
+ghost use Rattle.page_bytes.specs.Own.{KeepsToOwn};
+ghost use Rattle.page_bytes.specs.Schema.{IsSchemaEntry};
+ghost use Rattle.node_blocks.specs.Owned.{block_pages};
+
 use crate::descriptor::Descriptor;
 use crate::finding::block_of;
 use crate::forms::descriptor_at;
@@ -42,7 +49,11 @@ pub fn insert(
     space: Space,
     id: SchemaId,
     row: &Descriptor,
-) -> Result<Moved, PageEnd> {
+) -> Result<Moved, PageEnd>
+    requires number { 0 < row.now.no.0 }
+    requires label { (length row.now.label ≤ 39) ⊎ IsSome row.now.label_at }
+    ensures own { OnOk result ((all : PageId → Option (List ℕ)) (place : Addr) → IsSchemaEntry work.old.now space id.0 (Ok (Some place)) → KeepsToOwn (block_pages place) 1 work.old work.new all space) }
+{
     insert_row(alloc, work, space, id, row)
 }
 
@@ -53,6 +64,8 @@ pub fn remove(
     space: Space,
     id: SchemaId,
     label: &Label,
-) -> Result<Moved, PageEnd> {
+) -> Result<Moved, PageEnd>
+    ensures own { OnOk result ((all : PageId → Option (List ℕ)) (place : Addr) → IsSchemaEntry work.old.now space id.0 (Ok (Some place)) → KeepsToOwn (block_pages place) 0 work.old work.new all space) }
+{
     remove_row(alloc, work, space, id, label)
 }
