@@ -61,6 +61,9 @@ fn row(alloc: Global, key: u16) -> Result<Descriptor, Fail> {
 // Inserts a key, and gives how many nodes moved and the number of the last one.
 fn put(alloc: Global, work: &mut Workspace, key: u16) -> Result<(usize, u32), Fail> {
     let new = row(alloc, key)?;
+    if new.no.0 == 0 || new.label.len() > 39 {
+        return Err(Fail::from("no row to insert"));
+    }
     let moved = insert(alloc, work, SPACE, ID, &new)?;
     let last = moved.as_slice().last().map_or(0, |m| m.node.0);
     Ok((moved.as_slice().len(), last))
