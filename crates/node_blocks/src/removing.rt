@@ -27,10 +27,14 @@ fn look_beside(
     }
     let before = neighbour(work, space, id, block, block.before)?;
     let behind = neighbour(work, space, id, block, block.behind)?;
-    if before.is_some_and(|b| b.behind != block.number) {
+    if let Some(other) = before
+        && other.behind != block.number
+    {
         return Err(damaged(space, block.before));
     }
-    if behind.is_some_and(|b| b.before != block.number) {
+    if let Some(other) = behind
+        && other.before != block.number
+    {
         return Err(damaged(space, block.behind));
     }
     Ok(Beside { before, behind })

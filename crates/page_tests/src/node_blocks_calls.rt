@@ -65,8 +65,11 @@ fn put(alloc: Global, work: &mut Workspace, key: u16) -> Result<(usize, u32), Fa
         return Err(Fail::from("no row to insert"));
     }
     let moved = insert(alloc, work, SPACE, ID, &new)?;
-    let last = moved.as_slice().last().map_or(0, |m| m.node.0);
-    Ok((moved.as_slice().len(), last))
+    let moves = moved.as_slice();
+    match moves.last() {
+        Some(last) => Ok((moves.len(), last.node.0)),
+        None => Ok((0, 0)),
+    }
 }
 
 fn take(alloc: Global, work: &mut Workspace, key: u16) -> Result<usize, Fail> {
