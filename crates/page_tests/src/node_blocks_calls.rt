@@ -127,7 +127,7 @@ fn key_before_a_full_block(rt: HostRuntime) -> Result<(), Fail> {
     let alloc = rt.alloc();
     let mut work = full_block(alloc)?;
     assert_eq!(rt; put(alloc, &mut work, 100)?, (28, 1156));
-    assert_eq!(rt; counts(alloc, &work)?.as_slice(), &[29, 28]);
+    assert_eq!(rt; counts(alloc, &work)?.as_slice(), [29, 28].as_slice());
     assert_eq!(rt; found(alloc, &work, 100)?, 1100);
     assert_eq!(rt; found(alloc, &work, 129)?, 1129);
     assert_eq!(rt; found(alloc, &work, 99)?, 0);
@@ -139,9 +139,9 @@ fn key_behind_a_full_block(rt: HostRuntime) -> Result<(), Fail> {
     let alloc = rt.alloc();
     let mut work = full_block(alloc)?;
     assert_eq!(rt; put(alloc, &mut work, 157)?, (0, 0));
-    assert_eq!(rt; counts(alloc, &work)?.as_slice(), &[56, 1]);
+    assert_eq!(rt; counts(alloc, &work)?.as_slice(), [56, 1].as_slice());
     assert_eq!(rt; take(alloc, &mut work, 157)?, 0);
-    assert_eq!(rt; counts(alloc, &work)?.as_slice(), &[56]);
+    assert_eq!(rt; counts(alloc, &work)?.as_slice(), [56].as_slice());
     assert_eq!(rt; found(alloc, &work, 156)?, 1156);
     Ok(())
 }
@@ -155,9 +155,9 @@ fn small_blocks_become_one(rt: HostRuntime) -> Result<(), Fail> {
     for key in 101..129 {
         assert_eq!(rt; take(alloc, &mut work, key)?, 0);
     }
-    assert_eq!(rt; counts(alloc, &work)?.as_slice(), &[1, 28]);
+    assert_eq!(rt; counts(alloc, &work)?.as_slice(), [1, 28].as_slice());
     assert_eq!(rt; take(alloc, &mut work, 156)?, 27);
-    assert_eq!(rt; counts(alloc, &work)?.as_slice(), &[28]);
+    assert_eq!(rt; counts(alloc, &work)?.as_slice(), [28].as_slice());
     assert_eq!(rt; found(alloc, &work, 155)?, 1155);
     assert_eq!(rt; found(alloc, &work, 156)?, 0);
     Ok(())
