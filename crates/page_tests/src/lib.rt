@@ -9,6 +9,8 @@ mod descr_schema_calls;
 #[cfg(test)]
 mod indirection_calls;
 #[cfg(test)]
+mod node_blocks_calls;
+#[cfg(test)]
 mod order_labels_calls;
 #[cfg(test)]
 mod page_bytes_calls;

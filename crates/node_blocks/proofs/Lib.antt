@@ -1,0 +1,2 @@
+-- Worked rows of what the calls make of blocks.
+pub mod WorkedRows
