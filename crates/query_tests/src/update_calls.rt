@@ -101,7 +101,9 @@ fn a_fault_ends_an_update(rt: HostRuntime) -> Result<(), Fail> {
 }
 
 /// `b` goes, and what stands in `i` stays in its place.
-fn two_edits(alloc: Global) -> Result<EditList, NoMemory> {
+fn two_edits(alloc: Global) -> Result<EditList, NoMemory>
+    ensures { IfOk result (λ edits. RisesFrom 0 edits) }
+{
     let mut edits = Sequence::new(alloc);
     edits.push(Edit {
         at: 3,
